@@ -9,7 +9,7 @@ use Rattle.frame_store.proofs.Openings.{opens_once}
 use Rattle.version_log.specs.Versions.{Version}
 use Rattle.brick_state.specs.States.{StateOf}
 use Rattle.brick_store.specs.Images.{IsFound, state_in}
-use Rattle.replica.specs.Parts.{IsFirstView}
+use Rattle.replica.specs.Parts.{ListsStand}
 use Rattle.fab_base.specs.declared.identities.BrickId.{BrickId}
 use Rattle.fab_base.specs.Layouts.{Layout}
 use Rattle.protocol.specs.Nodes as machine
@@ -33,11 +33,11 @@ in_force_open shape B image force none = none.second force.0
 pub is_a_store : {D : Type 0} (tells : Type 0) (seen : D → List ℕ) (layout : Layout) (me : BrickId) (disk : D) (U : Type 0)
     → MayStart tells seen layout me disk
     → (tells → (IsNoStore (shape_at layout me) (seen disk) × U)
-    ⊎ ((st : StateOf Version) × IsFound (shape_at layout me) st (seen disk) × (IsFirstView st → ⊥))) → ⊥
+    ⊎ ((st : StateOf Version) × IsFound (shape_at layout me) st (seen disk) × (ListsStand layout st → ⊥))) → ⊥
 is_a_store tells seen layout me disk U may refused =
     elim (refused may.told) [
       | inl none ↦ in_force_open (shape_at layout me) may.found.opens.half (seen disk) may.found.opens.in_force none.0
-      | inr later ↦ later.2 (subst IsFirstView (found_once (shape_at layout me) may.st later.0 (seen disk) may.found later.1) may.first)
+      | inr other ↦ other.2 (subst (ListsStand layout) (found_once (shape_at layout me) may.st other.0 (seen disk) may.found other.1) may.lists)
     ]
 
 pub is_not_worn : {D : Type 0} (tells : Type 0) (seen : D → List ℕ) (layout : Layout) (me : BrickId) (disk : D) → MayStart tells seen layout me disk

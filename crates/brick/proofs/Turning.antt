@@ -11,7 +11,7 @@ use Rattle.brick_state.specs.States.{StateOf}
 use Rattle.brick_store.specs.declared.faults.OpenFault.{OpenFault}
 use Rattle.brick_store.specs.declared.faults.OpenFault.TheVariants as stores
 use Rattle.brick_store.specs.Images.{IsFound}
-use Rattle.replica.specs.Parts.{IsFirstView}
+use Rattle.replica.specs.Parts.{ListsStand}
 use Rattle.node.specs.Running.{shape_at}
 use Rattle.serving.specs.declared.faults.ServeFault.{ServeFault}
 use Rattle.serving.specs.declared.faults.ServeFault.TheVariants as faults
@@ -62,13 +62,13 @@ pub refuses : {D L C : Type 0} (v : Views D L C) (layout : Layout) (me : BrickId
     (fault : OpenFault) → (fault ≡ stores.Disk → Rose (v.disk.faults disk) (v.disk.faults back))
     → (fault ≡ stores.NotAStore → v.disk.tells
     → (IsNoStore (shape_at layout me) (v.disk.seen disk) × IsUntouched v.disk.seen v.disk.may_leave moment left_since disk back)
-    ⊎ ((st : StateOf Version) × IsFound (shape_at layout me) st (v.disk.seen disk) × (IsFirstView st → ⊥)))
+    ⊎ ((st : StateOf Version) × IsFound (shape_at layout me) st (v.disk.seen disk) × (ListsStand layout st → ⊥)))
     → (fault ≡ stores.Worn → v.disk.tells → (st : StateOf Version) × IsFound (shape_at layout me) st (v.disk.seen disk) × (st.boot ≡ 2 ^ 32 - 1))
     → ((fault ≡ stores.Worn) ⊎ (fault ≡ stores.NoMemory) → IsUntouched v.disk.seen v.disk.may_leave moment left_since disk back)
     → RefusesStore v layout me disk back (refusal_of fault)
 refuses v layout me moment left_since disk back stores.Disk at_disk none worn untouched = at_disk refl
 refuses v layout me moment left_since disk back stores.NotAStore at_disk none worn untouched =
-    λ tells. elim (none refl tells) [ inl gone ↦ inl (gone.0, unharmed v moment left_since disk back gone.1) | inr later ↦ inr later ]
+    λ tells. elim (none refl tells) [ inl gone ↦ inl (gone.0, unharmed v moment left_since disk back gone.1) | inr kept ↦ inr kept ]
 refuses v layout me moment left_since disk back stores.Worn at_disk none worn untouched =
     (unharmed v moment left_since disk back (untouched (inl refl)), worn refl)
 refuses v layout me moment left_since disk back stores.NoMemory at_disk none worn untouched = tt

@@ -13,7 +13,7 @@ use Rattle.brick_state.specs.States.{StateOf}
 use Rattle.brick_store.specs.declared.faults.OpenFault.{OpenFault}
 use Rattle.brick_store.specs.declared.faults.OpenFault.TheVariants as stores
 use Rattle.brick_store.specs.Images.{IsFound}
-use Rattle.replica.specs.Parts.{IsFirstView}
+use Rattle.replica.specs.Parts.{ListsStand}
 use Rattle.protocol.specs.Nodes as machine
 use Rattle.protocol.specs.Nodes.{restarted}
 use Rattle.stripe_code.specs.Codes.{coding}
@@ -49,7 +49,8 @@ RoseAt v disk disk_after link link_after clock clock_after (Err faults.Clock) = 
 RoseAt v disk disk_after link link_after clock clock_after other = ⊤
 
 -- A started brick said that it serves, and served so many turns over a link and a clock. Each message that it sent could be sent, if a disk's image
--- showed the brick and no operation of it was open: of one that was just started over a disk that tells and showed a brick, `IsStarted` says both.
+-- showed the brick, no operation of it was open, and it had no proposal: of one that was just started over a disk that tells and showed a brick, `IsStarted`
+-- says all three.
 pub record TakesTurns {D L C : Type 0} (v : Views D L C) (turns : ℕ) (node node_after : Running D) (link link_after : L) (clock clock_after : C)
     (out said : Option (List ℕ)) (ending : Ending) : Type 0 where
   pub result : Result ℕ ServeFault
@@ -129,11 +130,11 @@ pub record IsUnharmed {D L C : Type 0} (v : Views D L C) (disk back : D) : Type 
   pub content : v.disk.seen back ≡ v.disk.seen disk
   pub crash : (image : List ℕ) → v.disk.may_leave back image → v.disk.may_leave disk image
 
--- Why it is not opened: the disk holds no store, and is unharmed, or one that has learnt a later view; or one that was opened as often as it can be, and
--- is unharmed; or the disk failed, or no memory was left.
+-- Why it is not opened: the disk holds no store, and is unharmed, or one that keeps a list which may not be the members of a group of the layout; or one that
+-- was opened as often as it can be, and is unharmed; or the disk failed, or no memory was left.
 abbrev pub RefusesStore : {D L C : Type 0} → Views D L C → Layout → BrickId → D → D → Ending → Type 0
 RefusesStore v layout me disk back NotAStore = v.disk.tells → (IsNoStore (shape_at layout me) (v.disk.seen disk) × IsUnharmed v disk back)
-    ⊎ ((st : StateOf Version) × IsFound (shape_at layout me) st (v.disk.seen disk) × (IsFirstView st → ⊥))
+    ⊎ ((st : StateOf Version) × IsFound (shape_at layout me) st (v.disk.seen disk) × (ListsStand layout st → ⊥))
 RefusesStore v layout me disk back Worn =
     IsUnharmed v disk back × (v.disk.tells → (st : StateOf Version) × IsFound (shape_at layout me) st (v.disk.seen disk) × (st.boot ≡ 2 ^ 32 - 1))
 RefusesStore v layout me disk back Disk = Rose (v.disk.faults disk) (v.disk.faults back)
@@ -164,12 +165,12 @@ ServesBrick v layout (Some me) turns before after name out said ending =
 
 -- ---- what may be served
 
--- the disk tells the store of this layout and brick, which has learnt no later view and can be opened
+-- the disk tells the store of this layout and brick, each list of which may be the members of its group, and which can be opened
 pub record MayStart {D : Type 0} (tells : Type 0) (seen : D → List ℕ) (layout : Layout) (me : BrickId) (disk : D) : Type 0 where
   pub told : tells
   pub st : StateOf Version
   pub found : IsFound (shape_at layout me) st (seen disk)
-  pub first : IsFirstView st
+  pub lists : ListsStand layout st
   pub openable : st.boot < 2 ^ 32 - 1
 
 -- the host holds the clock, to be lent

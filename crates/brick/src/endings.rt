@@ -44,7 +44,7 @@ pub enum Ending {
     Disk,
     /// The host, a link or the clock failed.
     Host,
-    /// A disk holds no store of this layout and brick.
+    /// A disk holds no store of this layout and brick, or one that keeps a list which may not be a group's members.
     NotAStore,
     /// A disk's store was opened as often as it can be.
     Worn,

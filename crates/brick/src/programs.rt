@@ -38,7 +38,7 @@ use std::alloc::Global;
 /// | 7 | no memory was left | nothing more |
 /// | 9 | a disk failed | `disk` |
 /// | 10 | the host failed: there is no such source, disk, link, session or clock, or the name of a fresh disk is taken; or a link or the clock failed | `host` |
-/// | 11 | a disk, of several the first, holds no store of this layout and brick | `not a store` |
+/// | 11 | a disk, of several the first, holds no store of this layout and brick, or one that keeps a list which may not be a group's members | `not a store` |
 /// | 12 | a disk's store, of several the first, was opened as often as it can be | `worn` |
 ///
 /// The host is asked for the source and then for the disk, and for `serve` then for the link and for the clock, each once. For `local` it is asked,

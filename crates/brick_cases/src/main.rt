@@ -7,6 +7,8 @@
 //!
 //! A line `memory WORDS..` runs a command over a host in memory, which keeps what it holds from line to line, and holds the layout of `data/`
 //! as `layout`. Behind ` < ` stands the name of a file in `data/`: its lines `PORT HEX` are the datagrams that wait at the link of brick 0.
+//! The line `learnt NAME MEMBERS..` puts a disk into that host with a store of brick 0 that has learnt view 2 of group 0, with these members. The line
+//! `opening NAME` prints which opening the next one of the store on a disk of that host is.
 //! After the line `fail` the next call of that host fails. The line `session PIECE NAME REPLIES` puts a session into that host, whose client sends the
 //! bytes of the file NAME in `data/`, at most PIECE of them at a read, and links at which the datagrams of the file REPLIES wait for the bricks' client;
 //! that is `data/replies` where no other is named.
@@ -15,8 +17,10 @@
 //! client follow, and for both kinds of a session what was sent to its client.
 #![tactic(auto)]
 
+mod stores;
 mod visitors;
 
+use crate::stores::{learnt_store, next_opening};
 use crate::visitors::Visited;
 use brick::brick;
 use fab_base::Bytes;
@@ -239,6 +243,25 @@ fn add_session(
     Ok(())
 }
 
+/// Puts a disk into a host with a store that has learnt a view, by the words of a line: its name, and the view's members.
+fn add_learnt(alloc: Global, host: &mut MemHost, words: &str) -> io::Result<()> {
+    let (name, members) = words.split_once(' ').unwrap_or((words, ""));
+    let disk = learnt_store(alloc, members)?;
+    match host.add_disk(name, disk) {
+        Ok(()) => Ok(()),
+        Err(_) => Err(refused()),
+    }
+}
+
+/// Prints which opening the next one of the store on a disk of a host is.
+fn print_opening(rt: &(impl Print + AllocGlobal), host: &MemHost, name: &str) -> io::Result<()> {
+    let Some(disk) = host.disk_named(name) else {
+        return Err(refused());
+    };
+    let opening = next_opening(rt.alloc(), disk)?;
+    println!(rt; "opening {name}: {opening}\n")
+}
+
 /// Prints the datagrams that were sent over the links of brick 0 and of the bricks' client, and the bytes that were sent to the session's.
 fn print_sent(rt: &(impl Print + AllocGlobal), host: &MemHost) -> io::Result<()> {
     for port in [PORT, CLIENT_PORT] {
@@ -272,6 +295,10 @@ fn main(rt: HostRuntime) -> io::Result<()> {
             let (piece, names) = rest.split_once(' ').unwrap_or((rest, ""));
             let (name, replies) = names.split_once(' ').unwrap_or((names, "replies"));
             add_session(&rt, &mut host, piece, name, replies)?;
+        } else if let Some(rest) = line.strip_prefix("learnt ") {
+            add_learnt(alloc, &mut host, rest)?;
+        } else if let Some(name) = line.strip_prefix("opening ") {
+            print_opening(&rt, &host, name)?;
         } else if let Some(rest) = line.strip_prefix("client ") {
             let (name, command) = rest.split_once(' ').unwrap_or((rest, ""));
             let says = read_bytes(alloc, fs::read_to_string(&rt, name)?.as_str())?;

@@ -17,7 +17,7 @@ use Rattle.brick_state.specs.States.{StripeOf, stripe_of, stamp_of, has_version,
 use Rattle.brick_state.specs.Changes.{changed, IsAllowed, time_lost, time_come}
 use Rattle.brick_state.specs.Times.{greatest, stripe_time}
 use Rattle.brick_state.specs.TopTimes.{IsReplaced}
-use Rattle.brick_state.specs.ViewStripes.{time_of, IsChanged}
+use Rattle.brick_state.specs.ViewStripes.{time_of, IsChanged, IsReordered}
 use Rattle.brick_state.proofs.Greatest.{greatest-push}
 
 -- ---- the greatest of a map's values
@@ -142,3 +142,10 @@ time-changed number change old new is allowed =
     subst (λ (n : ℕ). IsReplaced (time_of old) (stripe_time stamp_of s) n (time_of new)) (ap (stripe_time stamp_of) is.now)
     (subst (λ (es : List (ℕ × Stripe)). IsReplaced (time_of old) (stripe_time stamp_of s) (stripe_time stamp_of (stripe_of is.to)) (time_of es)) (sym is.written) whole) in
     part_replaced _ _ _ _ _ _ parts.rest here (greatest-lookup time (is_at (nat_cmp number)) old is.from is.there) parts.before parts.after
+
+-- after an order stamp is set
+pub time-reordered : (number : ℕ) (t replaced : Stamp) (old new : List (ℕ × Stripe)) → IsReordered number t replaced old new
+    → IsReplaced (time_of old) replaced.time t.time (time_of new)
+time-reordered number t replaced old new is =
+    subst (λ (n : ℕ). IsReplaced (time_of old) n t.time (time_of new)) (sym (ap (λ (s : Stamp). s.time) is.was))
+    (time-changed number (Order t) old new is.is tt)

@@ -1,15 +1,19 @@
 -- What is counted of the stripes of a view, after a change of one.
-use Rattle.std.proofs.Common.{◌≡◌, ℕ, ◌+◌, ◌≤◌, List, Option, Some, ap, ◌∙◌, arith}
+use Rattle.std.proofs.Common.{◌≡◌, ℕ, ◌+◌, ◌≤◌, Bool, true, false, cond, List, Option, Some, ap, ◌∙◌, arith}
 use Rattle.std.specs.Ordering.{nat_cmp}
 use Rattle.std.specs.Map.{lookup, set_value}
 use Rattle.std.specs.BTreeMap.{is_at}
 use Rattle.std.specs.Option.{option_map, unwrap_or}
 use Rattle.std.proofs.lemmas.Map.Entries.{sum_by-set_value, sum_by-remove_entry}
+use Rattle.fab_base.specs.declared.stamps.Stamp.{Stamp}
+use Rattle.fab_base.specs.Stamps.{stamp_same, first_stamp}
 use Rattle.brick_state.specs.declared.stripes.Stripe.{Stripe}
 use Rattle.brick_state.specs.declared.stripes.StripeChange.{StripeChange}
+use Rattle.brick_state.specs.declared.stripes.StripeChange.TheVariants.{Order}
 use Rattle.brick_state.specs.States.{stripe_of, weight}
 use Rattle.brick_state.specs.Changes.{changed}
-use Rattle.brick_state.specs.ViewStripes.{live_of, IsChanged}
+use Rattle.brick_state.specs.ViewStripes.{live_of, IsChanged, IsReordered}
+use Rattle.brick_state.specs.Tallies.{order_weight}
 
 module _ (number : ℕ) (change : StripeChange) (s new : Stripe) (old now : List (ℕ × Stripe)) (there : lookup (is_at (nat_cmp number)) old ≡ Some s)
     (written : now ≡ set_value (is_at (nat_cmp number)) old new) (is : stripe_of new ≡ changed change (stripe_of s)) where
@@ -30,3 +34,24 @@ weight_within number s es there = omega (
   sum_by-remove_entry (λ x. weight (stripe_of x)) (is_at (nat_cmp number)) es,
   ap (λ (o : Option Stripe). unwrap_or (option_map (λ x. weight (stripe_of x)) o) 0) there,
 )
+
+-- an order stamp that is set is exchanged for the one that was there, also among the live records
+module _ (number : ℕ) (t replaced : Stamp) (old new : List (ℕ × Stripe)) (is : IsReordered number t replaced old new) where
+  pub live-reordered : live_of new + order_weight replaced ≡ live_of old + order_weight t
+  live-reordered = omega (
+    arith,
+    live-changed number (Order t) is.is.from is.is.to old new is.is.there is.is.written is.is.now,
+    ap weight is.is.now,
+    ap order_weight is.was,
+  )
+
+  pub reordered_within : order_weight replaced ≤ live_of old
+  reordered_within = omega (arith, weight_within number is.is.from old is.is.there, ap order_weight is.was)
+
+-- an order stamp is one live record at most
+pub order_weight_fits : (t : Stamp) → order_weight t ≤ 1
+order_weight_fits t = by (stamp_same t first_stamp)
+  where
+    by : (b : Bool) → cond b 0 1 ≤ 1
+    by true = omega arith
+    by false = omega arith

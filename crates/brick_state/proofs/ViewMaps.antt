@@ -383,7 +383,7 @@ time-flat views = time-listed (flat views) ∙ raw_time views
 -- ---- what the calls of a map of views tell
 
 -- no view has more live records than all of them
-part_within : (k : ViewKey) (t : ViewTable) (views : Tables) → lookup (is_at (view_cmp k)) views ≡ Some t → live_of t.stripes.entries ≤ live_in (listed (flat views))
+pub part_within : (k : ViewKey) (t : ViewTable) (views : Tables) → lookup (is_at (view_cmp k)) views ≡ Some t → live_of t.stripes.entries ≤ live_in (listed (flat views))
 part_within k t views found = omega (arith, sum-removed weight weight_none k t views found)
 
 module _ (views : BTreeMap ViewKey ViewTable) (sorted : IsStrictlySortedBy view_cmp (keys_of views.entries)) (p : Place) (t : ViewTable)

@@ -3,10 +3,11 @@ use Rattle.std.specs.Prelude.{◌≡◌, ℕ, ◌+◌, ◌<◌, ◌≤◌, List,
 use Rattle.std.specs.Ordering.{nat_cmp}
 use Rattle.std.specs.Map.{lookup, set_value, values_of}
 use Rattle.std.specs.BTreeMap.{BTreeMap, get, is_at}
+use Rattle.fab_base.specs.declared.stamps.Stamp.{Stamp}
 use Rattle.brick_state.specs.Entries.{Entry}
 use Rattle.brick_state.specs.declared.stripes.Stripe.{Stripe}
 use Rattle.brick_state.specs.declared.stripes.StripeChange.{StripeChange}
-use Rattle.brick_state.specs.States.{StripeOf, stripe_of, stamp_of, weight}
+use Rattle.brick_state.specs.States.{StripeOf, stripe_of, stamp_of, weight, with_order}
 use Rattle.brick_state.specs.Times.{greatest, stripe_time}
 use Rattle.brick_state.specs.Changes.{changed, IsAllowed}
 
@@ -38,3 +39,8 @@ pub record IsChanged (number : ℕ) (change : StripeOf Entry → StripeOf Entry)
   pub there : lookup (is_at (nat_cmp number)) old ≡ Some from
   pub written : new ≡ set_value (is_at (nat_cmp number)) old to
   pub now : stripe_of to ≡ change (stripe_of from)
+
+-- The order stamp of a stripe that is listed is set in the place of another one, and no other stripe is changed.
+pub record IsReordered (number : ℕ) (t replaced : Stamp) (old new : List (ℕ × Stripe)) : Type 0 where
+  pub is : IsChanged number (λ s. with_order t s) old new
+  pub was : replaced ≡ is.from.order

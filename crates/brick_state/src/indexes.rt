@@ -9,7 +9,7 @@ use crate::records::Record;
 use crate::stripe_tables::StripeTable;
 use crate::stripes::{Place, Stripe, ZERO_SLOT};
 use crate::{log_changes, rewrites, slots, stripe_maps};
-use fab_base::{Ballot, Members, NoMem, Stamp, View};
+use fab_base::{Ballot, GroupId, Members, NoMem, Stamp, StripeNo, View, ViewNo};
 use stamp_store::{Kept, LogChange, Logged};
 use std::alloc::Global;
 
@@ -26,10 +26,10 @@ pub struct Index {
 }
 
 impl Index {
-    ghost use Rattle.std.specs.Prelude.{◌≡◌, ◌-◌, ◌^◌, min, true, false, Ok, Some, None, ◌&&◌, nat_lt, nat_le, ◌<◌, if◌then◌else◌, IfNone, IfSome, IfOk, OnOk, OnErr, IsOk};
-    ghost use Rattle.brick_state.specs.States.{empty, live, group_at, first_stripe, stripe_of, stamp_of, viewed, balloted, ordered, stripe_at};
+    ghost use Rattle.std.specs.Prelude.{◌≡◌, ◌-◌, ◌^◌, min, true, false, Ok, Some, None, ◌&&◌, nat_lt, nat_le, ◌<◌, if◌then◌else◌, IfNone, IfSome, IfOk, OnOk, OnErr, IsOk, IsTrue};
+    ghost use Rattle.brick_state.specs.States.{empty, live, group_at, first_stripe, stripe_of, stamp_of, viewed, balloted, stripe_at};
     ghost use Rattle.brick_state.specs.Times.{top_time};
-    ghost use Rattle.brick_state.specs.Folds.{applied, place, is_full, adds_order, placed, log_changed, slot_named};
+    ghost use Rattle.brick_state.specs.Folds.{applied, order_set, place, is_full, placed, log_changed, slot_named};
     ghost use Rattle.brick_state.specs.Maps.{HasRoom};
     ghost use Rattle.brick_state.specs.Tallies.{HasSlotRoom};
     ghost use Rattle.brick_state.specs.Slots.{slots_of, IsFree};
@@ -101,6 +101,7 @@ impl Index {
         ensures { IfOk result (λ slots. slots.items ≡ slots_of (state_of self.now)) }
     {
         let mut made = Vec::new(self.alloc);
+        made.reserve(self.live() as usize)?;
         slots::put_slots(&mut made, self.stripes.views())?;
         Ok(made)
     }
@@ -194,6 +195,41 @@ impl Index {
         }
     }
 
+    /// Counts an opening: what [`Index::apply`] makes of a record of it.
+    #[tactic(auto, unfolding(crate::specs::Folds::applied))]
+    pub fn apply_boot(&mut self, count: u32)
+        ensures answer { Answers (state_of self.new) (applied (limits_of self.old) (Record.Kept (Kept.Boot count)) (state_of self.old)) true }
+        ensures limits { limits_of self.new ≡ limits_of self.old }
+    {
+        self.boot = count;
+    }
+
+    /// Sets an order stamp: what [`Index::apply`] makes of a record of it.
+    #[tactic(auto, unfolding(crate::specs::Folds::applied))]
+    pub fn apply_order(
+        &mut self,
+        group: GroupId,
+        view: ViewNo,
+        stripe: StripeNo,
+        stamp: Stamp,
+    ) -> Result<bool, NoMem>
+        ensures answer { IfOk result (Answers (state_of self.new) (applied (limits_of self.old) (Record.Kept (Kept.Order group view stripe stamp)) (state_of self.old))) }
+        ensures refused { result ≡ Ok false → state_of self.new ≡ state_of self.old }
+        ensures limits { limits_of self.new ≡ limits_of self.old }
+    {
+        self.set_order((group.0, view.0, stripe.0), stamp)
+    }
+
+    /// Changes a log: what [`Index::apply`] makes of a record of it.
+    #[tactic(auto, unfolding(crate::specs::Folds::applied))]
+    pub fn apply_logged(&mut self, logged: &Logged) -> Result<bool, NoMem>
+        ensures answer { IfOk result (Answers (state_of self.new) (applied (limits_of self.old) (Record.Logged logged.now) (state_of self.old))) }
+        ensures refused { result ≡ Ok false → state_of self.new ≡ state_of self.old }
+        ensures limits { limits_of self.new ≡ limits_of self.old }
+    {
+        self.change_log(logged)
+    }
+
     /// Whether there are as many live records as there may be.
     pub fn is_full(&self) -> bool
         ensures { result ≡ is_full (limits_of self.now) (state_of self.now) }
@@ -240,10 +276,36 @@ impl Index {
         true
     }
 
+    // Most orders are of a stripe that is listed: these take one look-up, and no memory.
     fn set_order(&mut self, place: Place, stamp: Stamp) -> Result<bool, NoMem>
-        ensures answer { IfOk result (Answers (state_of self.new)
-            (if nat_lt place.0 most_groups then (if adds_order stamp (stripe_at (state_of self.old) place) && is_full (limits_of self.old)
-            (state_of self.old) then None else Some (ordered place stamp (state_of self.old))) else None)) }
+        ensures answer { IfOk result (Answers (state_of self.new) (order_set (limits_of self.old) place stamp (state_of self.old))) }
+        ensures refused { result ≡ Ok false → state_of self.new ≡ state_of self.old }
+        ensures err { OnErr result (state_of self.new ≡ state_of self.old) }
+        ensures limits { limits_of self.new ≡ limits_of self.old }
+        ensures enough { HasRoom self.old.stripes.views place → IsOk result }
+    {
+        if self.replace_order(place, stamp) {
+            return Ok(true);
+        }
+        self.put_order(place, stamp)
+    }
+
+    // Sets the order stamp of a stripe that is listed, while there are fewer live records than there may be. False where that isn't so: then nothing is changed.
+    fn replace_order(&mut self, place: Place, stamp: Stamp) -> bool
+        ensures set { IsTrue result → Answers (state_of self.new) (order_set (limits_of self.old) place stamp (state_of self.old)) true }
+        ensures left { result ≡ false → state_of self.new ≡ state_of self.old }
+        ensures limits { limits_of self.new ≡ limits_of self.old }
+        ensures room { HasRoom self.old.stripes.views place → result ≡ false → HasRoom self.new.stripes.views place }
+    {
+        if place.0 >= MOST_GROUPS || self.is_full() {
+            return false;
+        }
+        self.stripes.replace_order(place, stamp)
+    }
+
+    // Sets the order stamp of any stripe.
+    fn put_order(&mut self, place: Place, stamp: Stamp) -> Result<bool, NoMem>
+        ensures answer { IfOk result (Answers (state_of self.new) (order_set (limits_of self.old) place stamp (state_of self.old))) }
         ensures refused { result ≡ Ok false → state_of self.new ≡ state_of self.old }
         ensures err { OnErr result (state_of self.new ≡ state_of self.old) }
         ensures limits { limits_of self.new ≡ limits_of self.old }

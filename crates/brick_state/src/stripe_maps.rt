@@ -1,7 +1,7 @@
 //! The stripes of a brick by group and view, and in each view by their numbers. Places where nothing happened may be in the
 //! map or not: a clause sees no difference.
 
-ghost use Rattle.std.specs.Prelude.{◌≡◌, true, ◌+◌, ◌≤◌, [], filter, IsOk, OnOk, IsSome, IfNone, IfSome};
+ghost use Rattle.std.specs.Prelude.{◌≡◌, true, ◌+◌, ◌<◌, ◌≤◌, [], filter, IsOk, OnOk, IsSome, IfNone, IfSome};
 ghost use Rattle.std.specs.Map.{keys_of};
 ghost use Rattle.std.specs.BTreeMap.{get, values};
 ghost use Rattle.std.specs.List.Sorted.{IsStrictlySortedBy};
@@ -9,7 +9,7 @@ ghost use Rattle.brick_state.specs.States.{place_cmp, weight, first_stripe, stri
 ghost use Rattle.brick_state.specs.Changes.{changed, IsAllowed};
 ghost use Rattle.brick_state.specs.Times.{greatest, time_in};
 ghost use Rattle.brick_state.specs.ViewStripes.{time_of};
-ghost use Rattle.brick_state.specs.Maps.{listed_in, HasRoom, view_cmp, is_below_view};
+ghost use Rattle.brick_state.specs.Maps.{listed_in, HasRoom, IsReorderedAt, view_cmp, is_below_view};
 
 use crate::stripes::{Entry, Place, Stripe, StripeChange};
 use crate::view_tables::ViewTable;
@@ -116,6 +116,20 @@ pub fn change(views: &mut Views, place: Place, change: StripeChange)
     let key = (place.0, place.1);
     if let Some(table) = views.get_mut(&key) {
         table.change(place.2, change);
+    }
+}
+
+/// Sets the order stamp of a stripe that is listed, and answers the one that it had. None where the stripe isn't listed: then nothing is changed.
+pub fn replace_order(views: &mut Views, place: Place, stamp: Stamp) -> Option<Stamp>
+    requires few { live_in (listed_in views.old) < 4294967295 }
+    ensures sorted { IsStrictlySortedBy place_cmp (keys_of (listed_in views.old)) }
+    ensures none { IfNone result (listed_in views.new ≡ listed_in views.old) }
+    ensures enough { HasRoom views.old place → IsSome result }
+    ensures replaced { IfSome result (λ replaced. IsReorderedAt place stamp replaced (listed_in views.old) (listed_in views.new)) }
+{
+    match views.get_mut(&(place.0, place.1)) {
+        Some(table) => table.replace_order(place.2, stamp),
+        None => None,
     }
 }
 

@@ -1,6 +1,6 @@
 //! The stripes of a brick with what is counted of them.
 
-ghost use Rattle.std.specs.Prelude.{◌≡◌, ◌≢◌, ◌+◌, ◌-◌, ◌<◌, ◌≤◌, ℕ, ◌==◌, ◌^◌, ◌&&◌, false, if◌then◌else◌, Some, None, not, filter, length, IfOk, OnOk, IsOk, IfNone, IfSome, IsSome, nat_lt, replicate, slice_index_or, sum_by, true, []};
+ghost use Rattle.std.specs.Prelude.{◌≡◌, ◌≢◌, ◌+◌, ◌-◌, ◌<◌, ◌≤◌, ℕ, ◌==◌, ◌^◌, ◌&&◌, false, if◌then◌else◌, Some, None, not, filter, length, IfOk, OnOk, IsOk, IfNone, IfSome, IsSome, IsTrue, nat_lt, replicate, slice_index_or, sum_by, true, []};
 ghost use Rattle.std.specs.Map.{remove_entry};
 ghost use Rattle.std.specs.BTreeMap.{is_at, get, values};
 ghost use Rattle.fab_base.specs.Stamps.{stamp_below, stamp_same, first_stamp};
@@ -14,7 +14,7 @@ ghost use Rattle.brick_state.specs.Tallies.{names_of, AreNames, NoneBeyond, HasS
 use crate::slot_tables::SlotTable;
 use crate::stripe_maps;
 use crate::stripe_maps::{ViewKey, Views};
-use crate::stripes::{Entry, Place, Stripe, StripeChange};
+use crate::stripes::{Entry, Place, Stripe, StripeChange, order_weight};
 use fab_base::{NoMem, Stamp};
 use std::alloc::Global;
 use std::collections::BTreeMap;
@@ -146,6 +146,24 @@ impl StripeTable {
         true
     }
 
+    /// Sets the order stamp of a stripe that is listed, by one look-up. False where it isn't listed: then nothing is changed.
+    pub fn replace_order(&mut self, place: Place, stamp: Stamp) -> bool
+        requires few { live_in (listed_in self.old.views) < 4294967295 }
+        ensures set { IsTrue result → listed_in self.new.views ≡ put place (with_order stamp (stripe_in (listed_in self.old.views) place))
+            (listed_in self.old.views) }
+        ensures left { result ≡ false → listed_in self.new.views ≡ listed_in self.old.views }
+        ensures enough { HasRoom self.old.views place → IsTrue result }
+        ensures slots { self.new.slots ≡ self.old.slots }
+    {
+        match stripe_maps::replace_order(&mut self.views, place, stamp) {
+            Some(replaced) => {
+                self.live = self.live - order_weight(replaced) + order_weight(stamp);
+                true
+            }
+            None => false,
+        }
+    }
+
     /// Adds a version.
     pub fn add(&mut self, place: Place, entry: Entry)
         requires room { HasRoom self.old.views place }
@@ -219,13 +237,6 @@ fn adds_record(stamp: Stamp, order: Stamp) -> bool
     ensures { result ≡ (stamp_same order first_stamp && not (stamp_same stamp first_stamp)) }
 {
     order.is_same(Stamp::FIRST) && !stamp.is_same(Stamp::FIRST)
-}
-
-// The live records that an order stamp is.
-fn order_weight(stamp: Stamp) -> u32
-    ensures { result ≡ order_weight stamp }
-{
-    if stamp.is_same(Stamp::FIRST) { 0 } else { 1 }
 }
 
 // Counts the versions less that these slots are named by; their number.

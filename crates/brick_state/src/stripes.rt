@@ -6,6 +6,7 @@ ghost use Rattle.fab_base.specs.Stamps.{stamp_same, stamp_below};
 ghost use Rattle.brick_state.specs.States.{first_stripe, weight, stripe_of, stamp_of, newest_entry, has_version};
 ghost use Rattle.brick_state.specs.Times.{greatest, stripe_time};
 ghost use Rattle.brick_state.specs.Changes.{changed, IsAllowed, time_lost, time_come};
+ghost use Rattle.brick_state.specs.Tallies.{order_weight};
 
 use fab_base::{NoMem, Stamp};
 use std::alloc::Global;
@@ -189,4 +190,11 @@ pub fn time_below(entries: &[Entry], stamp: Stamp) -> u64
         }
     }
     top
+}
+
+/// The live records that an order stamp is.
+pub fn order_weight(stamp: Stamp) -> u32
+    ensures { result ≡ order_weight stamp }
+{
+    if stamp.is_same(Stamp::FIRST) { 0 } else { 1 }
 }

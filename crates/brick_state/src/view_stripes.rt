@@ -1,18 +1,18 @@
 //! The stripes of a group in a view, by their numbers.
 
-ghost use Rattle.std.specs.Prelude.{◌≡◌, ◌+◌, ◌≤◌, IsOk, OnOk, IsSome};
+ghost use Rattle.std.specs.Prelude.{◌≡◌, ◌+◌, ◌≤◌, IsOk, OnOk, IfNone, IfSome, IsSome};
 ghost use Rattle.std.specs.Ordering.{nat_cmp};
 ghost use Rattle.std.specs.BTreeMap.{get, values, IsOrdered};
 ghost use Rattle.brick_state.specs.States.{stripe_of, stamp_of};
 ghost use Rattle.brick_state.specs.Changes.{changed};
 ghost use Rattle.brick_state.specs.Times.{greatest, stripe_time};
 ghost use Rattle.brick_state.specs.TopTimes.{IsReplaced};
-ghost use Rattle.brick_state.specs.ViewStripes.{live_of, time_of, HasRoomAt, MayChange, IsChanged};
+ghost use Rattle.brick_state.specs.ViewStripes.{live_of, time_of, HasRoomAt, MayChange, IsChanged, IsReordered};
 ghost use Rattle.brick_state.specs.Maps.{listed, placed, key_of};
 
 use crate::stripes::{Place, Stripe, StripeChange};
 use crate::top_times;
-use fab_base::NoMem;
+use fab_base::{NoMem, Stamp};
 use std::alloc::Global;
 use std::collections::BTreeMap;
 
@@ -92,6 +92,27 @@ pub fn change(stripes: &mut BTreeMap<u32, Stripe>, number: u32, change: StripeCh
             }
         }
         None => unreachable!(),
+    }
+}
+
+/// Sets the order stamp of a stripe that is listed, and answers the one that it had. None where the stripe isn't listed: then nothing is changed.
+pub fn replace_order(
+    stripes: &mut BTreeMap<u32, Stripe>,
+    number: u32,
+    stamp: Stamp,
+) -> Option<Stamp>
+    ensures ordered { IsOrdered nat_cmp stripes.new }
+    ensures none { IfNone result (stripes.new ≡ stripes.old) }
+    ensures enough { IsSome (get nat_cmp stripes.old number) → IsSome result }
+    ensures replaced { IfSome result (λ replaced. IsReordered number stamp replaced stripes.old.entries stripes.new.entries) }
+{
+    match stripes.get_mut(&number) {
+        Some(stripe) => {
+            let replaced = stripe.order;
+            stripe.order = stamp;
+            Some(replaced)
+        }
+        None => None,
     }
 }
 

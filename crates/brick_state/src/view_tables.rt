@@ -1,15 +1,15 @@
 //! The stripes of a group in a view, with what is counted of them.
 
-ghost use Rattle.std.specs.Prelude.{◌≡◌, ◌≤◌, [], IsOk, OnOk};
+ghost use Rattle.std.specs.Prelude.{◌≡◌, ◌<◌, ◌≤◌, [], IsOk, OnOk, IfNone, IfSome, IsSome};
 ghost use Rattle.std.specs.Ordering.{nat_cmp};
-ghost use Rattle.std.specs.BTreeMap.{IsOrdered};
+ghost use Rattle.std.specs.BTreeMap.{get, IsOrdered};
 ghost use Rattle.std.proofs.Props.{props};
 ghost use Rattle.brick_state.specs.Changes.{changed};
-ghost use Rattle.brick_state.specs.ViewStripes.{live_of, time_of, HasRoomAt, MayChange, IsChanged};
+ghost use Rattle.brick_state.specs.ViewStripes.{live_of, time_of, HasRoomAt, MayChange, IsChanged, IsReordered};
 
-use crate::stripes::{Place, Stripe, StripeChange};
+use crate::stripes::{Place, Stripe, StripeChange, order_weight};
 use crate::view_stripes;
-use fab_base::NoMem;
+use fab_base::{NoMem, Stamp};
 use std::alloc::Global;
 use std::collections::BTreeMap;
 
@@ -77,5 +77,27 @@ impl ViewTable {
         let tally = view_stripes::change(&mut self.stripes, number, change);
         self.live = self.live - tally.fewer + tally.more;
         self.top = view_stripes::top_after(&self.stripes, self.top, tally.lost, tally.come);
+    }
+
+    /// Sets the order stamp of a stripe that is listed, and answers the one that it had. None where the stripe isn't listed: then nothing is changed.
+    pub fn replace_order(&mut self, number: u32, stamp: Stamp) -> Option<Stamp>
+        requires few { live_of self.old.stripes.entries < 4294967295 }
+        ensures none { IfNone result (self.new.stripes ≡ self.old.stripes) }
+        ensures enough { IsSome (get nat_cmp self.old.stripes number) → IsSome result }
+        ensures replaced { IfSome result (λ replaced. IsReordered number stamp replaced self.old.stripes.entries self.new.stripes.entries) }
+    {
+        match view_stripes::replace_order(&mut self.stripes, number, stamp) {
+            Some(replaced) => {
+                self.live = self.live - order_weight(replaced) + order_weight(stamp);
+                self.top = view_stripes::top_after(
+                    &self.stripes,
+                    self.top,
+                    replaced.time,
+                    stamp.time,
+                );
+                Some(replaced)
+            }
+            None => None,
+        }
     }
 }

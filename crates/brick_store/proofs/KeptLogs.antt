@@ -70,6 +70,7 @@ rising_log size block limits order true entries rises =
 pub kept_ordered : (size : ℕ) (block : ℕ → List ℕ) (limits : Limits) (st : StateOf Entry) → IsKeptState limits st → IsOrdered size (resolved block st)
 unfolding resolved
 kept_ordered size block limits st kept = record {
+  groups = kept.all_groups;
   sorted = subst (λ (places : List Place). IsStrictlySortedBy place_cmp places)
       (sym (keys_of-map_values (resolved_stripe block) st.stripes)) kept.sorted;
   rising = λ p.

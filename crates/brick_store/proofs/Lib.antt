@@ -1,6 +1,7 @@
 pub mod EmptyStores
 pub mod Resolving
 pub mod Reading
+pub mod Taking
 pub mod Members
 pub mod Framing
 pub mod LiveSizes

@@ -1,5 +1,5 @@
 -- What a clause sees of a brick's store, and of the answers of its calls.
-use Rattle.std.specs.Prelude.{◌≡◌, ℕ, Bool, true, false, Result, Ok, Err}
+use Rattle.std.specs.Prelude.{◌≡◌, ℕ, Bool, true, false, Result, Ok, Err, length}
 use Rattle.std.specs.List.Sorted.{IsStrictlySortedBy}
 use Rattle.std.specs.Map.{keys_of}
 use Rattle.version_log.specs.Versions.{Version, IsRising}
@@ -24,8 +24,9 @@ pub record Brick (D : Type 0) : Type 0 where
   pub listed : ℕ
   pub halted : Bool
 
--- what a store keeps: stripes in the order of their places, and logs whose stamps rise
+-- what a store keeps: 64 groups, stripes in the order of their places, and logs whose stamps rise
 pub record IsOrdered (block : ℕ) (st : StateOf Version) : Type 0 where
+  pub groups : length st.groups ≡ 64
   pub sorted : IsStrictlySortedBy place_cmp (keys_of st.stripes)
   pub rising : (p : Place) → IsRising (log_at block st p)
 

@@ -1,8 +1,9 @@
 -- What an opening reads.
-use Rattle.std.specs.Prelude.{Result, Ok, Err, ◌≡◌, ◌⊎◌, ℕ, ◌+◌, ◌-◌, ◌<◌, ◌≤◌, ◌^◌, ◌==◌, Bool, ◌&&◌, true, false, Option, Some, None, IsSome, option_and_then, List, [], ◌∷◌, length}
+use Rattle.std.specs.Prelude.{Result, Ok, Err, ◌≡◌, ◌⊎◌, ℕ, ◌+◌, ◌-◌, ◌<◌, ◌≤◌, ◌^◌, ◌==◌, Bool, ◌&&◌, true, false, Option, Some, None, IsSome, option_and_then, List, [], ◌∷◌, length, IsOk}
 use Rattle.std.specs.Ordering.{nat_cmp}
 use Rattle.std.specs.BTreeMap.{BTreeMap, get}
 use Rattle.fab_base.specs.declared.faults.IoFault.{IoFault}
+use Rattle.fab_base.specs.declared.faults.NoMem.{NoMem}
 use Rattle.fab_base.specs.declared.faults.IoFault.TheVariants.{Failed}
 use Rattle.fab_base.specs.declared.faults.IoFault.TheVariants as writes
 use Rattle.fab_disk.specs.declared.disk.Disk as on_disk
@@ -56,6 +57,12 @@ pub record EndsBefore (limits : Limits) (frame : Frame) (old new : StateOf Entry
   pub same : new ≡ old
   pub never : taken_by limits frame old ≡ None
   pub ends : (rest : List Frame) → folded limits (records_of (frame ∷ rest)) old ≡ old
+
+-- What taking a frame came to: it was taken, or the list ends before it, or memory was refused.
+pub record TakesOrEnds (limits : Limits) (frame : Frame) (old new : StateOf Entry) (answer : Result Bool NoMem) : Type 0 where
+  pub taken : answer ≡ Ok true → IsTaken limits frame old new
+  pub ended : answer ≡ Ok false → EndsBefore limits frame old new
+  pub members : IsOk answer → AllByRecursion GroupHasMembers old.groups → AllByRecursion GroupHasMembers new.groups
 
 -- What these frames make of a brick that keeps nothing is this state, and whole says whether each of them counts.
 pub record IsFold (limits : Limits) (frames : List Frame) (st : StateOf Entry) (whole : Bool) : Type 0 where

@@ -1,14 +1,12 @@
 //! Folding a list of frames as it is read.
 
-ghost use Rattle.std.specs.Prelude.{◌≡◌, true, false, [], Ok, IfOk, IfSome, IsOk};
-ghost use Rattle.std.specs.List.{AllByRecursion};
+ghost use Rattle.std.specs.Prelude.{◌≡◌, [], IfOk, IfSome};
 ghost use Rattle.stamp_store.specs.Reading.{read_of};
 ghost use Rattle.frame_store.specs.Listed.{frame_of};
 ghost use Rattle.brick_state.specs.Indexes.{state_of, limits_of};
 ghost use Rattle.brick_store.specs.Images.{or_logged, limits_for};
-ghost use Rattle.brick_store.specs.Standing.{GroupHasMembers};
 ghost use Rattle.brick_store.specs.Steps.{RecordHasMembers};
-ghost use Rattle.brick_store.specs.Openings.{IsTaken, EndsBefore, IsFold};
+ghost use Rattle.brick_store.specs.Openings.{TakesOrEnds, IsFold};
 
 use brick_state::{Index, Record};
 use fab_base::NoMem;
@@ -30,13 +28,60 @@ fn read_body(kind: u8, body: &[u8]) -> Option<Record>
     }
 }
 
-/// Takes a frame more. False where it is no record, or one that can't be: then nothing is changed.
+/// Takes a frame more. False where it is no record, or one that can't be: then nothing is changed. The records that a list holds many of
+/// are made by themselves: they are small, and the others are large.
 fn take_frame(index: &mut Index, kind: u8, body: &[u8]) -> Result<bool, NoMem>
     ensures limits { limits_of index.new ≡ limits_of index.old }
-    ensures taken { result ≡ Ok true → IsTaken (limits_of index.old) (frame_of kind body.now) (state_of index.old) (state_of index.new) }
-    ensures ended { result ≡ Ok false → EndsBefore (limits_of index.old) (frame_of kind body.now) (state_of index.old) (state_of index.new) }
-    ensures members { IsOk result → AllByRecursion GroupHasMembers (state_of index.old).groups → AllByRecursion GroupHasMembers
-        (state_of index.new).groups }
+    ensures takes { TakesOrEnds (limits_of index.old) (frame_of kind body.now) (state_of index.old) (state_of index.new) result }
+{
+    match kind {
+        1 => take_boot(index, body),
+        4 => take_order(index, body),
+        _ => take_logged(index, kind, body),
+    }
+}
+
+/// The same of a count of openings.
+fn take_boot(index: &mut Index, body: &[u8]) -> Result<bool, NoMem>
+    ensures limits { limits_of index.new ≡ limits_of index.old }
+    ensures takes { TakesOrEnds (limits_of index.old) (frame_of 1 body.now) (state_of index.old) (state_of index.new) result }
+{
+    match Kept::read_boot(body) {
+        Some(count) => {
+            index.apply_boot(count);
+            Ok(true)
+        }
+        None => Ok(false),
+    }
+}
+
+/// The same of an order stamp.
+fn take_order(index: &mut Index, body: &[u8]) -> Result<bool, NoMem>
+    ensures limits { limits_of index.new ≡ limits_of index.old }
+    ensures takes { TakesOrEnds (limits_of index.old) (frame_of 4 body.now) (state_of index.old) (state_of index.new) result }
+{
+    match Kept::read_order(body) {
+        Some((group, (view, (stripe, stamp)))) => index.apply_order(group, view, stripe, stamp),
+        None => Ok(false),
+    }
+}
+
+/// The same of a change of a log, or of any other frame.
+fn take_logged(index: &mut Index, kind: u8, body: &[u8]) -> Result<bool, NoMem>
+    ensures limits { limits_of index.new ≡ limits_of index.old }
+    ensures takes { TakesOrEnds (limits_of index.old) (frame_of kind body.now) (state_of index.old) (state_of index.new) result }
+{
+    match Logged::read(kind, body) {
+        Some(logged) => index.apply_logged(&logged),
+        None => take_any(index, kind, body),
+    }
+}
+
+/// The same of any frame. What it makes on its way is large, so it is no part of its caller.
+#[inline(never)]
+fn take_any(index: &mut Index, kind: u8, body: &[u8]) -> Result<bool, NoMem>
+    ensures limits { limits_of index.new ≡ limits_of index.old }
+    ensures takes { TakesOrEnds (limits_of index.old) (frame_of kind body.now) (state_of index.old) (state_of index.new) result }
 {
     match read_body(kind, body) {
         Some(record) => index.apply(&record),

@@ -2,13 +2,15 @@
 use Rattle.std.proofs.Common.{Bool, List, None, Option, Some, [], ap, cond, inl, inr, map, refl, subst, sym, ℕ, ⊎_elim, ◌++◌, ◌∙◌, ◌∷◌, ◌≡◌, ◌≢◌, ◌⊎◌}
 use Rattle.std.proofs.lemmas.Bool.{cases_eq, eq-eqb, ne_eqb}
 use Rattle.std.proofs.lemmas.List.{append-nil, append_assoc}
-use Rattle.calm_laws.proofs.Scenes.{Asks, Closes, Each, Fits, IsSeated, Part, Scene, Seated, Stage, asked, asking, part_after, reaction, replies_from, replying, with_queue}
+use Rattle.calm_laws.proofs.Scenes.{asked_of, Asks, Closes, Each, Fits, IsSeated, Part, Scene, Seated, Stage, asked, asking, part_after, reaction, replies_from, replying, with_queue}
 use Rattle.fab_base.specs.declared.identities.BrickId.{BrickId}
 use Rattle.messages.specs.declared.calls.Call.{Call}
 use Rattle.messages.specs.declared.packets.Packet.{Packet}
 use Rattle.messages.specs.declared.replies.Reply.{Reply}
 use Rattle.protocol.specs.Coordinators.{Coordinator}
-use Rattle.protocol.specs.Nodes.{put, reply_packets}
+use Rattle.protocol.specs.Views.{view_told}
+use Rattle.protocol.specs.Nodes.{full_at, put, reply_packets}
+use Rattle.calm_laws.proofs.Telling.{TeachesNone, handle_teaches_none}
 use Rattle.protocol.proofs.Tables.{put_same}
 use Rattle.quorum.specs.Tallies.{fits}
 
@@ -119,13 +121,18 @@ told_exactly stage c Inv f keeps replies (x ∷ xs) parts holds =
     next : ℕ → Part
     next = put parts x.brick.0 (part_after stage c (parts x.brick.0) x)
 
--- a packet is some reply under this call
+-- a packet is some reply under this call, which teaches no view
 abbrev pub IsReply : Stage → Call → Packet → Type 0
-IsReply stage call packet = (from : BrickId) × (reply : Reply) × (packet ≡ replying stage from call reply)
+IsReply stage call packet = (from : BrickId) × (reply : Reply) × (packet ≡ replying stage from call reply) × (view_told reply ≡ None)
 
 pub each_append : {A : Type 0} (P : A → Type 0) (xs ys : List A) → Each P xs → Each P ys → Each P (xs ++ ys)
 each_append P [] ys left right = right
 each_append P (x ∷ xs) ys left right = (left.0, each_append P xs ys left.1 right)
+
+-- what a member replies teaches no view
+pub reaction_teaches : (stage : Stage) (c : Coordinator) (part : Part) (x : Seated) → TeachesNone (reaction stage c part x).reply
+reaction_teaches stage c part x =
+    handle_teaches_none stage.setting.code stage.group.m (full_at stage.setting.layout.records part.live) x.seat part.replica (asked_of stage c x)
 
 -- what members reply are replies
 pub told_replies : (stage : Stage) (c : Coordinator) (xs : List Seated) (parts : ℕ → Part) → Each (IsReply stage c.call) (told_all stage c xs parts)
@@ -133,9 +140,9 @@ told_replies stage c [] parts = tt
 told_replies stage c (x ∷ xs) parts =
     each_append (IsReply stage c.call) (replies_from stage c (parts x.brick.0) x)
     (told_all stage c xs (put parts x.brick.0 (part_after stage c (parts x.brick.0) x)))
-    (one (reaction stage c (parts x.brick.0) x).reply)
+    (one (reaction stage c (parts x.brick.0) x).reply (reaction_teaches stage c (parts x.brick.0) x))
     (told_replies stage c xs (put parts x.brick.0 (part_after stage c (parts x.brick.0) x)))
   where
-    one : (z : Option Reply) → Each (IsReply stage c.call) (reply_packets x.brick stage.me c.call z)
-    one None = tt
-    one (Some reply) = ((x.brick, reply, refl), tt)
+    one : (z : Option Reply) → TeachesNone z → Each (IsReply stage c.call) (reply_packets x.brick stage.me c.call z)
+    one None none = tt
+    one (Some reply) none = ((x.brick, reply, refl, none reply refl), tt)

@@ -142,6 +142,7 @@ module _ (stage : Stage) (cast : Cast stage) (logs : ℕ → List Version) (lore
         (told_fits stage cast logs lore s.c.stamp (Want.Seat j));
     answers_later = λ x t. ap (λ (p : Phase). answers_phase stage.setting.layout.block s.c.stamp x.seat p (Later t)) phase;
     unfull = λ x log. refl;
+    unmoved = λ x log. refl;
     unrefused = λ x log. refl;
     decides_so = λ fresh counted roomy.
         order_at_decides stage.setting.layout.block stage.setting.code fresh (having s.c counted) roomy j phase;

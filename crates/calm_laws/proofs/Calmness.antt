@@ -1,7 +1,7 @@
 -- A calm operation, of whose world this is known, is answered alone.
 use Rattle.calm_laws.proofs.Plays.{Finishes}
-use Rattle.std.proofs.Common.{Bool, List, None, Option, Some, [], ap, ap₂, arith, drop, false, inl, le_of_lt, le_trans, length, map, not, refl, subst, suc, sym, take, true, zero-add, ℕ, ⊎_elim, ◌&&◌, ◌++◌, ◌+◌, ◌<◌, ◌∙◌, ◌∷◌, ◌≡◌, ◌≤◌, is_some, take_all}
-use Rattle.std.proofs.lemmas.Bool.{and_from, and_parts, cond_both, eq-eqb, eqb-true, false≢true, ltb-true}
+use Rattle.std.proofs.Common.{List, None, Option, Some, [], ap, ap₂, arith, drop, false, inl, le_of_lt, le_trans, length, map, refl, subst, suc, sym, take, true, zero-add, ℕ, ⊎_elim, ◌++◌, ◌+◌, ◌<◌, ◌∙◌, ◌∷◌, ◌≡◌, ◌≤◌, is_some, take_all}
+use Rattle.std.proofs.lemmas.Bool.{and_from, and_parts, cond_both, eqb-true, false≢true, ltb-true}
 use Rattle.std.proofs.lemmas.Bool.Decides.{nat_tests}
 use Rattle.std.proofs.lemmas.List.{append_assoc, length-take-le, take-append-drop}
 use Rattle.std.specs.Prelude.{filter, nat_eq, nat_lt, slice_get, ◌*◌}
@@ -212,7 +212,7 @@ module _ (setting : Setting) (sound : IsSound setting) (lengths : EncodesBlocks 
         (λ held. ⊎_elim
             (λ (kept : is_held floor (logs y.brick.0) ≡ true). kept)
             (λ (lower : stamp_below floor (known.logs.lowest y.brick.0) ≡ true). absurd (false≢true (sym most.0 ∙ lower)))
-            (known.logs.logged y.brick.0 floor
+            (known.logs.logged y.brick.0 floor ((ready y.brick seated.0.1).view ∙ known.call.view)
             (subst (λ (i : ℕ). w.held i c.call.group.0 c.call.stripe.0 floor ≡ true) (brick_at_seat c.group y.brick.0 y.seat seated.0.0) held))),
         both ys seated.1 most.1,
       )
@@ -249,22 +249,22 @@ module _ (setting : Setting) (sound : IsSound setting) (lengths : EncodesBlocks 
     open_is = begins_open;
     quiet = refl;
     round = known.call.round;
-    view = known.call.stamp_view;
-    call_view = known.call.view;
+    view = known.call.stamp_view ∙ sym known.call.view;
+    from_one = let one = known.call.stamp_view in omega (arith, one);
     stamp_known = known.call.stamp_known;
     known_early = let low = calm.times.known in omega (arith, low);
     starts = each_then (IsSeated stage) (λ (x : Seated). ((parts x.brick.0).replica.log ≡ logs x.brick.0) × Room stage (parts x.brick.0)
-        × IsLow early (top_of (parts x.brick.0).replica)) (take q all)
+        × IsLow c.call.view.0 early (top_of (parts x.brick.0).replica)) (take q all)
         (λ x seated. (refl, inl (ready x.brick seated.1).room, low x seated))
         (each_take (IsSeated stage) q all all_seated);
     ascends = each_so (λ (x : Seated). LogAscends (logs x.brick.0)) (λ x. known.logs.ascends x.brick.0) (take q all);
   }
     where
-      low : (x : Seated) → IsSeated stage x → IsLow early (top_of (parts x.brick.0).replica)
+      low : (x : Seated) → IsSeated stage x → IsLow c.call.view.0 early (top_of (parts x.brick.0).replica)
       low x seated =
           let times = (ready x.brick seated.1).times in
           record {
-            view = known.logs.top_view x.brick.0;
+            view = let most = known.logs.top_view x.brick.0 in let one = known.call.view in omega (arith, most, one);
             time = top_early early (replica_at (w.nodes x.brick.0) c.call)
                 (le_of_lt (times.orders c.call.group.0 c.call.view.0 c.call.stripe.0))
                 (λ k version at. le_of_lt (times.logs c.call.group.0 c.call.view.0 c.call.stripe.0 k version at));
@@ -302,14 +302,13 @@ module _ (setting : Setting) (sound : IsSound setting) (lengths : EncodesBlocks 
       let is = ready brick one in
       record {
         up = is.up;
-        group = ap (λ (g : GroupId). group_at setting.layout (w.nodes brick.0) g.0) known.call.of_group ∙ known.call.groups brick.0;
-        served =
-            let inside : nat_lt c.call.stripe.0 c.group.stripes ≡ true
-            = ap (λ (z : StripeNo). nat_lt z.0 c.group.stripes) known.call.stripe ∙ lt_so c.ask.stripe.0 c.group.stripes known.call.within in
-            ap (λ (b : Bool). b && (nat_eq c.call.view.0 (view_at (w.nodes brick.0) c.call.group.0)
-            && not ((w.nodes brick.0).accepted c.call.group.0))) inside
-            ∙ ap (λ (b : Bool). b && not ((w.nodes brick.0).accepted c.call.group.0)) (eq-eqb c.call.view.0 (view_at (w.nodes brick.0) c.call.group.0) (sym is.view))
-            ∙ ap (λ (b : Bool). not b) is.serves;
+        group = ap (λ (g : GroupId). group_at setting.layout (w.nodes brick.0) g.0) known.call.of_group
+            ∙ known.call.groups brick.0
+            (ap (λ (g : GroupId). view_at (w.nodes brick.0) g.0) (sym known.call.of_group) ∙ is.view ∙ known.call.view);
+        stripe = ap (λ (z : StripeNo). nat_lt z.0 c.group.stripes) known.call.stripe ∙ lt_so c.ask.stripe.0 c.group.stripes known.call.within;
+        from_one = ap (λ (e : ℕ). nat_eq e 0) known.call.view;
+        view = is.view;
+        free = is.serves;
       }
     where
       lt_so : (a b : ℕ) → a < b → nat_lt a b ≡ true

@@ -1,9 +1,9 @@
 -- Collects are delivered, and nothing else: a brick that keeps their version as its newest is left with that only.
 use Rattle.std.proofs.Common.{◌≡◌, ℕ, zero, suc, Bool, true, false, not, ◌||◌, cond, List, [], ◌∷◌, ◌++◌, map, ◌≢◌, ◌⊎◌, inl, inr, ⊎_elim, Option, Some, refl, sym, ap, ◌∙◌, subst}
-use Rattle.std.specs.Prelude.{slice_get}
+use Rattle.std.specs.Prelude.{None, slice_get}
 use Rattle.std.proofs.lemmas.Bool.{cond_both, cases_eq, false≢true}
 use Rattle.fab_base.proofs.StampOrder.{stamp_below_irrefl, stamp_same_refl}
-use Rattle.fab_base.specs.Layouts.{seat_in}
+use Rattle.fab_base.specs.Layouts.{Group, seat_in}
 use Rattle.fab_base.specs.Stamps.{stamp_below, stamp_same}
 use Rattle.fab_base.specs.declared.identities.BrickId.{BrickId}
 use Rattle.fab_base.specs.declared.stamps.Stamp.{Stamp}
@@ -13,13 +13,13 @@ use Rattle.messages.specs.declared.packets.Packet.{Packet}
 use Rattle.messages.specs.declared.requests.Request.{Request}
 use Rattle.messages.specs.declared.requests.Version.{Version}
 use Rattle.protocol.specs.Coordinators.{Coordinator}
-use Rattle.protocol.specs.Nodes.{Node, NodeStep, full_at, no_step, put, reacted, received, replica_at, with_replica}
+use Rattle.protocol.specs.Settings.{Setting}
+use Rattle.protocol.specs.Nodes.{Node, NodeStep, full_at, group_at, is_void, no_step, put, reacted, received, replica_at, requested, requested_as, requested_at, requested_in, seat_now, with_replica}
 use Rattle.protocol.specs.Replicas.{Reaction, Replica, handle, ignored, is_held, not_below}
 use Rattle.protocol.specs.Settings.{Code}
-use Rattle.protocol.specs.Worlds.{Delivers, World, delivered, happens, is_up, packet_of, replies_with, run, world_stepped}
+use Rattle.protocol.specs.Worlds.{Delivers, World, delivered, happens, is_up, packet_of, replies_with, voiced, run, world_stepped}
 use Rattle.protocol_laws.proofs.BooksEvents.{brick_of}
 use Rattle.protocol.proofs.Puts.{put_other}
-use Rattle.protocol.proofs.Served.{request_each}
 use Rattle.protocol.proofs.Tables.{put_same}
 use Rattle.calm_laws.proofs.Fresh.{packet_kept}
 use Rattle.calm_laws.proofs.Plays.{member_step, part_put}
@@ -36,11 +36,11 @@ pub record Keeps (stage : Stage) (c : Coordinator) (first w : World) (brick : Br
 -- so it does in a later world, by its log there
 keeps_on : (stage : Stage) (c : Coordinator) (first w later : World) (brick : BrickId) (old new : List Version) (more : List Packet)
     → Keeps stage c first w brick old → later.up ≡ w.up → ((i : ℕ) → (later.nodes i).learnt ≡ (w.nodes i).learnt)
-    → ((i : ℕ) → (later.nodes i).accepted ≡ (w.nodes i).accepted) → (replica_at (later.nodes brick.0) c.call).log ≡ new
+    → ((i : ℕ) → (later.nodes i).ballots ≡ (w.nodes i).ballots) → (replica_at (later.nodes brick.0) c.call).log ≡ new
     → later.packets ≡ w.packets ++ more → Keeps stage c first later brick new
-keeps_on stage c first w later brick old new more keeps up learnt accepted log_is packets = record {
+keeps_on stage c first w later brick old new more keeps up learnt ballots log_is packets = record {
   member = serves_on stage w later c c brick (record { group = refl; boot = refl; seq = refl; of_group = refl; view = refl; stripe = refl }) up learnt
-      accepted keeps.member;
+      ballots keeps.member;
   log_is = log_is;
   packets = λ number packet is.
       ap (λ (l : List Packet). packet_of l number) packets ∙ packet_kept w.packets more number packet (keeps.packets number packet is);
@@ -53,6 +53,24 @@ unfolding handle
 collected_log code m full seat r t held =
     cond_both (is_held t r.log) _ (ignored r) (λ (z : Reaction). z.replica.log ≡ not_below t r.log)
     (λ is. refl) (λ isnt. absurd (false≢true (sym isnt ∙ held)))
+
+-- a brick ignores a Collect, or handles it at its seat
+collect_each : (P : NodeStep → Type 0) (setting : Setting) (me from : BrickId) (node : Node) (call : Call) (t : Stamp) → P (no_step node)
+    → ((group : Group) (seat : ℕ) → P (reacted me from node call (handle setting.code group.m (full_at setting.layout.records node.live) seat
+    (replica_at node call) (Request.Collect t))))
+    → P (requested setting me from node call (Request.Collect t))
+unfolding requested
+collect_each P setting me from node call t ignored handled = in_group (group_at setting.layout node call.group.0)
+  where
+    at_seat : (group : Group) (z : Option ℕ) → P (requested_at setting group.m me from node call (Request.Collect t) z)
+    at_seat group None = ignored
+    at_seat group (Some seat) = handled group seat
+
+    in_group : (z : Option Group) → P (requested_in setting me from node call (Request.Collect t) z)
+    in_group None = ignored
+    in_group (Some group) =
+        cond_both (is_void setting.layout me node call (Request.Collect t) group) (no_step node)
+        (requested_as setting group me from node call (Request.Collect t)) P (λ void. ignored) (λ isnt. at_seat group (seat_now me node call group))
 
 module _ (stage : Stage) (c : Coordinator) (first : World) (me : BrickId) (t : Stamp) (brick : BrickId) (seat : ℕ)
     (seat_is : seat_in stage.group.members brick.0 ≡ Some seat) where
@@ -73,26 +91,26 @@ module _ (stage : Stage) (c : Coordinator) (first : World) (me : BrickId) (t : S
       (cond_both (is_up stage.setting.layout w to)
       (world_stepped stage.setting counted to (received stage.setting to (w.clocks to.0) (w.nodes to.0) (collect to phase))) w
       (λ (z : World). Keeps stage c first z brick log)
-      (λ up. request_each (λ (step : NodeStep). Keeps stage c first (world_stepped stage.setting counted to step) brick log) stage.setting to me
-      (w.nodes to.0) (call_in phase) (Request.Collect t)
+      (λ up. collect_each (λ (step : NodeStep). Keeps stage c first (world_stepped stage.setting counted to step) brick log) stage.setting to me
+      (w.nodes to.0) (call_in phase) t
       (by_step (no_step (w.nodes to.0)) refl refl refl refl)
-      (λ group place here at view. by_step (reacted to me (w.nodes to.0) (call_in phase)
+      (λ group place. by_step (reacted to me (w.nodes to.0) (call_in phase)
       (handle stage.setting.code group.m (full_at stage.setting.layout.records (w.nodes to.0).live) place (replica_at (w.nodes to.0) (call_in phase))
       (Request.Collect t))) refl refl refl refl))
       (λ down. keeps))
     where
       counted : World
-      counted = record w { replies = replies_with stage.setting w (collect to phase); reached = put w.reached number true }
+      counted = record w { replies = replies_with stage.setting w (collect to phase); choices = voiced stage.setting w (collect to phase); reached = put w.reached number true }
 
       by_step : (step : NodeStep) → step.told ≡ [] → step.answers ≡ [] → step.node.learnt ≡ (w.nodes to.0).learnt
-          → step.node.accepted ≡ (w.nodes to.0).accepted → Keeps stage c first (world_stepped stage.setting counted to step) brick log
-      by_step step told answers learnt accepted =
+          → step.node.ballots ≡ (w.nodes to.0).ballots → Keeps stage c first (world_stepped stage.setting counted to step) brick log
+      by_step step told answers learnt ballots =
           let no_tellings : record step { told = []; answers = [] } ≡ step
-          = (λ i. record { node = step.node; packets = step.packets; told = sym told i; answers = sym answers i }) in
+          = (λ i. record { node = step.node; packets = step.packets; told = sym told i; answers = sym answers i; reports = step.reports }) in
           subst (λ (z : NodeStep). Keeps stage c first (world_stepped stage.setting counted to z) brick log) no_tellings
           (keeps_on stage c first w (world_stepped stage.setting counted to (record step { told = []; answers = [] })) brick log log step.packets keeps refl
           (put_field (λ (z : Node). z.learnt) w.nodes to.0 step.node learnt)
-          (put_field (λ (z : Node). z.accepted) w.nodes to.0 step.node accepted)
+          (put_field (λ (z : Node). z.ballots) w.nodes to.0 step.node ballots)
           (ap (λ (z : Node). (replica_at z c.call).log) (put_other w.nodes to.0 step.node brick.0 (λ same. other (sym same))) ∙ keeps.log_is) refl)
 
   -- a Collect to this brick
@@ -106,11 +124,18 @@ module _ (stage : Stage) (c : Coordinator) (first : World) (me : BrickId) (t : S
       (received stage.setting brick (w.clocks brick.0) (w.nodes brick.0) (collect brick phase))) w) brick (not_below t log)) (sym keeps.member.up)
       (subst (λ (z : NodeStep). Keeps stage c first (world_stepped stage.setting counted brick z) brick (not_below t log))
       (sym (member_step stage w me (call_in phase) (record { seat = seat; brick = brick }) (Request.Collect t)
-      (record { up = keeps.member.up; group = keeps.member.group; served = keeps.member.served }) seat_is refl))
+      (record {
+        up = keeps.member.up;
+        group = keeps.member.group;
+        stripe = keeps.member.stripe;
+        from_one = keeps.member.from_one;
+        view = keeps.member.view;
+        free = keeps.member.free;
+      }) seat_is tt refl))
       (keeps_on stage c first w (world_stepped stage.setting counted brick (reacted brick me (w.nodes brick.0) (call_in phase) change)) brick log
       (not_below t log) (reacted brick me (w.nodes brick.0) (call_in phase) change).packets keeps refl
       (put_field (λ (z : Node). z.learnt) w.nodes brick.0 (with_replica (w.nodes brick.0) (call_in phase) change) refl)
-      (put_field (λ (z : Node). z.accepted) w.nodes brick.0 (with_replica (w.nodes brick.0) (call_in phase) change) refl)
+      (put_field (λ (z : Node). z.ballots) w.nodes brick.0 (with_replica (w.nodes brick.0) (call_in phase) change) refl)
       (ap (λ (z : Node). (replica_at z c.call).log) (put_same w.nodes brick.0 (with_replica (w.nodes brick.0) (call_in phase) change))
       ∙ ap (λ (r : Replica). r.log) (part_put (w.nodes brick.0) (call_in phase) change)
       ∙ collected_log stage.setting.code stage.group.m (full_at stage.setting.layout.records (w.nodes brick.0).live) seat (replica_at (w.nodes brick.0) c.call) t
@@ -119,7 +144,7 @@ module _ (stage : Stage) (c : Coordinator) (first : World) (me : BrickId) (t : S
       refl)))
     where
       counted : World
-      counted = record w { replies = replies_with stage.setting w (collect brick phase); reached = put w.reached number true }
+      counted = record w { replies = replies_with stage.setting w (collect brick phase); choices = voiced stage.setting w (collect brick phase); reached = put w.reached number true }
 
       change : Reaction
       change =

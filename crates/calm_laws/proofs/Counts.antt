@@ -13,6 +13,7 @@ use Rattle.messages.specs.declared.packets.Packet.{Packet}
 use Rattle.messages.specs.declared.replies.Reply.{Reply}
 use Rattle.protocol.specs.Calms.{early}
 use Rattle.protocol.specs.Coordinators.{Coordinator, Ends, Ignores, Makes, Next, Sends, Waits, answering_seat, answers_phase, call_same, counted_at, counts_at, decided, has_seat, new_seat, on_reply, once_full}
+use Rattle.protocol.specs.Views.{view_told}
 use Rattle.protocol.specs.Nodes.{fresh_stamp, known_after}
 use Rattle.protocol.specs.Replicas.{stored}
 use Rattle.protocol.specs.Settings.{Code}
@@ -142,32 +143,33 @@ told stage call f xs = map (λ x. replying stage x.brick call (f x)) xs
 -- the replies of a quorum's members are heard in order, and decide
 pub replies_pass : (stage : Stage) (f : Seated → Reply) (xs : List Seated) (s : Scene) (rest : List Packet)
     → s.queue ≡ told stage s.c.call f xs ++ rest → s.c.call.phase < 2 ^ 32 - 1 → s.c.group ≡ stage.group → Each (IsSeated stage) xs
-    → Each (λ x. answers_phase stage.setting.layout.block s.c.stamp x.seat s.c.phase (f x) ≡ true) xs → AreNew f s.c.counted xs
+    → Each (λ x. answers_phase stage.setting.layout.block s.c.stamp x.seat s.c.phase (f x) ≡ true) xs → Each (λ x. view_told (f x) ≡ None) xs
+    → AreNew f s.c.counted xs
     → 1 ≤ length xs → length s.c.counted + length xs ≡ quorum_of stage.group
     → Carries stage (record s { known = known_through (told stage s.c.call f xs) s.known; queue = rest })
     (decides stage s.c (known_through (told stage s.c.call f xs) s.known) (s.c.counted ++ map (counted_of f) xs))
     → Closes stage s
-replies_pass stage f [] s rest is early group seated answers new some many then = absurd (omega arith)
-replies_pass stage f (x ∷ []) s rest is early group seated answers new some many then =
+replies_pass stage f [] s rest is early group seated answers plain new some many then = absurd (omega arith)
+replies_pass stage f (x ∷ []) s rest is early group seated answers plain new some many then =
     let quorum : length (s.c.counted ++ (counted_of f x ∷ [])) ≡ quorum_of s.c.group
     = length_more s.c.counted (counted_of f x) ∙ many ∙ ap (λ (g : Group). quorum_of g) (sym group) in
-    hears stage s x.brick s.c.call (f x) rest (record { queue = is; seq = (refl, refl) })
+    hears stage s x.brick s.c.call (f x) rest (record { queue = is; seq = (refl, refl); plain = plain.0 })
     (carries_outcome stage (heard s (f x) rest) (decision stage s x.brick s.c.call (f x))
     (subst (λ (z : Next). Carries stage (heard s (f x) rest) z)
     (sym (counts_so stage s f x early group seated.0 answers.0 new.0
     ∙ decides_at stage.setting.layout.block stage.setting.code (fresh_at stage s.c (known_after s.known (f x)))
     (record s.c { counted = s.c.counted ++ (counted_of f x ∷ []) }) quorum)) then))
-replies_pass stage f (x ∷ (y ∷ ys)) s rest is early group seated answers new some many then =
+replies_pass stage f (x ∷ (y ∷ ys)) s rest is early group seated answers plain new some many then =
     let now : Coordinator = record s.c { counted = s.c.counted ++ (counted_of f x ∷ []) } in
     let long : length (s.c.counted ++ (counted_of f x ∷ [])) ≡ length s.c.counted + 1 = length_more s.c.counted (counted_of f x) in
     let same : quorum_of s.c.group ≡ quorum_of stage.group = ap (λ (g : Group). quorum_of g) group in
     let few : length now.counted < quorum_of now.group = omega (arith, long, many, same) in
-    hears stage s x.brick s.c.call (f x) (told stage s.c.call f (y ∷ ys) ++ rest) (record { queue = is; seq = (refl, refl) })
+    hears stage s x.brick s.c.call (f x) (told stage s.c.call f (y ∷ ys) ++ rest) (record { queue = is; seq = (refl, refl); plain = plain.0 })
     (subst (λ (z : Next). Outcome stage (heard s (f x) (told stage s.c.call f (y ∷ ys) ++ rest)) z)
     (sym (counts_so stage s f x early group seated.0 answers.0 new.0
     ∙ waits_for stage.setting.layout.block stage.setting.code (fresh_at stage s.c (known_after s.known (f x))) now few)) (
       record { group = refl; boot = refl; seq = refl; of_group = refl; view = refl; stripe = refl },
-      replies_pass stage f (y ∷ ys) (waits (heard s (f x) (told stage s.c.call f (y ∷ ys) ++ rest)) now) rest refl early group seated.1 answers.1 new.1
+      replies_pass stage f (y ∷ ys) (waits (heard s (f x) (told stage s.c.call f (y ∷ ys) ++ rest)) now) rest refl early group seated.1 answers.1 plain.1 new.1
           (omega arith) (omega (arith, long, many))
           (carries_counted stage
           (record s { known = known_through (told stage s.c.call f (x ∷ (y ∷ ys))) s.known; queue = rest })

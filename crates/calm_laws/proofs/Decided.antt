@@ -4,20 +4,37 @@ use Rattle.calm_laws.proofs.Counts.{counted_of}
 use Rattle.calm_laws.proofs.Scenes.{Seated}
 use Rattle.fab_base.specs.declared.stamps.Stamp.{Stamp}
 use Rattle.messages.specs.declared.replies.Reply.{Reply}
-use Rattle.protocol.specs.Coordinators.{Coordinator, Ends, Makes, answer_with, answered_fast, answered_fast_at, common_version_at, decided, fast_version, fast_version_at, full_member_of, greater_refuser, greatest_found, greatest_refuser, in_phase, lower_full, lowest_full, modified_if, once_modified, once_ordered, read_back, refuser_of, request_of, unless_refused, unless_told_full}
+use Rattle.protocol.specs.Coordinators.{Coordinator, Ends, Makes, answer_with, answered_fast, answered_fast_at, common_version_at, decided, fast_version, fast_version_at, full_member_of, greater_refuser, greatest_found, greatest_refuser, in_phase, lower_full, lower_mover, lowest_full, lowest_mover, modified_if, mover_of, once_modified, once_ordered, read_back, refuser_of, request_of, unless_refused, unless_told_full, unless_told_moved}
 use Rattle.protocol.specs.Settings.{Code}
 use Rattle.protocol.specs.declared.phases.FullMember.{FullMember}
+use Rattle.protocol.specs.declared.phases.Mover.{Mover}
+use Rattle.protocol.specs.declared.phases.Counted.{Counted}
 use Rattle.protocol.specs.declared.phases.Phase.{Phase}
 use Rattle.protocol.specs.declared.phases.Phase.TheVariants.{Descends, Looks, LooksAt, Modifies, Orders, OrdersAt, Recovers, Stores}
 use Rattle.protocol.specs.declared.phases.Refuser.{Refuser}
 use Rattle.reg_model.specs.Registers.{read_of}
 
 -- no member is full where none of the replies says so
-pub none_full : (f : Seated → Reply) → ((x : Seated) → full_member_of (counted_of f x) ≡ None) → (xs : List Seated)
+none_full : (f : Seated → Reply) → ((x : Seated) → full_member_of (counted_of f x) ≡ None) → (xs : List Seated)
     → lowest_full (map (counted_of f) xs) ≡ None
 none_full f none [] = refl
 none_full f none (x ∷ xs) =
     ap (λ (z : Option FullMember). lower_full z (lowest_full (map (counted_of f) xs))) (none x) ∙ none_full f none xs
+
+-- none tells that it serves the view no more where no reply does
+none_moved : (f : Seated → Reply) → ((x : Seated) → mover_of (counted_of f x) ≡ None) → (xs : List Seated)
+    → lowest_mover (map (counted_of f) xs) ≡ None
+none_moved f none [] = refl
+none_moved f none (x ∷ xs) =
+    ap (λ (z : Option Mover). lower_mover z (lowest_mover (map (counted_of f) xs))) (none x) ∙ none_moved f none xs
+
+-- no member aborts the operation by what it is: none serves the view no more, and none is full
+abbrev pub AreRoomy : List Counted → Type 0
+AreRoomy counted = (lowest_mover counted ≡ None) × (lowest_full counted ≡ None)
+
+pub none_stops : (f : Seated → Reply) → ((x : Seated) → full_member_of (counted_of f x) ≡ None) → ((x : Seated) → mover_of (counted_of f x) ≡ None)
+    → (xs : List Seated) → AreRoomy (map (counted_of f) xs)
+none_stops f unfull unmoved xs = (none_moved f unmoved xs, none_full f unfull xs)
 
 -- none refuses where no reply does
 pub none_refuses : (f : Seated → Reply) → ((x : Seated) → refuser_of (counted_of f x) ≡ None) → (xs : List Seated)
@@ -39,15 +56,15 @@ pub asked_in_phase : (code : Code) (c : Coordinator) (phase : Phase) (seat : ℕ
     → request_of code c seat ≡ request_of code (in_this c phase) seat
 asked_in_phase code c phase seat is = ap (λ (p : Phase). request_of code (in_this c p) seat) is
 
-module _ (block : ℕ) (code : Code) (fresh : Option Stamp) (c : Coordinator) (roomy : lowest_full c.counted ≡ None) where
+module _ (block : ℕ) (code : Code) (fresh : Option Stamp) (c : Coordinator) (roomy : AreRoomy c.counted) where
   -- a store ends
   pub store_decides : c.phase ≡ Stores → greatest_refuser c.counted ≡ None
       → decided block code fresh c ≡ Ends (answer_with (read_of block c.ask.op c.content)) None (Some c.stamp)
   unfolding decided
   store_decides phase unrefused =
       decided_in_phase block code fresh c Stores phase
-      ∙ ap (λ (z : Option FullMember). unless_told_full z
-      (unless_refused (greatest_refuser c.counted) (Ends (answer_with (read_of block c.ask.op c.content)) None (Some c.stamp)))) roomy
+      ∙ ap (λ (z : Option Mover). unless_told_moved z (unless_told_full (lowest_full c.counted) (unless_refused (greatest_refuser c.counted) (Ends (answer_with (read_of block c.ask.op c.content)) None (Some c.stamp))))) roomy.0
+      ∙ ap (λ (z : Option FullMember). unless_told_full z (unless_refused (greatest_refuser c.counted) (Ends (answer_with (read_of block c.ask.op c.content)) None (Some c.stamp)))) roomy.1
       ∙ ap (λ (z : Option Refuser). unless_refused z (Ends (answer_with (read_of block c.ask.op c.content)) None (Some c.stamp))) unrefused
 
   pub modify_decides : (base : Stamp) (j : ℕ) → c.phase ≡ Modifies base j → greatest_refuser c.counted ≡ None
@@ -55,7 +72,8 @@ module _ (block : ℕ) (code : Code) (fresh : Option Stamp) (c : Coordinator) (r
   unfolding decided
   modify_decides base j phase unrefused =
       decided_in_phase block code fresh c (Modifies base j) phase
-      ∙ ap (λ (z : Option FullMember). unless_told_full z (unless_refused (greatest_refuser c.counted) (once_modified (in_this c (Modifies base j)) base))) roomy
+      ∙ ap (λ (z : Option Mover). unless_told_moved z (unless_told_full (lowest_full c.counted) (unless_refused (greatest_refuser c.counted) (once_modified (in_this c (Modifies base j)) base)))) roomy.0
+      ∙ ap (λ (z : Option FullMember). unless_told_full z (unless_refused (greatest_refuser c.counted) (once_modified (in_this c (Modifies base j)) base))) roomy.1
       ∙ ap (λ (z : Option Refuser). unless_refused z (once_modified (in_this c (Modifies base j)) base)) unrefused
       ∙ ap (λ (p : Phase). once_modified (in_this c p) base) (sym phase)
 
@@ -65,8 +83,10 @@ module _ (block : ℕ) (code : Code) (fresh : Option Stamp) (c : Coordinator) (r
   unfolding decided
   descend_decides bound phase unrefused =
       decided_in_phase block code fresh c (Descends bound) phase
+      ∙ ap (λ (z : Option Mover). unless_told_moved z (unless_told_full (lowest_full c.counted) (unless_refused (greatest_refuser c.counted)
+      (read_back block code (in_this c (Descends bound)) (greatest_found c.counted))))) roomy.0
       ∙ ap (λ (z : Option FullMember). unless_told_full z (unless_refused (greatest_refuser c.counted)
-      (read_back block code (in_this c (Descends bound)) (greatest_found c.counted)))) roomy
+      (read_back block code (in_this c (Descends bound)) (greatest_found c.counted)))) roomy.1
       ∙ ap (λ (z : Option Refuser). unless_refused z (read_back block code (in_this c (Descends bound)) (greatest_found c.counted))) unrefused
       ∙ ap (λ (p : Phase). read_back block code (in_this c p) (greatest_found c.counted)) (sym phase)
 
@@ -76,8 +96,10 @@ module _ (block : ℕ) (code : Code) (fresh : Option Stamp) (c : Coordinator) (r
   unfolding decided
   recover_decides phase =
       decided_in_phase block code fresh c Recovers phase
+      ∙ ap (λ (z : Option Mover). unless_told_moved z (unless_told_full (lowest_full c.counted) (once_ordered fresh (in_this c Recovers) (greatest_refuser c.counted)
+      (read_back block code (in_this c Recovers) (greatest_found c.counted))))) roomy.0
       ∙ ap (λ (z : Option FullMember). unless_told_full z (once_ordered fresh (in_this c Recovers) (greatest_refuser c.counted)
-      (read_back block code (in_this c Recovers) (greatest_found c.counted)))) roomy
+      (read_back block code (in_this c Recovers) (greatest_found c.counted)))) roomy.1
       ∙ ap (λ (p : Phase). once_ordered fresh (in_this c p) (greatest_refuser c.counted)
       (read_back block code (in_this c p) (greatest_found c.counted))) (sym phase)
 
@@ -86,8 +108,10 @@ module _ (block : ℕ) (code : Code) (fresh : Option Stamp) (c : Coordinator) (r
   unfolding decided
   order_decides phase =
       decided_in_phase block code fresh c Orders phase
+      ∙ ap (λ (z : Option Mover). unless_told_moved z (unless_told_full (lowest_full c.counted) (once_ordered fresh (in_this c Orders) (greatest_refuser c.counted)
+      (Makes (in_phase c Stores))))) roomy.0
       ∙ ap (λ (z : Option FullMember). unless_told_full z (once_ordered fresh (in_this c Orders) (greatest_refuser c.counted)
-      (Makes (in_phase c Stores)))) roomy
+      (Makes (in_phase c Stores)))) roomy.1
       ∙ ap (λ (p : Phase). once_ordered fresh (in_this c p) (greatest_refuser c.counted) (Makes (in_phase c Stores))) (sym phase)
 
   pub order_at_decides : (j : ℕ) → c.phase ≡ OrdersAt j
@@ -95,8 +119,10 @@ module _ (block : ℕ) (code : Code) (fresh : Option Stamp) (c : Coordinator) (r
   unfolding decided
   order_at_decides j phase =
       decided_in_phase block code fresh c (OrdersAt j) phase
+      ∙ ap (λ (z : Option Mover). unless_told_moved z (unless_told_full (lowest_full c.counted) (once_ordered fresh (in_this c (OrdersAt j)) (greatest_refuser c.counted)
+      (modified_if code (in_this c (OrdersAt j)) j (common_version_at j c.counted))))) roomy.0
       ∙ ap (λ (z : Option FullMember). unless_told_full z (once_ordered fresh (in_this c (OrdersAt j)) (greatest_refuser c.counted)
-      (modified_if code (in_this c (OrdersAt j)) j (common_version_at j c.counted)))) roomy
+      (modified_if code (in_this c (OrdersAt j)) j (common_version_at j c.counted)))) roomy.1
       ∙ ap (λ (p : Phase). once_ordered fresh (in_this c p) (greatest_refuser c.counted)
       (modified_if code (in_this c p) j (common_version_at j c.counted))) (sym phase)
 
@@ -105,12 +131,14 @@ module _ (block : ℕ) (code : Code) (fresh : Option Stamp) (c : Coordinator) (r
   unfolding decided
   look_decides phase =
       decided_in_phase block code fresh c Looks phase
-      ∙ ap (λ (z : Option FullMember). unless_told_full z (answered_fast code (in_this c Looks) (fast_version c.counted))) roomy
+      ∙ ap (λ (z : Option Mover). unless_told_moved z (unless_told_full (lowest_full c.counted) (answered_fast code (in_this c Looks) (fast_version c.counted)))) roomy.0
+      ∙ ap (λ (z : Option FullMember). unless_told_full z (answered_fast code (in_this c Looks) (fast_version c.counted))) roomy.1
       ∙ ap (λ (p : Phase). answered_fast code (in_this c p) (fast_version c.counted)) (sym phase)
 
   pub look_at_decides : (j : ℕ) → c.phase ≡ LooksAt j → decided block code fresh c ≡ answered_fast_at c j (fast_version_at j c.counted)
   unfolding decided
   look_at_decides j phase =
       decided_in_phase block code fresh c (LooksAt j) phase
-      ∙ ap (λ (z : Option FullMember). unless_told_full z (answered_fast_at (in_this c (LooksAt j)) j (fast_version_at j c.counted))) roomy
+      ∙ ap (λ (z : Option Mover). unless_told_moved z (unless_told_full (lowest_full c.counted) (answered_fast_at (in_this c (LooksAt j)) j (fast_version_at j c.counted)))) roomy.0
+      ∙ ap (λ (z : Option FullMember). unless_told_full z (answered_fast_at (in_this c (LooksAt j)) j (fast_version_at j c.counted))) roomy.1
       ∙ ap (λ (p : Phase). answered_fast_at (in_this c p) j (fast_version_at j c.counted)) (sym phase)

@@ -4,7 +4,7 @@ use Rattle.std.proofs.lemmas.Bool.{and_from, cases_Bool, cond_both, eq-eqb, ltb-
 use Rattle.std.specs.Prelude.{filter, nat_eq, nat_lt, slice_get, ◌-◌, ◌^◌}
 use Rattle.calm_laws.proofs.Asking.{Holds, each_then, told_all}
 use Rattle.calm_laws.proofs.Counts.{Carries, counted_of, fresh_at}
-use Rattle.calm_laws.proofs.Decided.{descend_decides, none_full, none_refuses}
+use Rattle.calm_laws.proofs.Decided.{descend_decides, none_stops, none_refuses}
 use Rattle.calm_laws.proofs.Finds.{Has, IsMost, filter_more, finding, greatest_has, greatest_most, has_each, pieces_length, some_of, total_below, total_falls}
 use Rattle.protocol_laws.proofs.Logs.{IsWithin, LogAscends, newest_among}
 use Rattle.calm_laws.proofs.Ordering.{TameWith, descends_ask, looking, orders_keep, orders_reply, read_fits, reads_so, told_below, told_facts, told_then}
@@ -282,7 +282,7 @@ down_step stage cast logs lore n s bound set phase above early lower =
     let known : ℕ = known_then stage s (finding found) cast.xs set.open_is.stale in
     subst (λ (z : Next). Carries stage (after_replies stage s known parts set.open_is.others before) z)
     (sym (descend_decides stage.setting.layout.block stage.setting.code (fresh_at stage s.c known) (having s.c all)
-    (none_full (finding found) (λ x. refl) cast.xs) bound phase (none_refuses (finding found) (λ x. refl) cast.xs)))
+    (none_stops (finding found) (λ x. refl) (λ x. refl) cast.xs) bound phase (none_refuses (finding found) (λ x. refl) cast.xs)))
     (read_back_goes stage cast logs lore s set.open_is.group bound Want.All above set.open_is.others before parts known tame (omega (arith, early))
     (λ v over falls.
     lower (sent stage (after_replies stage s known parts set.open_is.others before) (in_phase (having s.c all) (Descends v))) v

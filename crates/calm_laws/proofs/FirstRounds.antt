@@ -27,18 +27,18 @@ use Rattle.protocol.specs.Replicas.{is_held, top_of}
 use Rattle.protocol.specs.declared.phases.Counted.{Counted}
 use Rattle.protocol.specs.declared.phases.Refuser.{Refuser}
 
--- a stamp of view 1, or the first, of this time at most
-pub record IsLow (b : ℕ) (t : Stamp) : Type 0 where
-  pub view : t.view.0 ≤ 1
+-- a stamp of no later view than this, of this time at most
+pub record IsLow (e b : ℕ) (t : Stamp) : Type 0 where
+  pub view : t.view.0 ≤ e
   pub time : t.time ≤ b
 
--- it is below a later one of view 1
-pub low_below : (b : ℕ) (x t : Stamp) → IsLow b x → t.view.0 ≡ 1 → b < t.time → stamp_below x t ≡ true
+-- it is below a later one of that view
+pub low_below : (e b : ℕ) (x t : Stamp) → IsLow e b x → t.view.0 ≡ e → b < t.time → stamp_below x t ≡ true
 unfolding stamp_below
-low_below b x t low view later = let l = low.view in let m = low.time in grind (arith, nat_tests, l, m)
+low_below e b x t low view later = let l = low.view in let m = low.time in grind (arith, nat_tests, l, m)
 
--- a stamp of view 1 is not the first one
-pub not_first : (t : Stamp) → t.view.0 ≡ 1 → stamp_same t first_stamp ≡ false
+-- a stamp of a view is not the first one
+pub not_first : (t : Stamp) → 1 ≤ t.view.0 → stamp_same t first_stamp ≡ false
 unfolding stamp_same
 not_first t view = grind (arith, nat_tests)
 
@@ -47,12 +47,12 @@ pub record IsFirst (stage : Stage) (cast : Cast stage) (logs : ℕ → List Vers
   pub open_is : IsOpen stage cast s
   pub quiet : known_through open_is.stale s.known ≡ s.known
   pub round : s.c.round ≡ 1
-  pub view : s.c.stamp.view.0 ≡ 1
-  pub call_view : s.c.call.view.0 ≡ 1
+  pub view : s.c.stamp.view.0 ≡ s.c.call.view.0
+  pub from_one : 1 ≤ s.c.stamp.view.0
   pub stamp_known : s.c.stamp.time ≤ s.known
   pub known_early : s.known ≤ early
   pub starts : Each (λ x. ((s.parts x.brick.0).replica.log ≡ logs x.brick.0) × Room stage (s.parts x.brick.0)
-      × IsLow early (top_of (s.parts x.brick.0).replica)) cast.xs
+      × IsLow s.c.call.view.0 early (top_of (s.parts x.brick.0).replica)) cast.xs
   pub ascends : Each (λ x. LogAscends (logs x.brick.0)) cast.xs
 
 -- the stamp of the second round, where so much is known
@@ -87,7 +87,7 @@ module _ (stage : Stage) (cast : Cast stage) (logs : ℕ → List Version) (s : 
   known_grows : s.known ≤ known
   known_grows = subst (λ (k : ℕ). k ≤ known) first.quiet (through_least stage s.c.call f cast.xs (known_through first.open_is.stale s.known))
 
-  told_early : (x : Seated) → ((y : Seated) (log : List Version) → told_time (answer y log) ≡ 0) → IsLow early (tops x.brick.0) → told_time (f x) ≤ early
+  told_early : (x : Seated) → ((y : Seated) (log : List Version) → told_time (answer y log) ≡ 0) → IsLow s.c.call.view.0 early (tops x.brick.0) → told_time (f x) ≤ early
   told_early x silent low =
       cond_both (stamp_below s.c.stamp (tops x.brick.0)) (Later (tops x.brick.0)) (answer x (logs x.brick.0)) (λ (r : Reply). told_time r ≤ early)
       (λ above. low.time) (λ tame. let none = silent x (logs x.brick.0) in omega (arith, none))
@@ -97,11 +97,11 @@ module _ (stage : Stage) (cast : Cast stage) (logs : ℕ → List Version) (s : 
       through_most stage s.c.call f early cast.xs (known_through first.open_is.stale s.known)
       (subst (λ (k : ℕ). k ≤ early) (sym first.quiet) first.known_early)
       (each_then (λ (x : Seated). ((s.parts x.brick.0).replica.log ≡ logs x.brick.0) × Room stage (s.parts x.brick.0)
-      × IsLow early (top_of (s.parts x.brick.0).replica)) (λ (x : Seated). told_time (f x) ≤ early) cast.xs
+      × IsLow s.c.call.view.0 early (top_of (s.parts x.brick.0).replica)) (λ (x : Seated). told_time (f x) ≤ early) cast.xs
       (λ x start. told_early x silent start.2) first.starts)
 
   -- the second stamp is above what a member has come to
-  second_above : (x : Seated) (part : Part) → IsMixed stage s.c.stamp (tops x.brick.0) (logs x.brick.0) part → IsLow early (tops x.brick.0)
+  second_above : (x : Seated) (part : Part) → IsMixed stage s.c.stamp (tops x.brick.0) (logs x.brick.0) part → IsLow s.c.call.view.0 early (tops x.brick.0)
       → told_time (f x) ≤ known → stamp_below (top_of part.replica) (second_stamp stage s.c known) ≡ true
   second_above x part mixed low told = ⊎_elim
       (λ (above : stamp_below s.c.stamp (tops x.brick.0) ≡ true).
@@ -109,20 +109,20 @@ module _ (stage : Stage) (cast : Cast stage) (logs : ℕ → List Version) (s : 
       = subst (λ (b : Bool). told_time (cond b (Later (tops x.brick.0)) (answer x (logs x.brick.0))) ≤ known) above told in
       let view = low.view in
       subst (λ (z : Stamp). stamp_below z (second_stamp stage s.c known) ≡ true) (sym (mixed.kept above))
-      (low_below known (tops x.brick.0) (second_stamp stage s.c known) (record { view = view; time = time }) first.call_view (omega arith)))
+      (low_below s.c.call.view.0 known (tops x.brick.0) (second_stamp stage s.c known) (record { view = view; time = time }) refl (omega arith)))
       (λ (tame : stamp_below s.c.stamp (tops x.brick.0) ≡ false).
       let view = first.view in
       let time = first.stamp_known in
       let grows = known_grows in
       at_most_below (top_of part.replica) s.c.stamp (second_stamp stage s.c known) (mixed.same ∙ tame)
-      (low_below known s.c.stamp (second_stamp stage s.c known) (record { view = omega (arith, view); time = omega (arith, time, grows) })
-      first.call_view (omega arith)))
+      (low_below s.c.call.view.0 known s.c.stamp (second_stamp stage s.c known) (record { view = omega (arith, view); time = omega (arith, time, grows) })
+      refl (omega arith)))
       (cases_Bool (stamp_below s.c.stamp (tops x.brick.0)))
 
   -- so the second round finds all tame
   second_set : (parts : ℕ → Part) (ys : List Seated) → Holds (MixedWith stage s.c.stamp tops logs) parts ys
       → Each (λ x. ((s.parts x.brick.0).replica.log ≡ logs x.brick.0) × Room stage (s.parts x.brick.0)
-      × IsLow early (top_of (s.parts x.brick.0).replica)) ys
+      × IsLow s.c.call.view.0 early (top_of (s.parts x.brick.0).replica)) ys
       → Each (λ x. LogAscends (logs x.brick.0)) ys → Each (λ x. told_time (f x) ≤ known) ys
       → Holds (TameWith stage (second_stamp stage s.c known) logs) parts ys × IsUnheld logs (second_stamp stage s.c known) ys
   second_set parts [] mixed starts ascends told = (tt, tt)
@@ -152,9 +152,9 @@ module _ (stage : Stage) (cast : Cast stage) (logs : ℕ → List Version) (s : 
       → Carries stage (after_replies stage s known parts first.open_is.others before) (goes (map (counted_of (λ x. answer x (logs x.brick.0))) cast.xs)))
       → Again stage cast logs s first.open_is.others → Closes stage s
   ordering_first silent accepted again =
-      ordering_run stage cast logs s answer goes ordering first.open_is early_phase (not_first s.c.stamp first.view) tops
+      ordering_run stage cast logs s answer goes ordering first.open_is early_phase (not_first s.c.stamp first.from_one) tops
       (each_then (λ (x : Seated). ((s.parts x.brick.0).replica.log ≡ logs x.brick.0) × Room stage (s.parts x.brick.0)
-      × IsLow early (top_of (s.parts x.brick.0).replica))
+      × IsLow s.c.call.view.0 early (top_of (s.parts x.brick.0).replica))
       (λ (x : Seated). MixedWith stage s.c.stamp tops logs x.brick.0 (s.parts x.brick.0)) cast.xs
       (λ x start. record { log_is = start.0; room = start.1; same = refl; kept = λ above. refl }) first.starts)
       accepted
@@ -191,6 +191,6 @@ module _ (stage : Stage) (cast : Cast stage) (logs : ℕ → List Version) (s : 
                 })
                 refl refl;
             tame = tame.0;
-            later = not_first (second_stamp stage s.c known) first.call_view;
+            later = not_first (second_stamp stage s.c known) (let view = first.view in let one = first.from_one in omega (arith, view, one));
           })
           tame.1

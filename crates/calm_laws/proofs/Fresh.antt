@@ -1,15 +1,19 @@
 -- An operation of which no message was delivered is as it began: its coordinator is in its first phase, with no reply that counts, and its packets are
 -- that phase's, once for its beginning and once more for each tick since.
 use Rattle.protocol_laws.proofs.BooksEvents.{books}
-use Rattle.std.proofs.Common.{◌≡◌, ◌≢◌, ℕ, zero, suc, ◌≤◌, ◌<◌, Bool, true, false, ◌&&◌, List, [], ◌∷◌, ◌++◌, length, Option, Some, None, refl, sym, ap, ◌∙◌}
+use Rattle.std.proofs.Common.{◌≡◌, ◌≢◌, ℕ, zero, suc, ◌≤◌, ◌<◌, Bool, true, false, ◌&&◌, List, [], ◌∷◌, ◌++◌, length, Option, Some, None, refl, sym, ap, ◌∙◌, ◌+◌, ⊎_elim, arith}
 use Rattle.std.specs.Prelude.{slice_get, nat_eq, filter, if◌then◌else◌}
-use Rattle.std.proofs.lemmas.Bool.{cond_both, cond-true, cond-false, eq-eqb, eqb-true, ne_eqb, and_parts, false≢true, and_from}
+use Rattle.std.proofs.lemmas.Bool.{cond_both, cond-true, cond-false, eq-eqb, eqb-true, ne_eqb, and_parts, cases_lt, false≢true, and_from}
 use Rattle.std.proofs.lemmas.List.{append_assoc, append-nil}
 use Rattle.std.proofs.lemmas.List.Elements.{filter-append}
+use Rattle.fab_base.specs.declared.identities.BrickId.{BrickId}
+use Rattle.messages.specs.declared.packets.Message.{Message}
 use Rattle.messages.specs.declared.packets.Packet.{Packet}
+use Rattle.protocol.specs.Proposals.{Proposal}
+use Rattle.view_laws.proofs.Calling.{Rises}
 use Rattle.protocol.specs.Settings.{Setting}
 use Rattle.protocol.specs.Coordinators.{Coordinator}
-use Rattle.protocol.specs.Nodes.{put, first_phase, given_content, phase_packets}
+use Rattle.protocol.specs.Nodes.{Node, put, first_phase, given_content, phase_packets}
 use Rattle.protocol.specs.Worlds.{World, Operation, number_of, is_brick, packet_of}
 use Rattle.protocol.specs.Calms.{operation_of, open_at, open_call, IsUntouched}
 use Rattle.protocol_laws.proofs.Books.{Books, IsOperation}
@@ -38,12 +42,52 @@ pub record IsFresh (setting : Setting) (w : World) (n : ℕ) (c : Coordinator) :
   pub copies : ℕ
   pub packets : packets_of w n ≡ repeated (suc copies) (phase_packets setting c.stamp.brick c)
 
--- What the numbers of calls tell: each is its operation's; each packet that was sent is one's; and what was not sent was not delivered.
+-- a brick has made the call of this boot and number
+abbrev pub IsMade : Node → ℕ → ℕ → Type 0
+IsMade node boot seq = (boot ≤ node.boot) × (boot ≡ node.boot → seq ≤ node.seq)
+
+-- the call of a packet was made by the brick that asks
+abbrev pub IsMadeBy : (ℕ → Node) → Packet → Type 0
+IsMadeBy nodes packet = of packet.message
+  where
+    of : Message → Type 0
+    of (Message.Request call request) = IsMade (nodes packet.from.0) call.boot call.seq
+    of (Message.Reply call reply) = IsMade (nodes packet.to.0) call.boot call.seq
+    of message = Unit {0}
+
+-- What the numbers of calls tell: each is its operation's; a proposal's call has none; each packet's call was made; and what was not sent was not
+-- delivered.
 pub record IsNumbered (w : World) : Type 0 where
   pub numbers : (j b k : ℕ) → 1 ≤ w.numbers j b k
       → (o : Operation) × IsOperation w (w.numbers j b k) o × (o.brick.0 ≡ j) × (o.boot ≡ b) × (o.seq ≡ k)
-  pub packets : (k : ℕ) (packet : Packet) → slice_get w.packets k ≡ Some packet → 1 ≤ operation_of w packet
+  pub drafts : (i : ℕ) (p : Proposal) → (w.nodes i).proposal ≡ Some p → w.numbers i p.call.boot p.call.seq ≡ 0
+  pub packets : (k : ℕ) (packet : Packet) → slice_get w.packets k ≡ Some packet → IsMadeBy w.nodes packet
   pub reached : (k : ℕ) → length w.packets < k → w.reached k ≡ false
+
+-- what a brick has made it has still made once its counters rose
+pub rises_made : (node next : Node) (boot seq : ℕ) → Rises node next → IsMade node boot seq → IsMade next boot seq
+rises_made node next boot seq rises made = ⊎_elim
+    (λ (later : node.boot < next.boot). let old = made.0 in
+    ((let low : boot ≤ next.boot = omega (arith, later, old) in low), (λ same. absurd (omega (arith, later, old, same)))))
+    (λ (now : (next.boot ≡ node.boot) × (node.seq ≤ next.seq) × (node.round ≤ next.round)). let old = made.0 in let boots = now.0 in let more = now.1 in
+    ((let low : boot ≤ next.boot = omega (arith, boots, old) in low), (λ same. let was = made.1 (same ∙ now.0) in omega (arith, was, more))))
+    rises
+
+-- so it is with the call of a packet, where one brick's counters rose
+pub made_put : (nodes : ℕ → Node) (i : ℕ) (next : Node) → Rises (nodes i) next → (packet : Packet) → IsMadeBy nodes packet
+    → IsMadeBy (put nodes i next) packet
+made_put nodes i next rises packet = of packet.from packet.to packet.message
+  where
+    at : (j boot seq : ℕ) → IsMade (nodes j) boot seq → IsMade (put nodes i next j) boot seq
+    at j boot seq =
+        put_each (λ k (n : Node). IsMade (nodes k) boot seq → IsMade n boot seq) nodes i next (λ made. rises_made (nodes i) next boot seq rises made)
+        (λ k other made. made) j
+
+    of : (from to : BrickId) (message : Message) → IsMadeBy nodes (record { from = from; to = to; message = message })
+        → IsMadeBy (put nodes i next) (record { from = from; to = to; message = message })
+    of from to (Message.Request call request) made = at from.0 call.boot call.seq made
+    of from to (Message.Reply call reply) made = at to.0 call.boot call.seq made
+    of from to message made = tt
 
 -- each operation that is open, and of which no message was delivered, is as it began
 abbrev pub AreFresh : Setting → World → Type 0
@@ -179,3 +223,17 @@ fresh_kept setting w next more fresh packets old reached n c untouched opens new
 pub own_number : (setting : Setting) (w : World) → Books setting w → (n : ℕ) (o : Operation) → IsOperation w n o → (w.nodes o.brick.0).boot ≡ o.boot
     → number_of w o.brick.0 o.seq ≡ n
 own_number setting w books n o is boot = ap (λ (b : ℕ). w.numbers o.brick.0 b o.seq) boot ∙ (books.operations n o is).number
+
+-- a brick's next call has no number
+pub next_unnumbered : (setting : Setting) (w : World) → Books setting w → IsNumbered w → (i : ℕ) → w.numbers i (w.nodes i).boot ((w.nodes i).seq + 1) ≡ 0
+next_unnumbered setting w books numbered i = ⊎_elim
+    (λ (none : w.numbers i (w.nodes i).boot ((w.nodes i).seq + 1) < 1). omega (arith, none))
+    (λ (some : 1 ≤ w.numbers i (w.nodes i).boot ((w.nodes i).seq + 1)).
+    let was = numbered.numbers i (w.nodes i).boot ((w.nodes i).seq + 1) some in
+    let most : was.0.seq ≤ (w.nodes was.0.brick.0).seq
+    = (books.operations (w.numbers i (w.nodes i).boot ((w.nodes i).seq + 1)) was.0 was.1).called.1
+    (was.3 ∙ ap (λ (j : ℕ). (w.nodes j).boot) (sym was.2)) in
+    let same : (w.nodes was.0.brick.0).seq ≡ (w.nodes i).seq = ap (λ (j : ℕ). (w.nodes j).seq) was.2 in
+    let seq = was.4 in
+    absurd (omega (arith, most, same, seq)))
+    (cases_lt (w.numbers i (w.nodes i).boot ((w.nodes i).seq + 1)) 1)

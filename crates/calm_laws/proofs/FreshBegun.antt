@@ -1,6 +1,6 @@
 -- An operation that begins is fresh, and the others stay so.
 use Rattle.std.proofs.lemmas.Option.{same_Some}
-use Rattle.std.proofs.Common.{◌≡◌, ◌≢◌, ℕ, ◌+◌, ◌≤◌, ◌<◌, true, false, List, [], ◌++◌, length, Some, None, refl, sym, ap, ◌∙◌, subst, ⊎_elim, arith, length-append}
+use Rattle.std.proofs.Common.{◌≡◌, ◌≢◌, ℕ, ◌+◌, ◌≤◌, ◌<◌, true, false, List, [], ◌++◌, length, Some, None, refl, sym, ap, ◌∙◌, subst, ⊎_elim, inr, arith, length-append}
 use Rattle.std.specs.Prelude.{slice_get, nat_eq, filter}
 use Rattle.std.proofs.lemmas.Bool.{cases_eq, eq-eqb, ne_eqb, and_parts, cases_lt}
 use Rattle.std.proofs.lemmas.List.{append-nil}
@@ -18,9 +18,12 @@ use Rattle.protocol_laws.proofs.Books.{Books, IsOperation}
 use Rattle.protocol.proofs.Tables.{put_each, put_same, get_grown}
 use Rattle.protocol.proofs.Puts.{put_other}
 use Rattle.calm_laws.proofs.StepsOf.{members_are_of}
-use Rattle.calm_laws.proofs.Fresh.{packets_of, IsFresh, IsNumbered, AreFresh, filter_none, filter_every, packets_added, IsOpenAt, opens_at, opens_in, fresh_kept}
+use Rattle.view_laws.proofs.Calling.{Rises}
+use Rattle.view_laws.proofs.CallSteps.{Calls}
+use Rattle.protocol.proofs.Packets.{OfEach, each_member}
+use Rattle.calm_laws.proofs.Fresh.{packets_of, IsFresh, IsMade, IsMadeBy, IsNumbered, AreFresh, made_put, filter_none, filter_every, packets_added, IsOpenAt, opens_at, opens_in, fresh_kept}
 
-module _ (setting : Setting) (w : World) (books : Books setting w) (numbered : IsNumbered w) (fresh : AreFresh setting w) where
+module _ (setting : Setting) (w : World) (books : Books setting w) (calls : Calls w) (numbered : IsNumbered w) (fresh : AreFresh setting w) where
   -- a brick begins an operation
   module _ (brick : BrickId) (ask : Ask) (group : Group) (up : is_up setting.layout w brick ≡ true) where
     abbrev began_coordinator : Coordinator
@@ -32,42 +35,49 @@ module _ (setting : Setting) (w : World) (books : Books setting w) (numbered : I
     abbrev begun_world : World
     begun_world = world_began w brick ask began_step
 
-    -- no call had its number before
-    new_number : w.numbers brick.0 (w.nodes brick.0).boot ((w.nodes brick.0).seq + 1) ≡ 0
-    new_number = ⊎_elim
-        (λ (none : w.numbers brick.0 (w.nodes brick.0).boot ((w.nodes brick.0).seq + 1) < 1). omega (arith, none))
-        (λ (some : 1 ≤ w.numbers brick.0 (w.nodes brick.0).boot ((w.nodes brick.0).seq + 1)).
-        let was = numbered.numbers brick.0 (w.nodes brick.0).boot ((w.nodes brick.0).seq + 1) some in
-        let most : was.0.seq ≤ (w.nodes was.0.brick.0).seq
-        = (books.operations (w.numbers brick.0 (w.nodes brick.0).boot ((w.nodes brick.0).seq + 1)) was.0 was.1).called.1
-        (was.3 ∙ ap (λ (j : ℕ). (w.nodes j).boot) (sym was.2)) in
-        let same : (w.nodes was.0.brick.0).seq ≡ (w.nodes brick.0).seq = ap (λ (j : ℕ). (w.nodes j).seq) was.2 in
-        let seq = was.4 in
-        absurd (omega (arith, most, same, seq)))
-        (cases_lt (w.numbers brick.0 (w.nodes brick.0).boot ((w.nodes brick.0).seq + 1)) 1)
-
-    -- the numbers that there were stay
-    old_number : (j b k : ℕ) → 1 ≤ w.numbers j b k → begun_world.numbers j b k ≡ w.numbers j b k
-    old_number j b k some =
-        put_each (λ i f. 1 ≤ w.numbers i b k → f b k ≡ w.numbers i b k) w.numbers brick.0
+    -- the numbers of the calls that were made stay
+    old_number : (j b k : ℕ) → (j ≡ brick.0 → b ≡ (w.nodes brick.0).boot → k ≤ (w.nodes brick.0).seq) → begun_world.numbers j b k ≡ w.numbers j b k
+    old_number j b k past =
+        put_each (λ i f. (i ≡ brick.0 → b ≡ (w.nodes brick.0).boot → k ≤ (w.nodes brick.0).seq) → f b k ≡ w.numbers i b k) w.numbers brick.0
         (put (w.numbers brick.0) (w.nodes brick.0).boot (put (w.numbers brick.0 (w.nodes brick.0).boot) ((w.nodes brick.0).seq + 1) (w.begun + 1)))
-        (put_each (λ c f. 1 ≤ w.numbers brick.0 c k → f k ≡ w.numbers brick.0 c k) (w.numbers brick.0) (w.nodes brick.0).boot
+        (λ here.
+        put_each (λ c f. (c ≡ (w.nodes brick.0).boot → k ≤ (w.nodes brick.0).seq) → f k ≡ w.numbers brick.0 c k) (w.numbers brick.0) (w.nodes brick.0).boot
         (put (w.numbers brick.0 (w.nodes brick.0).boot) ((w.nodes brick.0).seq + 1) (w.begun + 1))
-        (put_each (λ l v. 1 ≤ w.numbers brick.0 (w.nodes brick.0).boot l → v ≡ w.numbers brick.0 (w.nodes brick.0).boot l)
+        (λ now.
+        put_each (λ l v. l ≤ (w.nodes brick.0).seq → v ≡ w.numbers brick.0 (w.nodes brick.0).boot l)
         (w.numbers brick.0 (w.nodes brick.0).boot) ((w.nodes brick.0).seq + 1) (w.begun + 1)
-        (λ bad. absurd (omega (arith, new_number, bad))) (λ l other is. refl) k)
-        (λ c other is. refl) b)
-        (λ i other is. refl) j some
+        (λ bad. absurd (omega (arith, bad))) (λ l other is. refl) k (now refl))
+        (λ c other is. refl) b (here refl))
+        (λ i other is. refl) j past
+
+    made_number : (j b k : ℕ) → IsMade (w.nodes j) b k → begun_world.numbers j b k ≡ w.numbers j b k
+    made_number j b k made =
+        old_number j b k
+        (λ same boot.
+        let most : k ≤ (w.nodes j).seq = made.1 (boot ∙ ap (λ (i : ℕ). (w.nodes i).boot) (sym same)) in
+        let seqs : (w.nodes j).seq ≡ (w.nodes brick.0).seq = ap (λ (i : ℕ). (w.nodes i).seq) same in
+        omega (arith, most, seqs))
 
     -- and so do the operations of the packets that there were
-    old_belongs : (from to : BrickId) (message : Message) → 1 ≤ operation_of w (record { from = from; to = to; message = message })
+    old_belongs : (from to : BrickId) (message : Message) → IsMadeBy w.nodes (record { from = from; to = to; message = message })
         → operation_of begun_world (record { from = from; to = to; message = message }) ≡ operation_of w (record { from = from; to = to; message = message })
-    old_belongs from to (Message.Request call request) some = old_number from.0 call.boot call.seq some
-    old_belongs from to (Message.Reply call reply) some = old_number to.0 call.boot call.seq some
-    old_belongs from to message some = refl
+    old_belongs from to (Message.Request call request) made = made_number from.0 call.boot call.seq made
+    old_belongs from to (Message.Reply call reply) made = made_number to.0 call.boot call.seq made
+    old_belongs from to message made = refl
 
     old_packets : (j : ℕ) (packet : Packet) → slice_get w.packets j ≡ Some packet → operation_of begun_world packet ≡ operation_of w packet
     old_packets j packet at = old_belongs packet.from packet.to packet.message (numbered.packets j packet at)
+
+    -- the brick's counters rise
+    rises : Rises (w.nodes brick.0) began_step.node
+    rises = inr (refl, omega arith, omega arith)
+
+    new_made : OfEach (IsMadeBy begun_world.nodes) began_step.packets
+    new_made =
+        each_member (IsMadeBy begun_world.nodes) brick began_coordinator.call (request_of setting.code began_coordinator)
+        (λ seat to.
+        subst (λ (n : Node). IsMade n (w.nodes brick.0).boot ((w.nodes brick.0).seq + 1)) (sym (put_same w.nodes brick.0 began_step.node))
+        (omega arith, λ same. omega arith)) 0 group.members
 
     -- the new operation's number
     its_number : begun_world.numbers brick.0 (w.nodes brick.0).boot ((w.nodes brick.0).seq + 1) ≡ w.begun + 1
@@ -95,6 +105,7 @@ module _ (setting : Setting) (w : World) (books : Books setting w) (numbered : I
       base = None;
       answered = false;
       mark = w.marked + 1;
+      closed = None;
       view = view_at (w.nodes brick.0) ask.group.0;
       floor = λ j. top_at (w.nodes j) ask.group.0 ask.stripe.0;
     }
@@ -131,9 +142,16 @@ module _ (setting : Setting) (w : World) (books : Books setting w) (numbered : I
     pub began_numbered : IsNumbered begun_world
     began_numbered = record {
       numbers = all_at;
+      drafts = λ i p is.
+          let was : (w.nodes i).proposal ≡ Some p
+          = sym (put_each (λ j (x : Node). x.proposal ≡ (w.nodes j).proposal) w.nodes brick.0 began_step.node refl (λ j other. refl) i) ∙ is in
+          let draft = calls.called.drafts i p was in
+          let made : IsMade (w.nodes i) p.call.boot p.call.seq
+          = ((let boot = draft.now in let low : p.call.boot ≤ (w.nodes i).boot = omega (arith, boot) in low), (λ same. draft.seq)) in
+          made_number i p.call.boot p.call.seq made ∙ numbered.drafts i p was;
       packets = λ k packet at. ⊎_elim
-          (λ (old : slice_get w.packets k ≡ Some packet). let same = old_packets k packet old in omega (arith, same, numbered.packets k packet old))
-          (λ (new : (j : ℕ) × (slice_get began_step.packets j ≡ Some packet)). let own = new_packets new.0 packet new.1 in omega (arith, own))
+          (λ (old : slice_get w.packets k ≡ Some packet). made_put w.nodes brick.0 began_step.node rises packet (numbered.packets k packet old))
+          (λ (new : (j : ℕ) × (slice_get began_step.packets j ≡ Some packet)). new_made new.0 packet new.1)
           (get_grown w.packets began_step.packets k packet at);
       reached = λ k beyond.
           let longer = length-append w.packets began_step.packets in numbered.reached k (omega (arith, longer, beyond));

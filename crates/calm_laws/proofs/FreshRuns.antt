@@ -1,14 +1,15 @@
 -- Every run has numbers that are operations', and fresh operations where no message reached.
 use Rattle.protocol_laws.proofs.BooksEvents.{BeginFits, books, begin_fits, group_there, fits_at}
-use Rattle.std.proofs.Common.{◌≡◌, not, List, Option, Some, None, refl, sym, subst, arith, is_some, true}
-use Rattle.std.proofs.lemmas.Bool.{and_parts}
+use Rattle.std.proofs.Common.{ltb-true, nat_lt, ◌&&◌, ◌≡◌, not, List, Option, Some, None, refl, sym, subst, arith, is_some, true}
+use Rattle.std.proofs.lemmas.Bool.{and_parts, not-true}
 use Rattle.fab_base.specs.Layouts.{Group}
 use Rattle.protocol.specs.Settings.{Setting}
-use Rattle.protocol.specs.Nodes.{put, invoked, began, refusal_of}
-use Rattle.protocol.specs.Worlds.{World, Event, first_world, may_begin, world_began, is_up, run, replies_with}
+use Rattle.protocol.specs.Nodes.{put, invoked, began, may_open, refusal_of}
+use Rattle.protocol.specs.Worlds.{World, Event, first_world, may_begin, world_began, is_up, run}
 use Rattle.protocol_laws.proofs.Books.{Books}
 use Rattle.calm_laws.proofs.Fresh.{IsNumbered, AreFresh, fresh_on}
-use Rattle.calm_laws.proofs.FreshDelivered.{delivered_numbered, delivered_fresh}
+use Rattle.view_laws.proofs.CallSteps.{Calls, always_calls}
+use Rattle.calm_laws.proofs.FreshDelivered.{delivered_numbered, delivered_fresh, proposed_numbered, proposed_fresh}
 use Rattle.calm_laws.proofs.FreshTicked.{ticked_numbered, ticked_fresh}
 use Rattle.calm_laws.proofs.FreshBegun.{began_numbered, began_fresh}
 use Rattle.calm_laws.proofs.FreshStopped.{stopped_numbered, stopped_fresh, started_numbered, started_fresh}
@@ -21,49 +22,57 @@ abbrev IsFresh : Setting → World → Type 0
 IsFresh setting w = IsNumbered w × AreFresh setting w
 
 -- a beginning keeps both
-invoked_kept : (setting : Setting) (w : World) → Books setting w → IsFresh setting w → (brick : BrickId) (ask : Ask)
+invoked_kept : (setting : Setting) (w : World) → Books setting w → Calls w → IsFresh setting w → (brick : BrickId) (ask : Ask)
     → may_begin setting w brick ask ≡ true
     → IsFresh setting (world_began w brick ask (invoked setting brick (w.clocks brick.0) (w.nodes brick.0) ask))
 unfolding invoked
-invoked_kept setting w books holds brick ask may =
+invoked_kept setting w books calls holds brick ask may =
     let fits : BeginFits setting ask = begin_fits setting w brick ask may in
     let up = (and_parts (is_up setting.layout w brick) (not (is_some (refusal_of setting.layout (w.nodes brick.0) ask))) may).0 in
     subst (λ (found : Option Group). IsFresh setting (world_began w brick ask (began setting brick (w.clocks brick.0) (w.nodes brick.0) ask found)))
     (sym (fits_at setting (w.nodes brick.0) ask fits)) (
-      began_numbered setting w books holds.0 holds.1 brick ask (group_there (w.nodes brick.0) ask fits.group) up,
-      began_fresh setting w books holds.0 holds.1 brick ask (group_there (w.nodes brick.0) ask fits.group) up,
+      began_numbered setting w books calls holds.0 holds.1 brick ask (group_there (w.nodes brick.0) ask fits.group) up,
+      began_fresh setting w books calls holds.0 holds.1 brick ask (group_there (w.nodes brick.0) ask fits.group) up,
     )
 
 -- every event keeps both
-fresh_cases : (setting : Setting) (w : World) → Books setting w → IsFresh setting w → EventCases setting w (IsFresh setting)
-fresh_cases setting w books holds = record {
-  begins = invoked_kept setting w books holds;
+fresh_cases : (setting : Setting) (w : World) → Books setting w × Calls w → IsFresh setting w → EventCases setting w (IsFresh setting)
+fresh_cases setting w known holds = record {
+  begins = invoked_kept setting w known.0 known.1 holds;
+  proposes = λ brick group members may. (
+    proposed_numbered setting w known.0 known.1 holds.0 holds.1 brick group members,
+    proposed_fresh setting w known.0 known.1 holds.0 holds.1 brick group members,
+  );
   handles = λ number packet at up. (
-    delivered_numbered setting w books holds.0 holds.1 number packet at (replies_with setting w packet),
-    delivered_fresh setting w books holds.0 holds.1 number packet at (replies_with setting w packet),
+    delivered_numbered setting w known.0 known.1 holds.0 holds.1 number packet at,
+    delivered_fresh setting w known.0 known.1 holds.0 holds.1 number packet at,
   );
   sets = λ brick time is. (
-    record { numbers = holds.0.numbers; packets = holds.0.packets; reached = holds.0.reached },
+    record { numbers = holds.0.numbers; drafts = holds.0.drafts; packets = holds.0.packets; reached = holds.0.reached },
     (λ n c opens untouched. fresh_on setting w (record w { clocks = put w.clocks brick.0 time }) n c refl (holds.1 n c opens untouched)),
   );
-  ticks = λ brick up. (ticked_numbered setting w books holds.0 holds.1 brick, ticked_fresh setting w books holds.0 holds.1 brick);
+  ticks = λ brick up. (ticked_numbered setting w known.0 known.1 holds.0 holds.1 brick, ticked_fresh setting w known.0 known.1 holds.0 holds.1 brick);
   stops = λ brick during up. (
-    stopped_numbered setting w books holds.0 holds.1 brick during,
-    stopped_fresh setting w books holds.0 holds.1 brick during,
+    stopped_numbered setting w known.0 known.1 holds.0 holds.1 brick during,
+    stopped_fresh setting w known.0 known.1 holds.0 holds.1 brick during,
   );
-  starts = λ brick openings found may. (
-    started_numbered setting w books holds.0 holds.1 brick openings found,
-    started_fresh setting w books holds.0 holds.1 brick openings found,
-  );
+  starts = λ brick openings found may.
+      let parts = and_parts _ (not (w.up brick.0) && may_open openings (w.nodes brick.0)) may in
+      let down = and_parts (not (w.up brick.0)) (may_open openings (w.nodes brick.0)) parts.1 in
+      let some = (and_parts (nat_lt 0 openings) _ down.1).0 in (
+        started_numbered setting w known.0 known.1 holds.0 holds.1 brick openings found (ltb-true 0 openings some) (not-true (w.up brick.0) down.0),
+        started_fresh setting w known.0 known.1 holds.0 holds.1 brick openings found,
+      );
 }
 
 -- every run has numbers that are operations', and fresh operations where no message reached
 pub always_fresh : (setting : Setting) (events : List Event)
     → (let w = run setting events (first_world setting.layout) in IsNumbered w × AreFresh setting w)
 always_fresh setting =
-    always_where (IsFresh setting) (Books setting) setting (books setting) (
+    always_where (IsFresh setting) (λ w. Books setting w × Calls w) setting (λ events. (books setting events, always_calls setting events)) (
       record {
         numbers = λ j b k some. absurd (omega (arith, some));
+        drafts = λ i p is. let never : None ≡ Some p = is in cc;
         packets = λ k packet at. let never : ⊥ = cc in absurd never;
         reached = λ k beyond. refl;
       },

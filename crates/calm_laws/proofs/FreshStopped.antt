@@ -1,6 +1,6 @@
 -- Where a brick stops or starts, fresh operations that are still open stay fresh.
 use Rattle.std.proofs.lemmas.Option.{slice_get_within}
-use Rattle.std.proofs.Common.{◌≡◌, ◌≢◌, ℕ, ◌<◌, Bool, true, false, [], length, Option, Some, None, refl, sym, ap, ◌∙◌, arith}
+use Rattle.std.proofs.Common.{inl, inr, subst, ◌+◌, ◌≡◌, ◌≢◌, ℕ, ◌<◌, Bool, true, false, [], length, Option, Some, None, refl, sym, ap, ◌∙◌, arith}
 use Rattle.std.specs.Prelude.{nat_eq}
 use Rattle.std.proofs.lemmas.Bool.{cond_both, false≢true}
 use Rattle.std.proofs.lemmas.List.{append-nil}
@@ -10,12 +10,13 @@ use Rattle.protocol.specs.Settings.{Setting}
 use Rattle.protocol.specs.Nodes.{Node, put, stopped, restarted}
 use Rattle.protocol.specs.Worlds.{World, Operation, Found, Before, After, world_stopped, world_found, world_started, reached_during, reached_at, packet_of}
 use Rattle.protocol_laws.proofs.Books.{Books}
-use Rattle.protocol.proofs.Tables.{put_same}
+use Rattle.view_laws.proofs.CallSteps.{Calls}
+use Rattle.protocol.proofs.Tables.{put_each, put_same, put_twice}
 use Rattle.protocol.proofs.Puts.{put_other}
 use Rattle.calm_laws.proofs.Queues.{operation_same}
-use Rattle.calm_laws.proofs.Fresh.{IsNumbered, AreFresh, IsOpenAt, opens_at, opens_in, put_before, packet_stands, fresh_kept}
+use Rattle.calm_laws.proofs.Fresh.{IsMadeBy, IsNumbered, AreFresh, made_put, IsOpenAt, opens_at, opens_in, put_before, packet_stands, fresh_kept}
 
-module _ (setting : Setting) (w : World) (books : Books setting w) (numbered : IsNumbered w) (fresh : AreFresh setting w) where
+module _ (setting : Setting) (w : World) (books : Books setting w) (calls : Calls w) (numbered : IsNumbered w) (fresh : AreFresh setting w) where
   -- a brick stops
   module _ (brick : BrickId) (during : Option ℕ) where
     abbrev halted : World
@@ -48,7 +49,16 @@ module _ (setting : Setting) (w : World) (books : Books setting w) (numbered : I
             (λ other. numbered.reached k beyond)
 
     pub stopped_numbered : IsNumbered halted
-    stopped_numbered = record { numbers = numbered.numbers; packets = numbered.packets; reached = reached_beyond during }
+    unfolding stopped
+    stopped_numbered = record {
+      numbers = numbered.numbers;
+      drafts = λ i p is.
+          put_each (λ j (n : Node). n.proposal ≡ Some p → w.numbers j p.call.boot p.call.seq ≡ 0) w.nodes brick.0 (stopped (w.nodes brick.0))
+          (λ none. absurd (let never : None ≡ Some p = none in cc)) (λ j other was. numbered.drafts j p was) i is;
+      packets = λ k packet at.
+          made_put w.nodes brick.0 (stopped (w.nodes brick.0)) (inr (refl, omega arith, omega arith)) packet (numbered.packets k packet at);
+      reached = reached_beyond during;
+    }
 
     pub stopped_fresh : AreFresh setting halted
     stopped_fresh n c opens untouched =
@@ -81,10 +91,47 @@ module _ (setting : Setting) (w : World) (books : Books setting w) (numbered : I
       (ap (λ (x : Node). x.boot) (sym node) ∙ at.boot) (ap (λ (x : Node). x.calls o.seq) (sym node) ∙ at.call))
       (λ j packet at'. let never : ⊥ = cc in absurd never)
 
+  -- a brick that starts with what it would have kept
+  found_twice : (brick : BrickId) (openings : ℕ)
+      → put (put w.nodes brick.0 (w.after brick.0)) brick.0 (restarted openings (put w.nodes brick.0 (w.after brick.0) brick.0))
+      ≡ put w.nodes brick.0 (restarted openings (w.after brick.0))
+  found_twice brick openings =
+      put_twice w.nodes brick.0 (w.after brick.0) (restarted openings (put w.nodes brick.0 (w.after brick.0) brick.0))
+      ∙ ap (λ (node : Node). put w.nodes brick.0 (restarted openings node)) (put_same w.nodes brick.0 (w.after brick.0))
+
   -- a stopped brick starts again
-  pub started_numbered : (brick : BrickId) (openings : ℕ) (found : Found) → IsNumbered (world_started (world_found w brick found) brick openings)
-  started_numbered brick openings Before = record { numbers = numbered.numbers; packets = numbered.packets; reached = numbered.reached }
-  started_numbered brick openings After = record { numbers = numbered.numbers; packets = numbered.packets; reached = numbered.reached }
+  -- a brick that starts has no proposal, and its boot rose
+  starts_so : (brick : BrickId) (openings : ℕ) (node : Node) → 0 < openings → node.boot ≡ (w.nodes brick.0).boot
+      → IsNumbered (record w { nodes = put w.nodes brick.0 (restarted openings node) })
+  unfolding restarted
+  starts_so brick openings node some boot = record {
+    numbers = numbered.numbers;
+    drafts = λ i p is.
+        put_each (λ j (n : Node). n.proposal ≡ Some p → w.numbers j p.call.boot p.call.seq ≡ 0) w.nodes brick.0 (restarted openings node)
+        (λ none. absurd (let never : None ≡ Some p = none in cc)) (λ j other was. numbered.drafts j p was) i is;
+    packets = λ k packet at.
+        made_put w.nodes brick.0 (restarted openings node)
+        (inl (let more : (w.nodes brick.0).boot < node.boot + openings = omega (arith, some, boot) in more)) packet (numbered.packets k packet at);
+    reached = numbered.reached;
+  }
+
+  pub started_numbered : (brick : BrickId) (openings : ℕ) (found : Found) → 0 < openings → w.up brick.0 ≡ false
+      → IsNumbered (world_started (world_found w brick found) brick openings)
+  started_numbered brick openings found some down = of found
+    where
+      of : (z : Found) → IsNumbered (world_started (world_found w brick z) brick openings)
+      of Before =
+          let is = starts_so brick openings (w.nodes brick.0) some refl in
+          record { numbers = is.numbers; drafts = is.drafts; packets = is.packets; reached = is.reached }
+      of After =
+          let is = starts_so brick openings (w.after brick.0) some (calls.left brick.0 down).boot in
+          let twice = found_twice brick openings in
+          record {
+            numbers = is.numbers;
+            drafts = λ i p at. is.drafts i p (ap (λ (f : ℕ → Node). (f i).proposal) (sym twice) ∙ at);
+            packets = λ k packet at. subst (λ (f : ℕ → Node). IsMadeBy f packet) (sym twice) (is.packets k packet at);
+            reached = is.reached;
+          }
 
   pub started_fresh : (brick : BrickId) (openings : ℕ) (found : Found) → AreFresh setting (world_started (world_found w brick found) brick openings)
   unfolding restarted

@@ -1,7 +1,7 @@
 -- Where a brick's clock ticks, fresh operations stay fresh: those of the brick send their packets once more.
 use Rattle.protocol_laws.proofs.BooksEvents.{brick_of}
 use Rattle.std.proofs.lemmas.Option.{same_Some}
-use Rattle.std.proofs.Common.{◌≡◌, ◌≢◌, ℕ, zero, suc, ◌+◌, ◌≤◌, ◌<◌, Bool, true, false, List, [], ◌∷◌, ◌++◌, Option, Some, None, refl, sym, ap, ◌∙◌, subst, ⊎_elim, arith, length-append, nat_lt, lt-ltb, le-ltb, ltb-true, ltb-false}
+use Rattle.std.proofs.Common.{◌⊎◌, inl, inr, ◌≡◌, ◌≢◌, ℕ, zero, suc, ◌+◌, ◌≤◌, ◌<◌, Bool, true, false, List, [], ◌∷◌, ◌++◌, Option, Some, None, refl, sym, ap, ◌∙◌, subst, ⊎_elim, arith, length-append, nat_lt, lt-ltb, le-ltb, ltb-true, ltb-false}
 use Rattle.std.specs.Prelude.{slice_get, nat_eq, filter, if◌then◌else◌}
 use Rattle.std.proofs.lemmas.Bool.{cond_both, cond-true, cond-false, cases_Bool, cases_eq, eq-eqb, ne_eqb, cases_lt}
 use Rattle.std.proofs.lemmas.List.{append-nil}
@@ -14,14 +14,18 @@ use Rattle.messages.specs.declared.requests.Request.{Request}
 use Rattle.protocol.specs.Settings.{Setting}
 use Rattle.protocol.specs.declared.phases.Counted.{Counted}
 use Rattle.protocol.specs.Coordinators.{Coordinator, request_of, has_seat}
-use Rattle.protocol.specs.Nodes.{phase_packets, to_members, resent_to, resent, resent_up_to, ticked}
+use Rattle.fab_base.specs.declared.identities.GroupId.{GroupId}
+use Rattle.fab_base.specs.declared.member_lists.View.{View}
+use Rattle.protocol.specs.Nodes.{phase_packets, to_members, resent_to, resent, resent_up_to, ticked, teaching, each_taught, view_in, ballot_resent}
+use Rattle.protocol.proofs.Packets.{OfEach, each_none, each_both, each_teaching, each_ticked, each_ballot_resent}
+use Rattle.view_laws.proofs.CallSteps.{Calls}
 use Rattle.protocol.specs.Worlds.{World, Operation, number_of, world_ticked}
 use Rattle.protocol.specs.Calms.{operation_of, IsUntouched}
 use Rattle.protocol_laws.proofs.Books.{Books, CallBooks}
 use Rattle.protocol.proofs.Tables.{get_grown}
-use Rattle.calm_laws.proofs.Fresh.{packets_of, repeated_more, IsFresh, IsNumbered, AreFresh, filter_none, filter_every, packets_added, packets_kept, fresh_on, IsOpenAt, opens_at, untouched_before, own_number}
+use Rattle.calm_laws.proofs.Fresh.{IsMade, IsMadeBy, packets_of, repeated_more, IsFresh, IsNumbered, AreFresh, filter_none, filter_every, packets_added, packets_kept, fresh_on, IsOpenAt, opens_at, untouched_before, own_number}
 
-module _ (setting : Setting) (w : World) (books : Books setting w) (numbered : IsNumbered w) (fresh : AreFresh setting w) where
+module _ (setting : Setting) (w : World) (books : Books setting w) (calls : Calls w) (numbered : IsNumbered w) (fresh : AreFresh setting w) where
   -- a brick's clock ticks: each of its open operations sends its present phase again
   module _ (brick : BrickId) where
     abbrev ticked_packets : List Packet
@@ -59,41 +63,84 @@ module _ (setting : Setting) (w : World) (books : Books setting w) (numbered : I
         ap (λ (l : List Packet). record { from = brick; to = member; message = Message.Request call (request seat) } ∷ l)
         (resent_whole call request (seat + 1) members)
 
-    -- of the operation of call k
-    call_are : (k : ℕ) (z : Option Coordinator) → (w.nodes brick.0).calls k ≡ z → (j : ℕ) (packet : Packet)
-        → slice_get (resent setting brick z) j ≡ Some packet → (operation_of w packet ≡ number_of w brick.0 k) × (1 ≤ number_of w brick.0 k)
-    call_are k None is j packet at = let never : ⊥ = cc in absurd never
-    call_are k (Some c) is j packet at =
+    -- a packet is of call k, which is an operation's, or of none
+    abbrev OfCall : ℕ → Packet → Type 0
+    OfCall k packet = ((operation_of w packet ≡ number_of w brick.0 k) × (1 ≤ number_of w brick.0 k)) ⊎ (operation_of w packet ≡ 0)
+
+    -- of the operation of call k, or what teaches its view
+    call_are : (k : ℕ) (z : Option Coordinator) → (w.nodes brick.0).calls k ≡ z → OfEach (OfCall k) (resent setting brick z)
+    call_are k None is = each_none (OfCall k)
+    call_are k (Some c) is =
         let its : CallBooks setting w brick.0 k c = books.calls brick.0 k c is in
-        let some = (books.operations (number_of w brick.0 k) its.operation its.operation_is).from_one in (
+        let some = (books.operations (number_of w brick.0 k) its.operation its.operation_is).from_one in
+        each_teaching (OfCall k) c.call.group (view_in c) (λ later from to. inr refl)
+        (resent_to brick c.call (request_of setting.code c) c.counted 0 c.group.members)
+        (λ j packet at. inl (
           resent_are c.call (request_of setting.code c) c.counted 0 c.group.members j packet at
               ∙ ap (λ (b : ℕ). w.numbers brick.0 b c.call.seq) its.call_boot ∙ ap (λ (l : ℕ). number_of w brick.0 l) its.call_seq,
           some,
-        )
+        ))
 
     -- each packet that is sent again is of the operation of a call of the brick
     each_are : (k : ℕ) (j : ℕ) (packet : Packet) → slice_get (resent_up_to setting brick (w.nodes brick.0).calls k) j ≡ Some packet
-        → (l : ℕ) × (l ≤ k) × (1 ≤ l) × (operation_of w packet ≡ number_of w brick.0 l) × (1 ≤ number_of w brick.0 l)
+        → ((l : ℕ) × (operation_of w packet ≡ number_of w brick.0 l) × (1 ≤ number_of w brick.0 l)) ⊎ (operation_of w packet ≡ 0)
     each_are zero j packet at = let never : ⊥ = cc in absurd never
     each_are (suc k) j packet at = ⊎_elim
         (λ (old : slice_get (resent_up_to setting brick (w.nodes brick.0).calls k) j ≡ Some packet).
-        let was = each_are k j packet old in (was.0, omega (arith, was.1), was.2, was.3, was.4))
+        each_are k j packet old)
         (λ (new : (i : ℕ) × (slice_get (resent setting brick ((w.nodes brick.0).calls (suc k))) i ≡ Some packet)).
-        let own = call_are (suc k) ((w.nodes brick.0).calls (suc k)) refl new.0 packet new.1 in (suc k, omega arith, omega arith, own.0, own.1))
+        ⊎_elim
+        (λ (own : (operation_of w packet ≡ number_of w brick.0 (suc k)) × (1 ≤ number_of w brick.0 (suc k))). inl (suc k, own.0, own.1))
+        (λ (none : operation_of w packet ≡ 0). inr none)
+        (call_are (suc k) ((w.nodes brick.0).calls (suc k)) refl new.0 packet new.1))
         (get_grown (resent_up_to setting brick (w.nodes brick.0).calls k) (resent setting brick ((w.nodes brick.0).calls (suc k))) j packet at)
 
-    pub ticked_numbered : IsNumbered ticked_world
+    -- what the proposal sends again is of no operation
+    ballots_are : OfEach (λ packet. operation_of w packet ≡ 0) (ballot_resent brick (w.nodes brick.0).proposal)
+    ballots_are =
+        each_ballot_resent (λ (packet : Packet). operation_of w packet ≡ 0) brick (w.nodes brick.0).proposal (λ p is to. numbered.drafts brick.0 p is)
+        (λ p is later from to. refl)
+
+    -- all that is sent
+    all_are : (j : ℕ) (packet : Packet) → slice_get ticked_packets j ≡ Some packet
+        → ((l : ℕ) × (operation_of w packet ≡ number_of w brick.0 l) × (1 ≤ number_of w brick.0 l)) ⊎ (operation_of w packet ≡ 0)
     unfolding ticked
+    all_are =
+        each_both (λ (packet : Packet). ((l : ℕ) × (operation_of w packet ≡ number_of w brick.0 l) × (1 ≤ number_of w brick.0 l)) ⊎ (operation_of w packet ≡ 0))
+        (resent_up_to setting brick (w.nodes brick.0).calls (w.nodes brick.0).seq) (ballot_resent brick (w.nodes brick.0).proposal)
+        (each_are (w.nodes brick.0).seq) (λ j packet at. inr (ballots_are j packet at))
+
+    -- its calls were made
+    call_made : (k : ℕ) (c : Coordinator) → (w.nodes brick.0).calls k ≡ Some c → IsMade (w.nodes brick.0) c.call.boot c.call.seq
+    call_made k c is =
+        let its : CallBooks setting w brick.0 k c = books.calls brick.0 k c is in
+        let boots = its.call_boot in
+        let seqs = its.call_seq in
+        let most : k ≤ (w.nodes brick.0).seq = ⊎_elim
+        (λ (later : (w.nodes brick.0).seq < k). absurd (let never : None ≡ Some c = sym (books.fresh_calls brick.0 k later) ∙ is in cc))
+        (λ (within : k ≤ (w.nodes brick.0).seq). within) (cases_lt (w.nodes brick.0).seq k) in
+        ((let low : c.call.boot ≤ (w.nodes brick.0).boot = omega (arith, boots) in low), (λ same. omega (arith, seqs, most)))
+
+    ticked_made : OfEach (IsMadeBy w.nodes) ticked_packets
+    unfolding ticked
+    ticked_made =
+        each_both (IsMadeBy w.nodes) (resent_up_to setting brick (w.nodes brick.0).calls (w.nodes brick.0).seq) (ballot_resent brick (w.nodes brick.0).proposal)
+        (each_ticked (IsMadeBy w.nodes) setting brick (w.nodes brick.0).calls (w.nodes brick.0).seq (λ k c is seat to. call_made k c is)
+        (λ k c is later from to. tt))
+        (each_ballot_resent (IsMadeBy w.nodes) brick (w.nodes brick.0).proposal
+        (λ p is to. let draft = calls.called.drafts brick.0 p is in let now = draft.now in
+        ((let low : p.call.boot ≤ (w.nodes brick.0).boot = omega (arith, now) in low), (λ same. draft.seq)))
+        (λ p is later from to. tt))
+
+    pub ticked_numbered : IsNumbered ticked_world
     ticked_numbered = record {
       numbers = numbered.numbers;
+      drafts = numbered.drafts;
       packets = λ k packet at. ⊎_elim
           (λ (old : slice_get w.packets k ≡ Some packet). numbered.packets k packet old)
-          (λ (new : (j : ℕ) × (slice_get (resent_up_to setting brick (w.nodes brick.0).calls (w.nodes brick.0).seq) j ≡ Some packet)).
-          let own = each_are (w.nodes brick.0).seq new.0 packet new.1 in omega (arith, own.3, own.4))
-          (get_grown w.packets (resent_up_to setting brick (w.nodes brick.0).calls (w.nodes brick.0).seq) k packet at);
-      reached = λ k beyond.
-          let longer = length-append w.packets (resent_up_to setting brick (w.nodes brick.0).calls (w.nodes brick.0).seq) in
-          numbered.reached k (omega (arith, longer, beyond));
+          (λ (new : (j : ℕ) × (slice_get ticked_packets j ≡ Some packet)). ticked_made new.0 packet new.1)
+          (get_grown w.packets ticked_packets k packet at);
+      reached = λ k beyond. let longer = length-append w.packets ticked_packets in numbered.reached k (omega (arith, longer, beyond));
     }
 
     -- an operation of this brick, as it began: its phase is sent once more
@@ -123,20 +170,43 @@ module _ (setting : Setting) (w : World) (books : Books setting w) (numbered : I
           let one : was.0 ≡ o = same_Some was.0 o (sym was.1 ∙ ap (λ a. w.operations a) same ∙ at.operation_is) in
           other (sym was.4 ∙ ap (λ x. x.seq) one)
 
+      from_one : 1 ≤ n
+      from_one = (books.operations n o at.operation_is).from_one
+
       resent_other : (k : ℕ) → k ≢ o.seq → filter is_n (resent setting brick ((w.nodes brick.0).calls k)) ≡ []
       resent_other k other =
           filter_none is_n (resent setting brick ((w.nodes brick.0).calls k))
           (λ j packet at'.
-          let of = call_are k ((w.nodes brick.0).calls k) refl j packet at' in
-          ne_eqb (operation_of w packet) n (λ same. other_call k other of.1 (sym of.0 ∙ same)))
+          ne_eqb (operation_of w packet) n (λ same. ⊎_elim
+          (λ (of : (operation_of w packet ≡ number_of w brick.0 k) × (1 ≤ number_of w brick.0 k)). other_call k other of.1 (sym of.0 ∙ same))
+          (λ (none : operation_of w packet ≡ 0). let from = from_one in omega (arith, none, same, from))
+          (call_are k ((w.nodes brick.0).calls k) refl j packet at')))
+
+      -- what teaches a view is no operation's
+      learn_none : nat_eq 0 n ≡ false
+      learn_none = ne_eqb 0 n (λ same. let from = from_one in omega (arith, same, from))
+
+      teaching_none : (group : GroupId) (view : View) (packets : List Packet) → filter is_n (teaching group view packets) ≡ filter is_n packets
+      teaching_none group view packets =
+          cond_both (nat_lt 1 view.number.0) (each_taught group view packets) packets (λ (l : List Packet). filter is_n l ≡ filter is_n packets)
+          (λ later. pairs packets) (λ isnt. refl)
+        where
+          pairs : (list : List Packet) → filter is_n (each_taught group view list) ≡ filter is_n list
+          pairs [] = refl
+          pairs (packet ∷ list) =
+              ap (λ (b : Bool). if b then record { from = packet.from; to = packet.to; message = Message.Learn group view }
+              ∷ filter is_n (packet ∷ each_taught group view list) else filter is_n (packet ∷ each_taught group view list)) learn_none
+              ∙ ap (λ (l : List Packet). if is_n packet then packet ∷ l else l) (pairs list)
 
       resent_own : filter is_n (resent setting brick ((w.nodes brick.0).calls o.seq)) ≡ phase_packets setting c.stamp.brick c
       resent_own =
-          filter_every is_n (resent setting brick ((w.nodes brick.0).calls o.seq))
+          ap (λ (z : Option Coordinator). filter is_n (resent setting brick z)) here
+          ∙ teaching_none c.call.group (view_in c) (resent_to brick c.call (request_of setting.code c) c.counted 0 c.group.members)
+          ∙ filter_every is_n (resent_to brick c.call (request_of setting.code c) c.counted 0 c.group.members)
           (λ j packet at'.
-          let of = call_are o.seq ((w.nodes brick.0).calls o.seq) refl j packet at' in
-          eq-eqb (operation_of w packet) n (of.0 ∙ number))
-          ∙ ap (λ (z : Option Coordinator). resent setting brick z) here
+          eq-eqb (operation_of w packet) n
+          (resent_are c.call (request_of setting.code c) c.counted 0 c.group.members j packet at'
+          ∙ ap (λ (b : ℕ). w.numbers brick.0 b c.call.seq) call_books.call_boot ∙ ap (λ (l : ℕ). number_of w brick.0 l) call_books.call_seq ∙ number))
           ∙ ap (λ (l : List Counted). resent_to brick c.call (request_of setting.code c) l 0 c.group.members) its.counted
           ∙ resent_whole c.call (request_of setting.code c) 0 c.group.members
           ∙ ap (λ (b : BrickId). phase_packets setting b c) (sym the_brick)
@@ -184,8 +254,14 @@ module _ (setting : Setting) (w : World) (books : Books setting w) (numbered : I
         content = its.content;
         copies = suc its.copies;
         packets =
-            packets_added w ticked_world n (resent_up_to setting brick (w.nodes brick.0).calls (w.nodes brick.0).seq) refl (λ j packet at'. refl)
-            ∙ ap (λ (l : List Packet). packets_of w n ++ l) (resent_to_call (w.nodes brick.0).seq
+            packets_added w ticked_world n ticked_packets refl (λ j packet at'. refl)
+            ∙ ap (λ (l : List Packet). packets_of w n ++ l) (
+            filter-append is_n (resent_up_to setting brick (w.nodes brick.0).calls (w.nodes brick.0).seq) (ballot_resent brick (w.nodes brick.0).proposal)
+            ∙ ap (λ (l : List Packet). filter is_n (resent_up_to setting brick (w.nodes brick.0).calls (w.nodes brick.0).seq) ++ l)
+            (filter_none is_n (ballot_resent brick (w.nodes brick.0).proposal)
+            (λ j packet at'. ne_eqb (operation_of w packet) n (λ same. let none = ballots_are j packet at' in let from = from_one in omega (arith, none, same, from))))
+            ∙ append-nil (filter is_n (resent_up_to setting brick (w.nodes brick.0).calls (w.nodes brick.0).seq))
+            ∙ resent_to_call (w.nodes brick.0).seq
             ∙ cond-false (nat_lt (w.nodes brick.0).seq o.seq) [] (phase_packets setting c.stamp.brick c) (le-ltb (w.nodes brick.0).seq o.seq within))
             ∙ ap (λ (l : List Packet). l ++ phase_packets setting c.stamp.brick c) its.packets
             ∙ repeated_more (suc its.copies) (phase_packets setting c.stamp.brick c);
@@ -197,7 +273,6 @@ module _ (setting : Setting) (w : World) (books : Books setting w) (numbered : I
               subst (λ (j : ℕ). o.seq ≤ (w.nodes j).seq) own most
 
     pub ticked_fresh : AreFresh setting ticked_world
-    unfolding ticked
     ticked_fresh n c opens untouched =
         let at : IsOpenAt w n c = opens_at w n c opens in
         let was : IsUntouched w n = untouched_before w ticked_world n ticked_packets refl (λ j packet at'. refl) (λ k is. is) untouched in
@@ -205,12 +280,15 @@ module _ (setting : Setting) (w : World) (books : Books setting w) (numbered : I
         (λ (own : at.operation.brick.0 ≡ brick.0). once_more n c at own (fresh n c opens was))
         (λ (other : at.operation.brick.0 ≢ brick.0).
         fresh_on setting w ticked_world n c
-        (packets_kept w ticked_world n (resent_up_to setting brick (w.nodes brick.0).calls (w.nodes brick.0).seq) refl (λ j packet at'. refl)
-        (λ j packet at' same.
-        let of = each_are (w.nodes brick.0).seq j packet at' in
-        let theirs = numbered.numbers brick.0 (w.nodes brick.0).boot of.0 of.4 in
+        (packets_kept w ticked_world n ticked_packets refl (λ j packet at'. refl)
+        (λ j packet at' same. ⊎_elim
+        (λ (of : (l : ℕ) × (operation_of w packet ≡ number_of w brick.0 l) × (1 ≤ number_of w brick.0 l)).
+        let theirs = numbered.numbers brick.0 (w.nodes brick.0).boot of.0 of.2 in
         let one : theirs.0 ≡ at.operation
-        = same_Some theirs.0 at.operation (sym theirs.1 ∙ ap (λ a. w.operations a) (sym of.3 ∙ same) ∙ at.operation_is) in
-        other (ap (λ x. x.brick.0) (sym one) ∙ theirs.2)))
+        = same_Some theirs.0 at.operation (sym theirs.1 ∙ ap (λ a. w.operations a) (sym of.1 ∙ same) ∙ at.operation_is) in
+        other (ap (λ x. x.brick.0) (sym one) ∙ theirs.2))
+        (λ (none : operation_of w packet ≡ 0).
+        let from = (books.operations n at.operation at.operation_is).from_one in omega (arith, none, same, from))
+        (all_are j packet at')))
         (fresh n c opens was))
         (cases_eq at.operation.brick.0 brick.0)

@@ -10,6 +10,7 @@ use Rattle.messages.specs.declared.packets.Message.{Message}
 use Rattle.messages.specs.declared.packets.Packet.{Packet}
 use Rattle.messages.specs.declared.replies.Reply.{Reply}
 use Rattle.protocol.specs.Coordinators.{Coordinator, Ignores, Next, answering_seat, call_same, counted_at, counts_at, new_seat, on_reply}
+use Rattle.protocol.specs.Views.{view_told}
 use Rattle.protocol.specs.Nodes.{fresh_stamp, known_after}
 
 -- the time that a brick knows once it heard this packet
@@ -24,11 +25,11 @@ abbrev pub known_through : List Packet → ℕ → ℕ
 known_through [] known = known
 known_through (packet ∷ packets) known = known_through packets (known_from packet known)
 
--- a reply to an earlier phase of the call
+-- a reply to an earlier phase of the call, which teaches no view
 abbrev pub IsStale : Stage → Coordinator → Packet → Type 0
 IsStale stage c packet =
     (from : BrickId) × (call : Call) × (reply : Reply) × (packet ≡ replying stage from call reply) × (call.boot ≡ c.call.boot)
-    × (call.seq ≡ c.call.seq) × (call.phase < c.call.phase)
+    × (call.seq ≡ c.call.seq) × (call.phase < c.call.phase) × (view_told reply ≡ None)
 
 -- such a call is another one
 other_call : (a b : Call) → a.phase < b.phase → call_same a b ≡ false
@@ -61,7 +62,7 @@ stale_pass stage (packet ∷ stale) s rest is old closes =
     let call : Call = old.0.1 in
     let reply : Reply = old.0.2 in
     hears stage s from call reply (stale ++ rest)
-    (record { queue = is ∙ ap (λ (p : Packet). p ∷ (stale ++ rest)) old.0.3; seq = (old.0.4, old.0.5) })
+    (record { queue = is ∙ ap (λ (p : Packet). p ∷ (stale ++ rest)) old.0.3; seq = (old.0.4, old.0.5); plain = old.0.7 })
     (subst (λ (z : Next). Outcome stage (heard s reply (stale ++ rest)) z) (sym (left_out stage s from call reply old.0.6))
     (stale_pass stage stale (heard s reply (stale ++ rest)) rest refl old.1
     (subst (λ (p : Packet). Closes stage (record s { known = known_through stale (known_from p s.known); queue = rest })) old.0.3 closes)))

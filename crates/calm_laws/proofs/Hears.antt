@@ -1,9 +1,11 @@
 -- A reply is delivered: what the coordinator decides on the scene it does in the world.
 use Rattle.protocol_laws.proofs.Books.{version_after}
-use Rattle.std.proofs.Common.{Bool, List, None, Option, Some, [], ap, ap₂, refl, subst, true, ℕ, ◌++◌, ◌+◌, ◌∙◌, ◌∷◌, ◌≡◌}
+use Rattle.fab_base.specs.declared.member_lists.View.{View}
+use Rattle.fab_base.specs.Layouts.{group_of}
+use Rattle.std.proofs.Common.{Bool, cond, false, not, ◌||◌, List, None, Option, Some, [], ap, ap₂, refl, subst, true, ℕ, ◌++◌, ◌+◌, ◌∙◌, ◌∷◌, ◌≡◌}
 use Rattle.std.proofs.lemmas.Bool.{and_parts}
 use Rattle.std.proofs.lemmas.List.{append-nil}
-use Rattle.std.specs.Prelude.{filter, max, nat_lt, ◌-◌}
+use Rattle.std.specs.Prelude.{filter, is_some, max, nat_lt, ◌-◌}
 use Rattle.calm_laws.proofs.Plays.{Finishes, finishes_by, HasEnded, ends_by}
 use Rattle.calm_laws.proofs.Queues.{IsDelivered, IsHead}
 use Rattle.calm_laws.proofs.Scenes.{Each, IsNext, SameCall, Scene, Stage, decision, heard, made, replying, sent, waits, EndsAt}
@@ -18,7 +20,7 @@ use Rattle.messages.specs.declared.replies.Reply.{Reply}
 use Rattle.messages.specs.declared.requests.Request.{Request}
 use Rattle.protocol.specs.Calms.{goes_among, is_left, open_at, operation_of}
 use Rattle.protocol.specs.Coordinators.{Coordinator, Ends, Ignores, Makes, Next, Sends, Waits, on_reply, request_of}
-use Rattle.protocol.specs.Nodes.{Node, carried_out, fresh_stamp, known_after, phase_packets, put, received, replica_at, replied, replied_at, to_members, with_call, with_known, collect_packets}
+use Rattle.protocol.specs.Nodes.{Node, carried_out, fresh_stamp, known_after, phase_packets, put, received, replica_at, replied, replied_at, to_members, with_call, with_known, with_round, may_teach, no_step, then_taught, counts_here, collect_packets}
 use Rattle.protocol.specs.Replicas.{Replica}
 use Rattle.protocol.specs.Worlds.{Operation, World, is_answer, number_of, with_answer, with_made, with_seen}
 
@@ -26,20 +28,34 @@ use Rattle.protocol.specs.Worlds.{Operation, World, is_answer, number_of, with_a
 heard_step : (stage : Stage) (n : ℕ) (w : World) (s : Scene) (from : BrickId) (call : Call) (reply : Reply) (rest : List Packet)
     → Shows stage n w s → IsNext stage s from call reply rest
     → received stage.setting stage.me (w.clocks stage.me.0) (w.nodes stage.me.0) (replying stage from call reply)
-    ≡ carried_out stage.setting stage.me (w.nodes stage.me.0) (known_after s.known reply) s.c (decision stage s from call reply)
+    ≡ carried_out stage.setting stage.me (with_round (w.nodes stage.me.0) reply) (known_after s.known reply) s.c (decision stage s from call reply)
 unfolding received replied
 heard_step stage n w s from call reply rest shows next =
-    ap (λ (z : Option Coordinator). replied_at stage.setting stage.me (w.clocks stage.me.0) from (w.nodes stage.me.0) call reply z)
+    ap (λ (z : Option View). cond (not (is_some z) || may_teach stage.setting.layout z (group_of stage.setting.layout call.group.0))
+    (replied stage.setting stage.me (w.clocks stage.me.0) from (w.nodes stage.me.0) call reply)
+    (no_step (with_known node (known_after (w.nodes stage.me.0).known reply)))) next.plain
+    ∙ ap (λ (z : Option View). then_taught stage.setting.layout.block call.group.0 z
+    (replied_at stage.setting stage.me (w.clocks stage.me.0) from node call reply ((w.nodes stage.me.0).calls call.seq)))
+    (none_counted (counts_here stage.setting.layout from call reply (w.nodes stage.me.0).proposal ((w.nodes stage.me.0).calls call.seq)) next.plain)
+    ∙ ap (λ (z : Option Coordinator). replied_at stage.setting stage.me (w.clocks stage.me.0) from node call reply z)
     (ap (λ (k : ℕ). (w.nodes stage.me.0).calls k) next.seq.1 ∙ shows.call)
-    ∙ ap (λ (k : ℕ). carried_out stage.setting stage.me (w.nodes stage.me.0) (known_after k reply) s.c
+    ∙ ap (λ (k : ℕ). carried_out stage.setting stage.me node (known_after k reply) s.c
     (on_reply stage.setting.layout.block stage.setting.code
     (fresh_stamp stage.me s.c.call.view (w.clocks stage.me.0) (w.nodes stage.me.0).boot (known_after k reply)) s.c from call reply)) shows.known
-    ∙ ap (λ (b : ℕ). carried_out stage.setting stage.me (w.nodes stage.me.0) (known_after s.known reply) s.c
+    ∙ ap (λ (b : ℕ). carried_out stage.setting stage.me node (known_after s.known reply) s.c
     (on_reply stage.setting.layout.block stage.setting.code
     (fresh_stamp stage.me s.c.call.view (w.clocks stage.me.0) b (known_after s.known reply)) s.c from call reply)) shows.node_boot
-    ∙ ap (λ (t : ℕ). carried_out stage.setting stage.me (w.nodes stage.me.0) (known_after s.known reply) s.c
+    ∙ ap (λ (t : ℕ). carried_out stage.setting stage.me node (known_after s.known reply) s.c
     (on_reply stage.setting.layout.block stage.setting.code
     (fresh_stamp stage.me s.c.call.view t s.c.call.boot (known_after s.known reply)) s.c from call reply)) shows.clock
+  where
+    node : Node
+    node = with_round (w.nodes stage.me.0) reply
+
+    -- a reply that teaches no view teaches none that counts
+    none_counted : (counts : Bool) {z : Option View} → z ≡ None → cond counts z None ≡ None
+    none_counted true none = none
+    none_counted false none = refl
 
 -- The coordinator's brick after a reply, where its operation goes on: it knows a time, and has a coordinator; the rest is as before.
 pub record IsHeard (stage : Stage) (w : World) (c : Coordinator) (node : Node) (d : Coordinator) (known : ℕ) : Type 0 where
@@ -47,7 +63,7 @@ pub record IsHeard (stage : Stage) (w : World) (c : Coordinator) (node : Node) (
   pub call : node.calls c.call.seq ≡ Some d
   pub known_is : node.known ≡ known
   pub learnt : node.learnt ≡ (w.nodes stage.me.0).learnt
-  pub accepted : node.accepted ≡ (w.nodes stage.me.0).accepted
+  pub ballots : node.ballots ≡ (w.nodes stage.me.0).ballots
   pub replicas : node.replicas ≡ (w.nodes stage.me.0).replicas
   pub live : node.live ≡ (w.nodes stage.me.0).live
 
@@ -76,7 +92,7 @@ heard_move stage n w later s node d known number rest sent shows nodes up clocks
       ∙ ap (λ (z : Node). z.calls s.c.call.seq) (put_same w.nodes stage.me.0 node) ∙ heard.call;
   known = ap (λ (f : ℕ → Node). (f stage.me.0).known) nodes ∙ ap (λ (z : Node). z.known) (put_same w.nodes stage.me.0 node) ∙ heard.known_is;
   learnt = λ i. ap (λ (f : ℕ → Node). (f i).learnt) nodes ∙ put_field (λ (z : Node). z.learnt) w.nodes stage.me.0 node heard.learnt i;
-  accepted = λ i. ap (λ (f : ℕ → Node). (f i).accepted) nodes ∙ put_field (λ (z : Node). z.accepted) w.nodes stage.me.0 node heard.accepted i;
+  ballots = λ i. ap (λ (f : ℕ → Node). (f i).ballots) nodes ∙ put_field (λ (z : Node). z.ballots) w.nodes stage.me.0 node heard.ballots i;
   parts = λ brick one. record {
     replica = ap (λ (f : ℕ → Node). replica_at (f brick.0) s.c.call) nodes
         ∙ put_field (λ (z : Node). replica_at z s.c.call) w.nodes stage.me.0 node
@@ -107,7 +123,7 @@ pub record IsClosed (stage : Stage) (w : World) (c : Coordinator) (node : Node) 
   pub boot : node.boot ≡ (w.nodes stage.me.0).boot
   pub call : node.calls c.call.seq ≡ None
   pub learnt : node.learnt ≡ (w.nodes stage.me.0).learnt
-  pub accepted : node.accepted ≡ (w.nodes stage.me.0).accepted
+  pub ballots : node.ballots ≡ (w.nodes stage.me.0).ballots
   pub replicas : node.replicas ≡ (w.nodes stage.me.0).replicas
 
 -- the operation, as the world has it then
@@ -152,7 +168,7 @@ closes_at stage n w later s node seen stored shows nodes up packets closed o end
   members = λ brick one.
       serves_on stage w later s.c s.c brick same_itself up
       (λ i. ap (λ (f : ℕ → Node). (f i).learnt) nodes ∙ put_field (λ (z : Node). z.learnt) w.nodes stage.me.0 node closed.learnt i)
-      (λ i. ap (λ (f : ℕ → Node). (f i).accepted) nodes ∙ put_field (λ (z : Node). z.accepted) w.nodes stage.me.0 node closed.accepted i)
+      (λ i. ap (λ (f : ℕ → Node). (f i).ballots) nodes ∙ put_field (λ (z : Node). z.ballots) w.nodes stage.me.0 node closed.ballots i)
       (shows.members brick one);
   kept = λ brick one.
       ap (λ (f : ℕ → Node). replica_at (f brick.0) s.c.call) nodes
@@ -174,7 +190,7 @@ module _ (stage : Stage) (n : ℕ) (w : World) (s : Scene) (from : BrickId) (cal
   known = known_after s.known reply
 
   abbrev me_node : Node
-  me_node = w.nodes stage.me.0
+  me_node = with_round (w.nodes stage.me.0) reply
 
   -- it is known what follows the delivery
   after_step : (z : Next) (d : Coordinator) → SameCall s.c d → decision stage s from call reply ≡ z
@@ -198,7 +214,7 @@ module _ (stage : Stage) (n : ℕ) (w : World) (s : Scene) (from : BrickId) (cal
       (record s { known = known; queue = rest ++ [] }) packet rest [] shows head
       (heard_move stage n w (world_by stage w (1 + head.place) packet (carried_out stage.setting stage.me me_node known s.c Ignores)) s
       (with_known me_node known) s.c known (1 + head.place) rest [] shows refl refl refl
-      (record { boot = refl; call = shows.call; known_is = refl; learnt = refl; accepted = refl; replicas = refl; live = refl })
+      (record { boot = refl; call = shows.call; known_is = refl; learnt = refl; ballots = refl; replicas = refl; live = refl })
       (record { operation = shows.operation; is = shows.is; brick = refl; boot = refl; seq = refl })
       (record { numbers = refl; reached = refl; packets = refl; own = tt })
       (record { group = refl; boot = refl; seq = refl; of_group = refl; view = refl; stripe = refl })))))
@@ -220,7 +236,7 @@ module _ (stage : Stage) (n : ℕ) (w : World) (s : Scene) (from : BrickId) (cal
         call = put_same me_node.calls s.c.call.seq (Some d);
         known_is = refl;
         learnt = refl;
-        accepted = refl;
+        ballots = refl;
         replicas = refl;
         live = refl;
       })
@@ -243,7 +259,7 @@ module _ (stage : Stage) (n : ℕ) (w : World) (s : Scene) (from : BrickId) (cal
         call = put_same me_node.calls s.c.call.seq (Some d);
         known_is = refl;
         learnt = refl;
-        accepted = refl;
+        ballots = refl;
         replicas = refl;
         live = refl;
       })
@@ -278,7 +294,7 @@ module _ (stage : Stage) (n : ℕ) (w : World) (s : Scene) (from : BrickId) (cal
         call = put_same me_node.calls s.c.call.seq (Some d);
         known_is = refl;
         learnt = refl;
-        accepted = refl;
+        ballots = refl;
         replicas = refl;
         live = refl;
       })
@@ -317,7 +333,7 @@ module _ (stage : Stage) (n : ℕ) (w : World) (s : Scene) (from : BrickId) (cal
 
       node_closed : IsClosed stage w s.c node
       node_closed =
-          record { boot = refl; call = put_same me_node.calls s.c.call.seq None; learnt = refl; accepted = refl; replicas = refl }
+          record { boot = refl; call = put_same me_node.calls s.c.call.seq None; learnt = refl; ballots = refl; replicas = refl }
 
       -- the world after the end
       ended : (number : ℕ) (seen : Option Stamp) → EndsAt stage s.c.phase s.c.stamp s.parts seen stored

@@ -9,7 +9,7 @@ use Rattle.fab_base.specs.declared.stamps.Stamp.{Stamp}
 use Rattle.messages.specs.declared.requests.Version.{Version}
 use Rattle.protocol.specs.Calms.{operation_of}
 use Rattle.protocol.specs.Coordinators.{Coordinator}
-use Rattle.protocol.specs.Nodes.{first_phase, group_at, has_block, has_length, phase_packets, replica_at}
+use Rattle.protocol.specs.Nodes.{first_phase, group_at, has_block, has_length, phase_packets, replica_at, view_at}
 use Rattle.protocol.specs.Replicas.{is_held, top_of}
 use Rattle.protocol.specs.Settings.{Setting}
 use Rattle.protocol.specs.Worlds.{Operation, World, is_brick}
@@ -20,7 +20,8 @@ abbrev pub repeated : {A : Type 0} → ℕ → List A → List A
 repeated zero xs = []
 repeated (suc k) xs = xs ++ repeated k xs
 
--- The operation's call, which no reply has reached: it is in its first phase.
+-- The operation's call, in view 1, which no reply has reached: it is in its first phase. A brick that has learnt no later view of the group has the layout's
+-- members of it.
 pub record KnownCall (setting : Setting) (w : World) (n : ℕ) (o : Operation) (c : Coordinator) : Type 0 where
   pub brick : is_brick setting.layout o.brick ≡ true
   pub ask : c.ask ≡ o.ask
@@ -31,7 +32,7 @@ pub record KnownCall (setting : Setting) (w : World) (n : ℕ) (o : Operation) (
   pub view : c.call.view.0 ≡ 1
   pub stripe : c.call.stripe ≡ c.ask.stripe
   pub group_is : group_of setting.layout c.ask.group.0 ≡ Some c.group
-  pub groups : (i : ℕ) → group_at setting.layout (w.nodes i) c.ask.group.0 ≡ Some c.group
+  pub groups : (i : ℕ) → view_at (w.nodes i) c.ask.group.0 ≡ 1 → group_at setting.layout (w.nodes i) c.ask.group.0 ≡ Some c.group
   pub within : c.ask.stripe.0 < c.group.stripes
   pub block_fits : has_block c.group.m c.ask.op ≡ true
   pub length_fits : has_length c.group.m setting.layout.block c.ask.op ≡ true
@@ -48,15 +49,15 @@ pub record KnownMessages (setting : Setting) (w : World) (n : ℕ) (o : Operatio
   pub sent : filter (λ packet. nat_eq (operation_of w packet) n) w.packets ≡ repeated (suc copies) (phase_packets setting o.brick c)
   pub unsent : (k : ℕ) → length w.packets < k → w.reached k ≡ false
 
--- The logs of its stripe, by brick. Each ascends, from the first stamp or from one that a quorum has held, and keeps what was held that is not below
--- that; none has come to a stamp of a view past the first; no log has the operation's own stamp; and blocks have the length of one.
+-- The logs of its stripe in view 1, by brick. Each ascends. At a brick that has learnt no later view of the group it begins with the first stamp or with one that
+-- a quorum has held, and keeps what was held that is not below that; none has come to a stamp of a view past the first; no log has the operation's own stamp; and blocks have the length of one.
 pub record KnownLogs (setting : Setting) (w : World) (c : Coordinator) : Type 0 where
   pub ascends : (i : ℕ) → LogAscends (replica_at (w.nodes i) c.call).log
   pub lowest : ℕ → Stamp
   pub stands : (i : ℕ) → (lowest i ≡ first_stamp)
       ⊎ (quorum_of c.group ≤ count (length c.group.members) (λ seat. w.held (brick_at c.group seat) c.call.group.0 c.call.stripe.0 (lowest i)))
   pub first_held : (i : ℕ) → w.held i c.call.group.0 c.call.stripe.0 first_stamp ≡ true
-  pub logged : (i : ℕ) (t : Stamp) → w.held i c.call.group.0 c.call.stripe.0 t ≡ true
+  pub logged : (i : ℕ) (t : Stamp) → view_at (w.nodes i) c.call.group.0 ≡ 1 → w.held i c.call.group.0 c.call.stripe.0 t ≡ true
       → (is_held t (replica_at (w.nodes i) c.call).log ≡ true) ⊎ (stamp_below t (lowest i) ≡ true)
   pub top_view : (i : ℕ) → (top_of (replica_at (w.nodes i) c.call)).view.0 ≤ 1
   pub unheld : (i : ℕ) → is_held c.stamp (replica_at (w.nodes i) c.call).log ≡ false

@@ -1,7 +1,7 @@
 -- Where just a quorum of an operation's members hear one another, its Collects leave each of them its version only.
-use Rattle.std.proofs.Common.{◌≡◌, ℕ, suc, ◌+◌, ◌≤◌, ◌&&◌, true, not, nat_lt, List, [], ◌∷◌, ◌++◌, map, Option, Some, None, refl, sym, ap, ◌∙◌, subst, ⊎_elim, take, eqb-true, inl}
+use Rattle.std.proofs.Common.{◌≡◌, ℕ, suc, ◌+◌, ◌≤◌, ◌&&◌, true, nat_lt, List, [], ◌∷◌, ◌++◌, map, Option, Some, None, refl, sym, ap, ◌∙◌, subst, ⊎_elim, take, eqb-true, inl}
 use Rattle.std.specs.Prelude.{is_some, nat_eq, slice_get}
-use Rattle.std.proofs.lemmas.Bool.{false≢true, or_cases, and_parts, and_from, cond-true}
+use Rattle.std.proofs.lemmas.Bool.{false≢true, or_cases, and_from, cond-true}
 use Rattle.std.proofs.lemmas.Option.{same_Some}
 use Rattle.fab_base.specs.Layouts.{Layout, Group, group_of, seat_in}
 use Rattle.fab_base.specs.declared.asks.Ask.{Ask}
@@ -14,7 +14,7 @@ use Rattle.messages.specs.declared.requests.Request.{Request}
 use Rattle.messages.specs.declared.requests.Version.{Version}
 use Rattle.protocol.specs.Calms.{IsCalm}
 use Rattle.protocol.specs.Coordinators.{Coordinator}
-use Rattle.protocol.specs.Nodes.{Node, collect_packets, is_served, replica_at, to_members, view_at}
+use Rattle.protocol.specs.Nodes.{Node, collect_packets, replica_at, to_members, view_at}
 use Rattle.protocol.specs.Replicas.{Replica, not_below}
 use Rattle.protocol.specs.Settings.{IsSound, Setting}
 use Rattle.protocol.specs.Worlds.{Delivers, Event, Operation, World, first_world, is_up, run}
@@ -38,7 +38,7 @@ use Rattle.protocol.proofs.Events.{run-append}
 use Rattle.calm_laws.proofs.Scenes.{Each, EndsAt, IsNewest, Part, Stage}
 use Rattle.calm_laws.proofs.Shows.{IsMember, call_same_but}
 use Rattle.calm_laws.proofs.Storing.{held_newest}
-use Rattle.calm_laws.specs.Laws.{AreCollects, AreJustQuorum, CollectsLeaveOne, EncodesBlocks, HasOnly, IsCollect, IsMemberAmong, LeavesOne, most_records}
+use Rattle.calm_laws.specs.Laws.{AreCollects, AreJustQuorum, CollectsLeaveOne, EncodesBlocks, HasOnly, IsCollect, IsMemberAmong, LeavesOne, RunsInFirst, most_records}
 use Rattle.calm_laws.specs.Logs.{is_stripe, log_in}
 use Rattle.quorum.specs.Quorums.{quorum_of}
 
@@ -83,19 +83,15 @@ sent_each me call request seat (member ∷ members) brick seated = ⊎_elim
 
 -- a brick that serves a call shows the log that it keeps for it
 shown_log : (layout : Layout) (v : World) (brick : BrickId) (group : Group) (call : Call) (g s : ℕ) → group_of layout g ≡ Some group → call.group.0 ≡ g
-    → call.stripe.0 ≡ s → is_up layout v brick ≡ true → is_served group (v.nodes brick.0) call ≡ true
+    → call.stripe.0 ≡ s → is_up layout v brick ≡ true → nat_lt call.stripe.0 group.stripes ≡ true → view_at (v.nodes brick.0) call.group.0 ≡ call.view.0
     → log_in layout v brick g s ≡ Some (replica_at (v.nodes brick.0) call).log
-shown_log layout v brick group call g s group_is of_group of_stripe up served =
-    let within = and_parts (nat_lt call.stripe.0 group.stripes) (nat_eq call.view.0 (view_at node call.group.0) && not (node.accepted call.group.0)) served in
-    let view : call.view.0 ≡ view_at node call.group.0
-    = eqb-true call.view.0 (view_at node call.group.0)
-    (and_parts (nat_eq call.view.0 (view_at node call.group.0)) (not (node.accepted call.group.0)) within.1).0 in
+shown_log layout v brick group call g s group_is of_group of_stripe up within view =
     let there : is_stripe (group_of layout g) s ≡ true
-    = ap (λ (z : Option Group). is_stripe z s) group_is ∙ ap (λ (j : ℕ). nat_lt j group.stripes) (sym of_stripe) ∙ within.0 in
+    = ap (λ (z : Option Group). is_stripe z s) group_is ∙ ap (λ (j : ℕ). nat_lt j group.stripes) (sym of_stripe) ∙ within in
     cond-true (is_stripe (group_of layout g) s && is_up layout v brick) (Some (node.replicas g (view_at node g) s).log) None
     (and_from (is_stripe (group_of layout g) s) (is_up layout v brick) there up)
     ∙ ap (λ (i : ℕ). Some (node.replicas i (view_at node i) s).log) (sym of_group)
-    ∙ ap (λ (e : ℕ). Some (node.replicas call.group.0 e s).log) (sym view)
+    ∙ ap (λ (e : ℕ). Some (node.replicas call.group.0 e s).log) view
     ∙ ap (λ (j : ℕ). Some (node.replicas call.group.0 call.view.0 j).log) (sym of_stripe)
   where
     node : Node
@@ -113,7 +109,7 @@ ends_stored stage c o parts t None (Some u) its made version ends =
 
 module _ (setting : Setting) (events : List Event) (n : ℕ) (bricks : List BrickId) (sound : IsSound setting) (encodes : EncodesBlocks setting)
     (small : setting.layout.records ≤ most_records) (calm : IsCalm setting (run setting events (first_world setting.layout)) n bricks)
-    (exactly : AreJustQuorum calm.coordinator bricks) (t : Stamp) where
+    (first : RunsInFirst calm.coordinator) (exactly : AreJustQuorum calm.coordinator bricks) (t : Stamp) where
   abbrev w : World
   w = run setting events (first_world setting.layout)
 
@@ -121,7 +117,7 @@ module _ (setting : Setting) (events : List Event) (n : ℕ) (bricks : List Bric
   c = calm.coordinator
 
   known : Known setting w n calm.operation c
-  known = known_of setting events n bricks sound encodes small calm
+  known = known_of setting events n bricks sound encodes small calm first
 
   abbrev stage : Stage
   stage = record {
@@ -205,7 +201,14 @@ module _ (setting : Setting) (events : List Event) (n : ℕ) (bricks : List Bric
           (subst (λ (z : Stamp). not_below z log ≡ newest.0 ∷ []) newest.2 (only_newest log newest.0 ascends once newest.1))
           numbers last collects.each own.0 own.1 own.2 own.3
           (inl (record {
-            member = record { up = member.up; group = member.group; served = member.served };
+            member = record {
+              up = member.up;
+              group = member.group;
+              stripe = member.stripe;
+              from_one = member.from_one;
+              view = member.view;
+              free = member.free;
+            };
             log_is = refl;
             packets = λ number packet is. is;
           })) in (
@@ -213,7 +216,7 @@ module _ (setting : Setting) (events : List Event) (n : ℕ) (bricks : List Bric
             shown_log setting.layout (run setting (map (λ number. Delivers number) numbers) last) brick c.group c.call calm.operation.ask.group.0
                 calm.operation.ask.stripe.0 (ap (λ (a : Ask). group_of setting.layout a.group.0) (sym known.call.ask) ∙ known.call.group_is)
                 (ap (λ g. g.0) known.call.of_group ∙ ap (λ (a : Ask). a.group.0) known.call.ask)
-                (ap (λ s. s.0) known.call.stripe ∙ ap (λ (a : Ask). a.stripe.0) known.call.ask) keeps.member.up keeps.member.served
+                (ap (λ s. s.0) known.call.stripe ∙ ap (λ (a : Ask). a.stripe.0) known.call.ask) keeps.member.up keeps.member.stripe keeps.member.view
                 ∙ ap (λ (l : List Version). Some l) keeps.log_is
                 ∙ ap (λ (s : Stamp). Some ((let x : Version = record { stamp = s; block = newest.0.block } in x) ∷ [])) newest.2,
           )
@@ -242,12 +245,12 @@ module _ (setting : Setting) (events : List Event) (n : ℕ) (bricks : List Bric
 
 -- after every schedule
 pub collects_leave : CollectsLeaveOne
-collects_leave setting events n bricks sound encodes small calm alone last runs exactly operation t is made version =
+collects_leave setting events n bricks sound encodes small calm first alone last runs exactly operation t is made version =
     let w : World = run setting events (first_world setting.layout) in
-    let finish = finishes setting sound encodes w n bricks calm (known_of setting events n bricks sound encodes small calm) in
+    let finish = finishes setting sound encodes w n bricks calm (known_of setting events n bricks sound encodes small calm first) in
     let same : finish.last ≡ last = (runs_once setting n bricks w finish.events finish.last finish.alone alone last runs).1 in
     let its : finish.end.operation ≡ operation
     = same_Some finish.end.operation operation (sym finish.end.is ∙ ap (λ (z : World). z.operations n) same ∙ is) in
     subst (λ (z : World). LeavesOne setting z calm.operation calm.coordinator t bricks) same
-    (leaves_one setting events n bricks sound encodes small calm exactly t finish
+    (leaves_one setting events n bricks sound encodes small calm first exactly t finish
     (ap (λ (o : Operation). o.made) its ∙ made) (ap (λ (o : Operation). o.version) its ∙ version))

@@ -41,3 +41,4 @@ pub mod Shows
 pub mod Starts
 pub mod StorePhases
 pub mod Storing
+pub mod Telling

@@ -4,7 +4,7 @@ use Rattle.std.proofs.lemmas.Bool.{eq-eqb}
 use Rattle.std.specs.Prelude.{max, nat_eq, slice_get, ◌^◌}
 use Rattle.calm_laws.proofs.Asking.{Holds, Keeps, Replies, each_then, told_all, told_replies}
 use Rattle.calm_laws.proofs.Counts.{Carries, counted_of, decides, fresh_at, told}
-use Rattle.calm_laws.proofs.Decided.{asked_in_phase, look_at_decides, look_decides, none_full}
+use Rattle.calm_laws.proofs.Decided.{asked_in_phase, look_at_decides, look_decides, none_stops, AreRoomy}
 use Rattle.calm_laws.proofs.Descending.{Lore, after_replies, having}
 use Rattle.calm_laws.proofs.FirstRounds.{IsFirst, IsLow}
 use Rattle.calm_laws.proofs.Hearing.{known_through}
@@ -29,7 +29,7 @@ use Rattle.messages.specs.declared.requests.Request.{Request}
 use Rattle.messages.specs.declared.requests.Version.{Version}
 use Rattle.messages.specs.declared.requests.Want.{Want}
 use Rattle.protocol.specs.Calms.{early}
-use Rattle.protocol.specs.Coordinators.{Coordinator, Ends, Next, Sends, answered_fast, answered_fast_at, answers_phase, bytes_at, decided, fast_version, fast_version_at, in_phase, lowest_full, pieces_of, request_of}
+use Rattle.protocol.specs.Coordinators.{Coordinator, Ends, Next, Sends, answered_fast, answered_fast_at, answers_phase, bytes_at, decided, fast_version, fast_version_at, in_phase, pieces_of, request_of}
 use Rattle.protocol.specs.Nodes.{full_at, put, reply_packets}
 use Rattle.protocol.specs.Replicas.{Reaction, Replica, handle, is_wanted, newest_of, stays, told_version, top_of}
 use Rattle.protocol.specs.declared.phases.Counted.{Counted}
@@ -89,7 +89,7 @@ pub record IsLooking (stage : Stage) (s : Scene) (want : Want) : Type 0 where
   pub answers_some : (x : Seated) (order : Stamp) (version : Version)
       → nat_eq (length version.block) (cond (is_wanted want x.seat) stage.setting.layout.block 0) ≡ true
       → answers_phase stage.setting.layout.block s.c.stamp x.seat s.c.phase (Found order (Some version)) ≡ true
-  pub decides_so : (fresh : Option Stamp) (counted : List Counted) → lowest_full counted ≡ None
+  pub decides_so : (fresh : Option Stamp) (counted : List Counted) → AreRoomy counted
       → (decided stage.setting.layout.block stage.setting.code fresh (having s.c counted) ≡ Sends (in_phase (having s.c counted) Recovers))
       ⊎ ((bytes : List ℕ) × (seen : Option Stamp)
       × (decided stage.setting.layout.block stage.setting.code fresh (having s.c counted) ≡ Ends (Data bytes) seen None))
@@ -171,7 +171,7 @@ module _ (stage : Stage) (cast : Cast stage) (logs : ℕ → List Version) (lore
       both : (ys : List Seated)
           → Each (λ x. (k : ℕ) (version : Version) → slice_get (logs x.brick.0) k ≡ Some version → length version.block ≡ stage.setting.layout.block) ys
           → Each (λ x. ((s.parts x.brick.0).replica.log ≡ logs x.brick.0) × Room stage (s.parts x.brick.0)
-          × IsLow early (top_of (s.parts x.brick.0).replica)) ys
+          × IsLow s.c.call.view.0 early (top_of (s.parts x.brick.0).replica)) ys
           → Each (λ x. answers_phase stage.setting.layout.block s.c.stamp x.seat s.c.phase (f x) ≡ true) ys
       both [] long starts = tt
       both (y ∷ ys) long starts =
@@ -198,7 +198,7 @@ module _ (stage : Stage) (cast : Cast stage) (logs : ℕ → List Version) (lore
         quiet = looks_quiet stage s.c want looking_is.asks first.open_is.others before (max known s.c.stamp.time);
         round = first.round;
         view = first.view;
-        call_view = first.call_view;
+        from_one = first.from_one;
         stamp_known = omega arith;
         known_early = omega (arith, same, low, own);
         starts = both cast.xs still first.starts;
@@ -207,15 +207,15 @@ module _ (stage : Stage) (cast : Cast stage) (logs : ℕ → List Version) (lore
     where
       both : (ys : List Seated) → Holds (IsStill stage replicas) parts ys
           → Each (λ x. ((s.parts x.brick.0).replica.log ≡ logs x.brick.0) × Room stage (s.parts x.brick.0)
-          × IsLow early (top_of (s.parts x.brick.0).replica)) ys
+          × IsLow s.c.call.view.0 early (top_of (s.parts x.brick.0).replica)) ys
           → Each (λ x. ((parts x.brick.0).replica.log ≡ logs x.brick.0) × Room stage (parts x.brick.0)
-          × IsLow early (top_of (parts x.brick.0).replica)) ys
+          × IsLow s.c.call.view.0 early (top_of (parts x.brick.0).replica)) ys
       both [] still starts = tt
       both (y ∷ ys) still starts = (
         (
           ap (λ (r : Replica). r.log) still.0.0 ∙ starts.0.0,
           still.0.1,
-          subst (λ (r : Replica). IsLow early (top_of r)) (sym still.0.0) starts.0.2,
+          subst (λ (r : Replica). IsLow s.c.call.view.0 early (top_of r)) (sym still.0.0) starts.0.2,
         ),
         both ys still.1 starts.1,
       )
@@ -226,11 +226,11 @@ module _ (stage : Stage) (cast : Cast stage) (logs : ℕ → List Version) (lore
       open_run stage cast s first.open_is (IsStill stage replicas) f (omega (arith, early)) (λ x seated. looking_is.fits x)
       (still_keeps stage s.c want replicas looking_is.asks) (still_replies stage s.c want replicas looking_is.asks)
       (each_then (λ (x : Seated). ((s.parts x.brick.0).replica.log ≡ logs x.brick.0) × Room stage (s.parts x.brick.0)
-      × IsLow early_time (top_of (s.parts x.brick.0).replica)) (λ (x : Seated). IsStill stage replicas x.brick.0 (s.parts x.brick.0)) cast.xs
+      × IsLow s.c.call.view.0 early_time (top_of (s.parts x.brick.0).replica)) (λ (x : Seated). IsStill stage replicas x.brick.0 (s.parts x.brick.0)) cast.xs
       (λ x start. (refl, start.1)) first.starts)
       told_answers
       (λ before parts still. go before parts still
-      (looking_is.decides_so (fresh_at stage s.c known) counted (none_full f (λ x. refl) cast.xs)))
+      (looking_is.decides_so (fresh_at stage s.c known) counted (none_stops f (λ x. refl) (λ x. refl) cast.xs)))
     where
       early_time : ℕ
       early_time = 2 ^ 63

@@ -12,11 +12,14 @@ use Rattle.messages.specs.declared.replies.Reply.TheVariants.{Later, Stored, Ord
 use Rattle.messages.specs.declared.requests.Request.{Request}
 use Rattle.messages.specs.declared.requests.Request.TheVariants.{Read, Order, OrderRead, Write, Modify, Collect, OldRead, Prepare, Accept}
 use Rattle.messages.specs.declared.requests.Version.{Version}
-use Rattle.protocol.specs.Nodes.{Node, first_node, full_at, replica_at, requested}
-use Rattle.protocol.specs.Replicas.{Replica, Reaction, top_of, is_held, newest_of, first_replica, not_below, stays, unless_full, promised, stored, ignored, handle, modified_block, modified_on, is_wanted, told_version, looked_up}
+use Rattle.protocol.specs.Nodes.{Node, full_at, replica_at, requested, with_learnt}
+use Rattle.protocol.specs.Replicas.{Replica, Reaction, top_of, is_held, newest_of, first_replica, fresh_replica, not_below, stays, unless_full, promised, stored, ignored, handle, modified_block, modified_on, is_wanted, told_version, looked_up}
 use Rattle.protocol.specs.Settings.{Code, Setting}
 use Rattle.protocol.specs.Worlds.{Event, first_world, run}
-use Rattle.protocol_laws.proofs.FirstViews.{IsInFirst}
+use Rattle.protocol_laws.proofs.StampViews.{NodeViews}
+use Rattle.protocol_laws.proofs.Teaching.{newly_learnt, dropped_each}
+use Rattle.fab_base.specs.declared.member_lists.View.{View}
+use Rattle.protocol.specs.Views.{first_kept, is_later}
 use Rattle.protocol_laws.proofs.Logs.{LogAscends, among, among_held, at_least, newest_held}
 use Rattle.protocol_laws.proofs.Reactions.{modified_each}
 use Rattle.protocol.proofs.Served.{parts_each, request_each}
@@ -105,24 +108,33 @@ handle_once code m full seat r (Accept ballot members) once = once
 abbrev pub LogsOnce : Node → Type 0
 LogsOnce node = (g e s : ℕ) → IsOnce (node.replicas g e s).log
 
-request_once : (setting : Setting) (me from : BrickId) (node : Node) (call : Call) (request : Request) → IsInFirst setting.layout node → LogsOnce node
+request_once : (setting : Setting) (me from : BrickId) (node : Node) (call : Call) (request : Request) → NodeViews setting.layout node → LogsOnce node
     → LogsOnce (requested setting me from node call request).node
-request_once setting me from node call request first once =
-    request_each (λ step. LogsOnce step.node) setting me from node call request once
-    (λ group seat here at view.
+request_once setting me from node call request has once =
+    request_each (λ step. LogsOnce step.node) setting me from node call request once (λ reply is. once)
+    (λ group seat here is.
     let full : Option ℕ = full_at setting.layout.records node.live in
     parts_each (λ g e s r. IsOnce r.log) node call (handle setting.code group.m full seat (replica_at node call) request)
     (handle_once setting.code group.m full seat (replica_at node call) request (once call.group.0 call.view.0 call.stripe.0)) once)
+    (λ group ballot asks here. once)
+
+-- a fresh part has each stamp once
+fresh_once : (block e : ℕ) → IsOnce (fresh_replica block e).log
+fresh_once block e = cond_both (nat_eq e 1) (first_replica block) _ (λ (r : Replica). IsOnce r.log) (λ one. (refl, tt)) (λ other. tt)
+
+-- and so have the logs that a view leaves, which a brick learns
+view_once : (setting : Setting) (group : ℕ) (node : Node) (view : View) → NodeViews setting.layout node → is_later (node.learnt group) view ≡ true
+    → LogsOnce node → LogsOnce (with_learnt setting.layout.block group node (newly_learnt view))
+view_once setting group node view has later once =
+    dropped_each (λ g e s r. IsOnce r.log) setting.layout.block group (first_kept (newly_learnt view)) node once
+    (λ e s before. fresh_once setting.layout.block e)
 
 -- so have all logs in every run
 pub always_once : (setting : Setting) (events : List Event) (i : ℕ) → LogsOnce ((run setting events (first_world setting.layout)).nodes i)
 always_once setting events =
     always_kept setting LogsOnce
-    (λ old new live replicas once g e s. subst (λ (f : ℕ → ℕ → ℕ → Replica). IsOnce (f g e s).log) (sym replicas) (once g e s))
-    (request_once setting) fresh events
-  where
-    fresh : LogsOnce (first_node setting.layout)
-    fresh g e s = cond_both (nat_eq e 1) (first_replica setting.layout.block) _ (λ (r : Replica). IsOnce r.log) (λ one. (refl, tt)) (λ other. tt)
+    (λ old new like once g e s. subst (λ (f : ℕ → ℕ → ℕ → Replica). IsOnce (f g e s).log) (sym like.replicas) (once g e s))
+    (request_once setting) (view_once setting) (λ g e s. fresh_once setting.layout.block e) events
 
 -- what is not below the newest version is that version
 pub only_newest : (log : List Version) (version : Version) → LogAscends log → IsOnce log → newest_of log ≡ Some version

@@ -20,7 +20,7 @@ use Rattle.messages.specs.declared.requests.Request.{Request}
 use Rattle.messages.specs.declared.requests.Version.{Version}
 use Rattle.messages.specs.declared.requests.Want.{Want}
 use Rattle.protocol.specs.Coordinators.{Coordinator, request_of}
-use Rattle.protocol.specs.Nodes.{fits_block, full_at}
+use Rattle.protocol.specs.Nodes.{fits, full_at}
 use Rattle.protocol.specs.Replicas.{Reaction, below, handle, is_held, is_wanted, looked_up, newest_of, promised, told_version, top_of}
 use Rattle.protocol.specs.declared.phases.Phase.TheVariants.{Descends, Orders, OrdersAt, Recovers}
 
@@ -90,10 +90,10 @@ orders_ask stage c phase x = asked_in_phase stage.setting.code c Orders x.seat p
 pub read_fits : (stage : Stage) (c : Coordinator) (t : Stamp) (look : Look) (want : Want) (x : Seated)
     → asked_of stage c x ≡ Request.OrderRead t look want → Fits stage c x
 read_fits stage c t look want x asks =
-    ap (λ (r : Request). fits_block stage.setting.layout.block stage.group.m x.seat r) asks
+    ap (λ (r : Request). fits stage.setting.layout stage.group.m c.call r (Some x.seat)) asks
 
 pub order_fits : (stage : Stage) (c : Coordinator) (t : Stamp) (x : Seated) → asked_of stage c x ≡ Request.Order t → Fits stage c x
-order_fits stage c t x asks = ap (λ (r : Request). fits_block stage.setting.layout.block stage.group.m x.seat r) asks
+order_fits stage c t x asks = ap (λ (r : Request). fits stage.setting.layout stage.group.m c.call r (Some x.seat)) asks
 
 -- what is held among some versions passes their test
 passes_among : (p : Stamp → Bool) (d : Stamp) (log : List Version) → is_held d (among p log) ≡ true → p d ≡ true

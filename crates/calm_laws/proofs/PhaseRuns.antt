@@ -1,7 +1,7 @@
 -- A phase alone: what is left of earlier phases is left out, each member is asked, and the first quorum of them decides.
-use Rattle.std.proofs.Common.{List, [], ap, ap₂, arith, false, length, map, refl, subst, sym, true, zero-add, ℕ, ◌++◌, ◌+◌, ◌<◌, ◌∙◌, ◌∷◌, ◌≡◌, ◌≤◌}
+use Rattle.std.proofs.Common.{None, List, [], ap, ap₂, arith, false, length, map, refl, subst, sym, true, zero-add, ℕ, ◌++◌, ◌+◌, ◌<◌, ◌∙◌, ◌∷◌, ◌≡◌, ◌≤◌}
 use Rattle.std.specs.Prelude.{◌-◌, ◌^◌}
-use Rattle.calm_laws.proofs.Asking.{Gives, Holds, IsReply, Keeps, Replies, all_given, asks_pass, each_then, holds_on, reacted_all, told_all, told_exactly, told_replies}
+use Rattle.calm_laws.proofs.Asking.{Gives, Holds, IsReply, Keeps, Replies, all_given, asks_pass, each_then, holds_on, reacted_all, reaction_teaches, told_all, told_exactly, told_replies}
 use Rattle.calm_laws.proofs.Counts.{AreNew, Carries, counted_of, decides, new_from, replies_pass, told}
 use Rattle.calm_laws.proofs.Hearing.{IsStale, known_through, stale_pass}
 use Rattle.calm_laws.proofs.Queues.{waiting}
@@ -9,6 +9,7 @@ use Rattle.calm_laws.proofs.Scenes.{Closes, Each, Fits, IsSeated, Part, SameCall
 use Rattle.messages.specs.declared.packets.Packet.{Packet}
 use Rattle.messages.specs.declared.replies.Reply.{Reply}
 use Rattle.protocol.specs.Coordinators.{Coordinator, answers_phase, has_seat}
+use Rattle.protocol.specs.Views.{view_told}
 use Rattle.protocol.specs.declared.phases.Counted.{Counted}
 use Rattle.quorum.specs.Quorums.{quorum_of}
 
@@ -54,13 +55,19 @@ module _ (stage : Stage) (s : Scene) (Inv After : ℕ → Part → Type 0) (f : 
   abbrev all_parts : ℕ → Part
   all_parts = reacted_all stage s.c others asked_parts
 
+  -- what the quorum replies teaches no view
+  plain : Each (λ x. view_told (f x) ≡ None) xs
+  plain =
+      each_then (λ (x : Seated). Inv x.brick.0 (s.parts x.brick.0)) (λ (x : Seated). view_told (f x) ≡ None) xs
+      (λ x held. reaction_teaches stage s.c (s.parts x.brick.0) x (f x) (begins.replies x (s.parts x.brick.0) held)) begins.holds
+
   -- the quorum's replies wait, and then those of the others
   replies_wait : Closes stage
       (record s { known = known_through stale s.known; parts = all_parts; queue = told stage s.c.call f xs ++ told_all stage s.c others asked_parts })
   replies_wait =
       replies_pass stage f xs
       (record s { known = known_through stale s.known; parts = all_parts; queue = told stage s.c.call f xs ++ told_all stage s.c others asked_parts })
-      (told_all stage s.c others asked_parts) refl begins.early begins.group begins.seated begins.answers
+      (told_all stage s.c others asked_parts) refl begins.early begins.group begins.seated begins.answers plain
       (subst (λ (l : List Counted). AreNew f l xs) (sym begins.counted) (new_from f [] xs begins.apart (none_new xs)))
       begins.some (ap (λ (l : List Counted). length l + length xs) begins.counted ∙ zero-add (length xs) ∙ begins.quorum)
       (subst (λ (l : List Counted). Carries stage
@@ -155,7 +162,7 @@ pub stale_then : (stage : Stage) (c d : Coordinator) → IsAfter c d → (packet
     → Each (IsStale stage d) packets
 stale_then stage c d after packets replies =
     each_then (IsReply stage c.call) (IsStale stage d) packets
-    (λ packet is. (is.0, c.call, is.1, is.2, sym after.same.boot, sym after.same.seq, omega (arith, after.later))) replies
+    (λ packet is. (is.0, c.call, is.1, is.2, sym after.same.boot, sym after.same.seq, omega (arith, after.later), is.3)) replies
 
 -- the next phase begins
 pub next_open : (stage : Stage) (cast : Cast stage) (c d : Coordinator) (others : List Seated) (before : ℕ → Part) (s : Scene)

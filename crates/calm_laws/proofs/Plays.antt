@@ -2,9 +2,10 @@
 use Rattle.messages.specs.declared.requests.Request.{Request}
 use Rattle.fab_base.specs.declared.stamps.Stamp.{Stamp}
 use Rattle.protocol_laws.proofs.Books.{version_after}
-use Rattle.std.proofs.Common.{Bool, List, None, Option, Some, [], ap, cond, refl, subst, sym, true, ℕ, ⊎_elim, ◌++◌, ◌+◌, ◌∙◌, ◌∷◌, ◌≡◌, ◌≢◌}
-use Rattle.std.proofs.lemmas.Bool.{and_parts, cases_eq}
-use Rattle.std.specs.Prelude.{filter, is_some, nat_lt, ◌-◌}
+use Rattle.std.proofs.Common.{Bool, arith, false, not, ◌&&◌, List, None, Option, Some, [], ap, cond, refl, subst, sym, true, ℕ, ⊎_elim, ◌++◌, ◌+◌, ◌∙◌, ◌∷◌, ◌≡◌, ◌≢◌}
+use Rattle.std.proofs.lemmas.Bool.{and_parts, cases_eq, eq-eqb, or_from}
+use Rattle.std.proofs.lemmas.Bool.Decides.{nat_tests}
+use Rattle.std.specs.Prelude.{filter, is_some, nat_eq, nat_lt, ◌-◌}
 use Rattle.calm_laws.proofs.Queues.{IsHead, head_of}
 use Rattle.calm_laws.proofs.Scenes.{Each, Fits, IsSeated, Part, Scene, Seated, Stage, asked, asked_of, asking, part_after, reaction, replies_from, replying, EndsAt, SameCall}
 use Rattle.calm_laws.proofs.Shows.{IsMove, IsPart, Shows, delivers_so, open_at_is, put_field, world_by, IsMember}
@@ -17,10 +18,15 @@ use Rattle.messages.specs.declared.packets.Packet.{Packet}
 use Rattle.messages.specs.declared.replies.Reply.{Reply}
 use Rattle.protocol.specs.Calms.{RunsAlone, goes_among, is_left, is_one_of, open_at, open_call, operation_of, Ended}
 use Rattle.protocol.specs.Coordinators.{Coordinator}
-use Rattle.protocol.specs.Nodes.{Node, NodeStep, fitting_seat, full_at, put, reacted, received, replica_at, reply_packets, requested, requested_at, requested_in, with_replica, collect_packets, fits_block}
+use Rattle.protocol.specs.Nodes.{Node, NodeStep, fits, full_at, has_accepted, is_now, is_void, moved_at, no_step, put, reacted, received, replica_at, reply_packets, requested, requested_as, requested_at, requested_in, seat_now, served_unless, view_at, with_replica, collect_packets}
+use Rattle.protocol.specs.Ballots.{moved_to}
+use Rattle.protocol.specs.Settings.{Setting}
+use Rattle.protocol.specs.Coordinators.{request_of}
+use Rattle.protocol.specs.declared.phases.Phase.{Phase}
+use Rattle.protocol.specs.declared.phases.Phase.TheVariants.{Looks, LooksAt, Orders, OrdersAt, Recovers, Descends, Modifies, Bases, Stores}
+use Rattle.messages.specs.declared.replies.Reply.TheVariants.{Moved}
 use Rattle.protocol.specs.Replicas.{Reaction, Replica, handle}
 use Rattle.protocol.specs.Worlds.{Delivers, Event, Operation, World, happens, is_up, number_of, run}
-use Rattle.quorum.specs.Tallies.{fits}
 use Rattle.protocol.specs.Calms.{Next as Goes_on}
 
 -- The operation has ended, and was answered: the world before its last delivery, its coordinator there, and how that answers. What it made is what it
@@ -147,30 +153,103 @@ ends_by stage n w s packet rest shows queue up step step_is then =
       end = next.1;
     }
 
--- a member handles a request that fits
+-- a request of a stripe, which a member of the learnt view handles
+abbrev pub IsHandled : Request → Type 0
+IsHandled (Request.OldRead bound) = ⊥
+IsHandled (Request.Prepare ballot) = ⊥
+IsHandled (Request.Accept ballot members) = ⊥
+IsHandled request = Unit {0}
+
+-- a member handles a request of a stripe at its seat, where it serves the view of the call
+handled_at : (setting : Setting) (group : Group) (me from : BrickId) (node : Node) (call : Call) (request : Request) (seat : ℕ) → IsHandled request
+    → seat_now me node call group ≡ Some seat → moved_at node call ≡ None
+    → requested_as setting group me from node call request ≡ requested_at setting group.m me from node call request (Some seat)
+handled_at setting group me from node call request seat handled seated serves = by request handled
+  where
+    at_seat : (r : Request) → served_unless setting group.m me from node call r (seat_now me node call group) (moved_at node call)
+        ≡ requested_at setting group.m me from node call r (Some seat)
+    at_seat r =
+        ap (λ (z : Option Reply). served_unless setting group.m me from node call r (seat_now me node call group) z) serves
+        ∙ ap (λ (z : Option ℕ). requested_at setting group.m me from node call r z) seated
+
+    by : (r : Request) → IsHandled r → requested_as setting group me from node call r ≡ requested_at setting group.m me from node call r (Some seat)
+    by (Request.Read want) is = at_seat (Request.Read want)
+    by (Request.Order t) is = at_seat (Request.Order t)
+    by (Request.OrderRead t look want) is = at_seat (Request.OrderRead t look want)
+    by (Request.Write t block) is = at_seat (Request.Write t block)
+    by (Request.Modify t base j delta) is = at_seat (Request.Modify t base j delta)
+    by (Request.Collect t) is = ap (λ (z : Option ℕ). requested_at setting group.m me from node call (Request.Collect t) z) seated
+    by (Request.OldRead bound) is = absurd is
+    by (Request.Prepare ballot) is = absurd is
+    by (Request.Accept ballot members) is = absurd is
+
+-- a member handles a request of a stripe that fits
 pub member_step : (stage : Stage) (w : World) (from : BrickId) (call : Call) (x : Seated) (request : Request) → IsMember stage w call x.brick
-    → seat_in stage.group.members x.brick.0 ≡ Some x.seat → fits_block stage.setting.layout.block stage.group.m x.seat request ≡ true
+    → seat_in stage.group.members x.brick.0 ≡ Some x.seat → IsHandled request → fits stage.setting.layout stage.group.m call request (Some x.seat) ≡ true
     → requested stage.setting x.brick from (w.nodes x.brick.0) call request
     ≡ reacted x.brick from (w.nodes x.brick.0) call (handle stage.setting.code stage.group.m
     (full_at stage.setting.layout.records (w.nodes x.brick.0).live) x.seat (replica_at (w.nodes x.brick.0) call) request)
 unfolding requested
-member_step stage w from call x request member seat fits =
-    ap (λ (z : Option Group). requested_in stage.setting x.brick from (w.nodes x.brick.0) call request z) member.group
-    ∙ ap (λ (b : Bool). requested_at stage.setting stage.group.m x.brick from (w.nodes x.brick.0) call request
-    (cond b (fitting_seat stage.setting.layout.block stage.group.m request (seat_in stage.group.members x.brick.0)) None)) member.served
-    ∙ ap (λ (z : Option ℕ). requested_at stage.setting stage.group.m x.brick from (w.nodes x.brick.0) call request
-    (fitting_seat stage.setting.layout.block stage.group.m request z)) seat
-    ∙ ap (λ (b : Bool). requested_at stage.setting stage.group.m x.brick from (w.nodes x.brick.0) call request
-    (cond b (Some x.seat) None)) fits
+member_step stage w from call x request member seat handled fitting =
+    ap (λ (z : Option Group). requested_in stage.setting x.brick from node call request z) member.group
+    ∙ ap (λ (b : Bool). cond b (no_step node) (requested_as stage.setting stage.group x.brick from node call request)) served
+    ∙ handled_at stage.setting stage.group x.brick from node call request x.seat handled seated unmoved
+  where
+    node : Node
+    node = w.nodes x.brick.0
+
+    now : is_now node call ≡ true
+    now = eq-eqb call.view.0 (view_at node call.group.0) (sym member.view)
+
+    seated : seat_now x.brick node call stage.group ≡ Some x.seat
+    seated = ap (λ (b : Bool). cond b (seat_in stage.group.members x.brick.0) None) now ∙ seat
+
+    no_later : nat_lt call.view.0 (view_at node call.group.0) ≡ false
+    no_later = let same = member.view in grind (arith, nat_tests, same)
+
+    known : nat_lt (view_at node call.group.0) call.view.0 ≡ false
+    known = let same = member.view in grind (arith, nat_tests, same)
+
+    unmoved : moved_at node call ≡ None
+    unmoved =
+        ap (λ (b : Bool). cond b (Some (moved_to (node.learnt call.group.0).view))
+        (cond (has_accepted node call.group.0) (Some (Moved (record { 0 = call.view.0 + 1 }) None)) None)) no_later
+        ∙ ap (λ (b : Bool). cond b (Some (Moved (record { 0 = call.view.0 + 1 }) None)) None) member.free
+
+    served : is_void stage.setting.layout x.brick node call request stage.group ≡ false
+    served =
+        or_from (not (nat_lt call.stripe.0 stage.group.stripes)) _ (ap (λ (b : Bool). not b) member.stripe)
+        (or_from (nat_eq call.view.0 0) _ member.from_one
+        (or_from (nat_lt (view_at node call.group.0) call.view.0) _ known
+        (or_from (is_now node call && not (is_some (seat_now x.brick node call stage.group)))
+        (not (fits stage.setting.layout stage.group.m call request (seat_now x.brick node call stage.group)))
+        (ap (λ (b : Bool). b && not (is_some (seat_now x.brick node call stage.group))) now ∙ ap (λ (z : Option ℕ). not (is_some z)) seated)
+        (ap (λ (z : Option ℕ). not (fits stage.setting.layout stage.group.m call request z)) seated ∙ ap (λ (b : Bool). not b) fitting))))
+
+-- what a coordinator asks is a request of a stripe
+asks_of_stripe : (stage : Stage) (c : Coordinator) (x : Seated) → IsHandled (asked_of stage c x)
+unfolding request_of
+asks_of_stripe stage c x = by c.phase
+  where
+    by : (phase : Phase) → IsHandled (asked_of stage (record c { phase = phase }) x)
+    by Looks = tt
+    by (LooksAt j) = tt
+    by Orders = tt
+    by (OrdersAt j) = tt
+    by Recovers = tt
+    by (Descends bound) = tt
+    by (Modifies base j) = tt
+    by (Bases base) = tt
+    by Stores = tt
 
 -- and so what the coordinator asks of it
 pub asked_step : (stage : Stage) (n : ℕ) (w : World) (s : Scene) (x : Seated) → Shows stage n w s → IsSeated stage x → Fits stage s.c x
     → received stage.setting x.brick (w.clocks x.brick.0) (w.nodes x.brick.0) (asking stage s.c x)
     ≡ reacted x.brick stage.me (w.nodes x.brick.0) s.c.call (reaction stage s.c (s.parts x.brick.0) x)
 unfolding received
-asked_step stage n w s x shows seated fits =
+asked_step stage n w s x shows seated fitting =
     let part = shows.parts x.brick seated.1 in
-    member_step stage w stage.me s.c.call x (asked_of stage s.c x) (shows.members x.brick seated.1) seated.0 fits
+    member_step stage w stage.me s.c.call x (asked_of stage s.c x) (shows.members x.brick seated.1) seated.0 (asks_of_stripe stage s.c x) fitting
     ∙ ap (λ (l : ℕ). reacted x.brick stage.me (w.nodes x.brick.0) s.c.call (handle stage.setting.code stage.group.m
     (full_at stage.setting.layout.records l) x.seat (replica_at (w.nodes x.brick.0) s.c.call) (asked_of stage s.c x))) part.live
     ∙ ap (λ (r : Replica). reacted x.brick stage.me (w.nodes x.brick.0) s.c.call (handle stage.setting.code stage.group.m
@@ -218,7 +297,7 @@ asked_move stage n w s x rest number shows seated = record {
   call = put_field (λ (z : Node). z.calls s.c.call.seq) w.nodes x.brick.0 node refl stage.me.0 ∙ shows.call;
   known = put_field (λ (z : Node). z.known) w.nodes x.brick.0 node refl stage.me.0 ∙ shows.known;
   learnt = put_field (λ (z : Node). z.learnt) w.nodes x.brick.0 node refl;
-  accepted = put_field (λ (z : Node). z.accepted) w.nodes x.brick.0 node refl;
+  ballots = put_field (λ (z : Node). z.ballots) w.nodes x.brick.0 node refl;
   parts = λ brick one. ⊎_elim (here brick) (elsewhere brick one) (cases_eq brick.0 x.brick.0);
   delivery = record {
     numbers = refl;

@@ -14,7 +14,8 @@ use Rattle.messages.specs.declared.requests.Request.{Request}
 use Rattle.messages.specs.declared.requests.Version.{Version}
 use Rattle.protocol.specs.Calms.{goes_among, is_one_of}
 use Rattle.protocol.specs.Coordinators.{Coordinator, Ends, Ignores, Makes, Next, Sends, Waits, on_reply, request_of}
-use Rattle.protocol.specs.Nodes.{fits_block, fresh_stamp, full_at, known_after, phase_packets, put, reply_packets}
+use Rattle.protocol.specs.Views.{view_told}
+use Rattle.protocol.specs.Nodes.{fits, fresh_stamp, full_at, known_after, phase_packets, put, reply_packets}
 use Rattle.protocol.specs.Replicas.{Reaction, Replica, handle, newest_of}
 use Rattle.protocol.specs.Settings.{Setting}
 use Rattle.protocol.specs.declared.phases.Phase.{Phase}
@@ -99,7 +100,7 @@ replies_from stage c part x = reply_packets x.brick stage.me c.call (reaction st
 
 -- what is asked can be stored
 abbrev pub Fits : Stage → Coordinator → Seated → Type 0
-Fits stage c x = fits_block stage.setting.layout.block stage.group.m x.seat (asked_of stage c x) ≡ true
+Fits stage c x = fits stage.setting.layout stage.group.m c.call (asked_of stage c x) (Some x.seat) ≡ true
 
 -- the scene once a member was asked
 abbrev pub asked : Stage → Scene → Seated → List Packet → Scene
@@ -142,10 +143,11 @@ sent stage s d = record s { c = d; known = max s.known d.stamp.time; queue = s.q
 abbrev pub made : Stage → Scene → Coordinator → Scene
 made stage s d = record s { c = d; queue = s.queue ++ sends stage d }
 
--- the next message is this reply
+-- the next message is this reply, which teaches no view
 pub record IsNext (stage : Stage) (s : Scene) (from : BrickId) (call : Call) (reply : Reply) (rest : List Packet) : Type 0 where
   pub queue : s.queue ≡ replying stage from call reply ∷ rest
   pub seq : (call.boot ≡ s.c.call.boot) × (call.seq ≡ s.c.call.seq)
+  pub plain : view_told reply ≡ None
 
 -- From a scene the operation comes to an answer that is no abort: its messages are delivered in order.
 pub data Closes (stage : Stage) : Scene → Type 0 where

@@ -1,6 +1,7 @@
 -- A world shows a scene: its coordinator, what its brick knows, the members' parts, and the messages that wait. A delivery of the first of these
 -- leads to a world that shows the next scene.
-use Rattle.std.proofs.Common.{Bool, List, None, Option, Some, ap, arith, cond, length, not, subst, suc, sym, true, ℕ, ⊎_elim, ◌&&◌, ◌++◌, ◌+◌, ◌<◌, ◌∙◌, ◌≡◌}
+use Rattle.synod_laws.specs.Synods.{Kept}
+use Rattle.std.proofs.Common.{false, Bool, List, None, Option, Some, ap, arith, cond, length, subst, suc, sym, true, ℕ, ⊎_elim, ◌&&◌, ◌++◌, ◌+◌, ◌<◌, ◌∙◌, ◌≡◌}
 use Rattle.std.proofs.lemmas.Bool.{eq-eqb, ne_eqb}
 use Rattle.std.proofs.lemmas.List.{length-append}
 use Rattle.std.proofs.lemmas.Option.{slice_get_within}
@@ -13,9 +14,9 @@ use Rattle.messages.specs.declared.calls.Call.{Call}
 use Rattle.messages.specs.declared.packets.Packet.{Packet}
 use Rattle.protocol.specs.Calms.{goes_among, is_left, is_one_of, open_at}
 use Rattle.protocol.specs.Coordinators.{Coordinator}
-use Rattle.protocol.specs.Nodes.{Node, NodeStep, group_at, is_served, put, received, replica_at, view_at}
+use Rattle.protocol.specs.Nodes.{Node, NodeStep, group_at, put, received, replica_at, view_at, has_accepted}
 use Rattle.protocol.specs.Views.{Learnt, group_kept}
-use Rattle.protocol.specs.Worlds.{Delivers, Operation, World, delivered, happens, is_up, packet_of, replies_with, world_stepped}
+use Rattle.protocol.specs.Worlds.{Delivers, Operation, World, delivered, happens, is_up, packet_of, replies_with, voiced, world_stepped}
 
 -- what the changed value has in common with the old one
 pub put_field : {A B : Type 0} (g : A → B) (f : ℕ → A) (k : ℕ) (v : A) → g v ≡ g (f k) → (i : ℕ) → g (put f k v i) ≡ g (f i)
@@ -24,11 +25,14 @@ put_field g f k v same i = ⊎_elim
     (λ (other : put f k v i ≡ f i). ap g other)
     (put_cases f k v i)
 
--- a brick that hears the coordinator is up, and serves the call's view
+-- a brick that hears the coordinator is up, and serves the call's view, which is none before the first; and the call's stripe is one of the group
 pub record IsMember (stage : Stage) (w : World) (call : Call) (brick : BrickId) : Type 0 where
   pub up : is_up stage.setting.layout w brick ≡ true
   pub group : group_at stage.setting.layout (w.nodes brick.0) call.group.0 ≡ Some stage.group
-  pub served : is_served stage.group (w.nodes brick.0) call ≡ true
+  pub stripe : nat_lt call.stripe.0 stage.group.stripes ≡ true
+  pub from_one : nat_eq call.view.0 0 ≡ false
+  pub view : view_at (w.nodes brick.0) call.group.0 ≡ call.view.0
+  pub free : has_accepted (w.nodes brick.0) call.group.0 ≡ false
 
 -- the brick's part
 pub record IsPart (node : Node) (call : Call) (part : Part) : Type 0 where
@@ -66,7 +70,7 @@ pub record IsMove (stage : Stage) (n : ℕ) (w later : World) (s next : Scene) (
   pub call : (later.nodes stage.me.0).calls s.c.call.seq ≡ Some next.c
   pub known : (later.nodes stage.me.0).known ≡ next.known
   pub learnt : (i : ℕ) → (later.nodes i).learnt ≡ (w.nodes i).learnt
-  pub accepted : (i : ℕ) → (later.nodes i).accepted ≡ (w.nodes i).accepted
+  pub ballots : (i : ℕ) → (later.nodes i).ballots ≡ (w.nodes i).ballots
   pub parts : (brick : BrickId) → is_one_of stage.bricks brick ≡ true → IsPart (later.nodes brick.0) s.c.call (next.parts brick.0)
   pub delivery : IsDelivered w later n number sent
   pub queue : next.queue ≡ rest ++ filter (goes_among stage.bricks) sent
@@ -85,18 +89,18 @@ call_same_but c d same = λ i. record {
 
 -- a member serves it as before
 pub serves_on : (stage : Stage) (w later : World) (c d : Coordinator) (brick : BrickId) → SameCall c d → later.up ≡ w.up
-    → ((i : ℕ) → (later.nodes i).learnt ≡ (w.nodes i).learnt) → ((i : ℕ) → (later.nodes i).accepted ≡ (w.nodes i).accepted)
+    → ((i : ℕ) → (later.nodes i).learnt ≡ (w.nodes i).learnt) → ((i : ℕ) → (later.nodes i).ballots ≡ (w.nodes i).ballots)
     → IsMember stage w c.call brick → IsMember stage later d.call brick
-serves_on stage w later c d brick same up learnt accepted member =
+serves_on stage w later c d brick same up learnt ballots member =
     subst (λ (call : Call). IsMember stage later call brick) (sym (call_same_but c d same)) (record {
       up = ap (λ (f : ℕ → Bool). nat_lt brick.0 stage.setting.layout.bricks && f brick.0) up ∙ member.up;
       group = ap (λ (f : ℕ → Learnt). group_kept stage.setting.layout (f c.call.group.0).view.members c.call.group.0) (learnt brick.0) ∙ member.group;
-      served =
-          ap (λ (f : ℕ → Learnt). nat_lt c.call.stripe.0 stage.group.stripes && (nat_eq c.call.view.0 (f c.call.group.0).view.number.0
-          && not ((later.nodes brick.0).accepted c.call.group.0))) (learnt brick.0)
-          ∙ ap (λ (f : ℕ → Bool). nat_lt c.call.stripe.0 stage.group.stripes && (nat_eq c.call.view.0 (view_at (w.nodes brick.0) c.call.group.0)
-          && not (f c.call.group.0))) (accepted brick.0)
-          ∙ member.served;
+      stripe = member.stripe;
+      from_one = member.from_one;
+      view = ap (λ (f : ℕ → Learnt). (f c.call.group.0).view.number.0) (learnt brick.0) ∙ member.view;
+      free =
+          ap (λ (f : ℕ → Learnt). has_accepted (record (later.nodes brick.0) { learnt = f }) c.call.group.0) (learnt brick.0)
+          ∙ ap (λ (f : ℕ → Kept (List BrickId)). has_accepted (record (w.nodes brick.0) { ballots = f }) c.call.group.0) (ballots brick.0) ∙ member.free;
     })
 
 part_on : (node : Node) (c d : Coordinator) (part : Part) → SameCall c d → IsPart node c.call part → IsPart node d.call part
@@ -122,7 +126,7 @@ shows_next stage n w later s next packet rest sent shows head move = record {
   clock = ap (λ (f : ℕ → ℕ). f stage.me.0) move.clocks ∙ shows.clock;
   known = move.known;
   group = move.same.group ∙ shows.group;
-  members = λ brick one. serves_on stage w later s.c next.c brick move.same move.up move.learnt move.accepted (shows.members brick one);
+  members = λ brick one. serves_on stage w later s.c next.c brick move.same move.up move.learnt move.ballots (shows.members brick one);
   parts = λ brick one. part_on (later.nodes brick.0) s.c next.c (next.parts brick.0) move.same (move.parts brick one);
   queue = delivered_queue w later n stage.bricks packet rest sent shows.unsent head move.delivery ∙ sym move.queue;
   unsent = λ k above.
@@ -146,7 +150,7 @@ open_at_is w o me boot seq brick_is boot_is seq_is up node_boot =
 -- the world once a packet was delivered to a brick that is up, by the step that this makes
 abbrev pub world_by : Stage → World → ℕ → Packet → NodeStep → World
 world_by stage w number packet step =
-    world_stepped stage.setting (record w { replies = replies_with stage.setting w packet; reached = put w.reached number true }) packet.to step
+    world_stepped stage.setting (record w { replies = replies_with stage.setting w packet; choices = voiced stage.setting w packet; reached = put w.reached number true }) packet.to step
 
 pub delivers_so : (stage : Stage) (w : World) (place : ℕ) (packet : Packet) → slice_get w.packets place ≡ Some packet
     → is_up stage.setting.layout w packet.to ≡ true

@@ -1,5 +1,6 @@
--- A brick's step on a message concerns the operation of that message alone: its packets, its coordinator, and what is told of it.
-use Rattle.std.proofs.Common.{◌≡◌, ◌≢◌, ℕ, zero, suc, ◌+◌, List, [], ◌∷◌, Option, Some, None, refl, sym, ap, ◌∙◌, subst, Bool}
+-- A brick's step on a message concerns the operation of that message alone: its packets, its coordinator, and what is told of it. Its other packets are of views
+-- alone.
+use Rattle.std.proofs.Common.{◌≡◌, ◌≢◌, ℕ, zero, suc, ◌+◌, List, [], ◌∷◌, Option, Some, None, refl, sym, ap, ◌∙◌, ◌⊎◌, inl, inr, subst, Bool}
 use Rattle.std.specs.Prelude.{slice_get}
 use Rattle.fab_base.specs.declared.identities.BrickId.{BrickId}
 use Rattle.fab_base.specs.declared.stamps.Stamp.{Stamp}
@@ -12,35 +13,78 @@ use Rattle.protocol.specs.Settings.{Setting}
 use Rattle.protocol.specs.Replicas.{handle}
 use Rattle.protocol.specs.declared.phases.Counted.{Counted}
 use Rattle.protocol.specs.Coordinators.{Coordinator, Next, Ignores, Waits, Sends, Makes, Ends, counts_at, counted_at, once_full, with_reply, request_of, on_reply}
-use Rattle.protocol.specs.Nodes.{Node, NodeStep, put, no_step, with_known, replica_at, full_at, known_after, fresh_stamp, reply_packets, requested, replied, replied_at, carried_out, received, collect_packets, to_members}
-use Rattle.protocol.specs.Worlds.{World, Operation, number_of, with_made, with_seen, with_answer, world_stepped}
+use Rattle.protocol.specs.declared.tellings.Report.{Report}
+use Rattle.protocol.specs.Nodes.{Node, NodeStep, put, no_step, with_known, with_round, with_replica, replica_at, full_at, known_after, fresh_stamp, reply_packets, requested, replied_at, carried_out, received, heard, collect_packets, to_members, vote_at, voted_on, node_taught_by, node_learnt, view_counted}
+use Rattle.protocol.proofs.Packets.{OfEach, each_member, each_reply}
+use Rattle.protocol_laws.proofs.Proposing.{IsOfViews, ballot_each}
+use Rattle.protocol_laws.proofs.Teaching.{heard_each, told_each, learnt_each}
+use Rattle.calm_laws.proofs.Fresh.{IsMade, IsMadeBy}
+use Rattle.protocol.specs.Worlds.{World, Operation, Choices, number_of, with_made, with_seen, with_answer, world_stepped}
 use Rattle.protocol.specs.Calms.{operation_of}
 use Rattle.protocol.proofs.CountsAt.{CountsAt, counts_facts}
 use Rattle.protocol_laws.proofs.Books.{Books, CallBooks, IsCall}
 use Rattle.protocol_laws.proofs.Outcomes.{NextFits, once_full_fits}
 use Rattle.protocol.proofs.Puts.{put_other}
 use Rattle.protocol.proofs.Served.{request_each}
-use Rattle.protocol.proofs.Tables.{get_one}
 
--- The step of a brick is of operation m.
-pub record StepIsOf (setting : Setting) (w : World) (me : BrickId) (step : NodeStep) (m : ℕ) : Type 0 where
-  pub boot : step.node.boot ≡ (w.nodes me.0).boot
-  pub packets : (j : ℕ) (packet : Packet) → slice_get step.packets j ≡ Some packet → operation_of w packet ≡ m
-  pub calls : (k : ℕ) → number_of w me.0 k ≢ m → step.node.calls k ≡ (w.nodes me.0).calls k
-  pub operations : (replies : ℕ → ℕ → List Counted) (reached : ℕ → Bool) (a : ℕ) → a ≢ m
-      → (world_stepped setting (record w { replies = replies; reached = reached }) me step).operations a ≡ w.operations a
+-- a packet is a request or a reply under a call of brick i, of this boot and number
+abbrev pub IsKeyed : ℕ → ℕ → ℕ → Packet → Type 0
+IsKeyed i boot seq packet = of packet.message
+  where
+    of : Message → Type 0
+    of (Message.Request call request) = (packet.from.0 ≡ i) × (call.boot ≡ boot) × (call.seq ≡ seq)
+    of (Message.Reply call reply) = (packet.to.0 ≡ i) × (call.boot ≡ boot) × (call.seq ≡ seq)
+    of message = ⊥
 
-none_at : (w : World) (m j : ℕ) (packet : Packet) → slice_get [] j ≡ Some packet → operation_of w packet ≡ m
-none_at w m j packet at = let never : ⊥ = cc in absurd never
+-- so it is of the call's operation
+pub keyed_of : (w : World) (i boot seq : ℕ) (packet : Packet) → IsKeyed i boot seq packet → operation_of w packet ≡ w.numbers i boot seq
+keyed_of w i boot seq packet = of packet.from packet.to packet.message
+  where
+    of : (from to : BrickId) (message : Message) → IsKeyed i boot seq (record { from = from; to = to; message = message })
+        → operation_of w (record { from = from; to = to; message = message }) ≡ w.numbers i boot seq
+    of from to (Message.Request call request) is =
+        ap (λ (j : ℕ). w.numbers j call.boot call.seq) is.0 ∙ ap (λ (b : ℕ). w.numbers i b call.seq) is.1 ∙ ap (λ (k : ℕ). w.numbers i boot k) is.2
+    of from to (Message.Reply call reply) is =
+        ap (λ (j : ℕ). w.numbers j call.boot call.seq) is.0 ∙ ap (λ (b : ℕ). w.numbers i b call.seq) is.1 ∙ ap (λ (k : ℕ). w.numbers i boot k) is.2
+    of from to message is = absurd is
 
--- a step that only changes what a brick keeps, or knows
-quiet_is_of : (setting : Setting) (w : World) (me : BrickId) (node : Node) (m : ℕ) → node.boot ≡ (w.nodes me.0).boot
-    → node.calls ≡ (w.nodes me.0).calls → StepIsOf setting w me (no_step node) m
-quiet_is_of setting w me node m boot calls = record {
-  boot = boot;
-  packets = none_at w m;
+-- and its call was made, if that was
+pub keyed_made : (nodes : ℕ → Node) (i boot seq : ℕ) → IsMade (nodes i) boot seq → (packet : Packet) → IsKeyed i boot seq packet → IsMadeBy nodes packet
+keyed_made nodes i boot seq made packet = of packet.from packet.to packet.message
+  where
+    at : (j b k : ℕ) → j ≡ i → b ≡ boot → k ≡ seq → IsMade (nodes j) b k
+    at j b k same boots seqs =
+        subst (λ (l : ℕ). IsMade (nodes l) b k) (sym same)
+        (subst (λ (c : ℕ). IsMade (nodes i) c k) (sym boots) (subst (λ (l : ℕ). IsMade (nodes i) boot l) (sym seqs) made))
+
+    of : (from to : BrickId) (message : Message) → IsKeyed i boot seq (record { from = from; to = to; message = message })
+        → IsMadeBy nodes (record { from = from; to = to; message = message })
+    of from to (Message.Request call request) is = at from.0 call.boot call.seq is.0 is.1 is.2
+    of from to (Message.Reply call reply) is = at to.0 call.boot call.seq is.0 is.1 is.2
+    of from to message is = absurd is
+
+-- The step of a brick is of the operation of this call, which brick i asks: each packet is under the call, or of views alone.
+pub record StepIsOf (setting : Setting) (w : World) (me : BrickId) (step : NodeStep) (i boot seq : ℕ) : Type 0 where
+  pub boot_is : step.node.boot ≡ (w.nodes me.0).boot
+  pub packets : (j : ℕ) (packet : Packet) → slice_get step.packets j ≡ Some packet → IsKeyed i boot seq packet ⊎ IsOfViews packet.message
+  pub calls : (k : ℕ) → number_of w me.0 k ≢ w.numbers i boot seq → step.node.calls k ≡ (w.nodes me.0).calls k
+  pub operations : (replies : ℕ → ℕ → List Counted) (choices : Choices) (reached : ℕ → Bool) (a : ℕ) → a ≢ w.numbers i boot seq
+      → (world_stepped setting (record w { replies = replies; choices = choices; reached = reached }) me step).operations a ≡ w.operations a
+
+-- none of these packets is of anything
+none_at : (i boot seq j : ℕ) (packet : Packet) → slice_get [] j ≡ Some packet → IsKeyed i boot seq packet ⊎ IsOfViews packet.message
+none_at i boot seq j packet at = let never : ⊥ = cc in absurd never
+
+-- a step that only changes what a brick keeps, or knows, and sends such packets
+pub quiet_is_of : (setting : Setting) (w : World) (me : BrickId) (node : Node) (packets : List Packet) (reports : List Report) (i boot seq : ℕ)
+    → node.boot ≡ (w.nodes me.0).boot → node.calls ≡ (w.nodes me.0).calls
+    → ((j : ℕ) (packet : Packet) → slice_get packets j ≡ Some packet → IsKeyed i boot seq packet ⊎ IsOfViews packet.message)
+    → StepIsOf setting w me (record { node = node; packets = packets; told = []; answers = []; reports = reports }) i boot seq
+quiet_is_of setting w me node packets reports i boot seq boot_is calls are = record {
+  boot_is = boot_is;
+  packets = are;
   calls = λ k other. ap (λ f. f k) calls;
-  operations = λ replies reached a other. refl;
+  operations = λ replies choices reached a other. refl;
 }
 
 -- the packets of a call to its members are its operation's
@@ -52,131 +96,180 @@ members_are_of w me call request seat (member ∷ members) zero packet at =
     subst (λ (z : Packet). operation_of w z ≡ w.numbers me.0 call.boot call.seq) same refl
 members_are_of w me call request seat (member ∷ members) (suc j) packet at = members_are_of w me call request (seat + 1) members j packet at
 
+-- packets under a call to its members
+keyed_members : (me : BrickId) (call : Call) (request : ℕ → Request) (i boot seq : ℕ) → me.0 ≡ i → call.boot ≡ boot → call.seq ≡ seq → (members : List BrickId)
+    → OfEach (λ packet. IsKeyed i boot seq packet ⊎ IsOfViews packet.message) (to_members me call request 0 members)
+keyed_members me call request i boot seq brick boots seqs members =
+    each_member (λ (packet : Packet). IsKeyed i boot seq packet ⊎ IsOfViews packet.message) me call request (λ seat to. inl (brick, boots, seqs)) 0 members
+
 -- a request that is handled
 request_is_of : (setting : Setting) (w : World) (me from : BrickId) (call : Call) (request : Request)
-    → StepIsOf setting w me (requested setting me from (w.nodes me.0) call request) (w.numbers from.0 call.boot call.seq)
+    → StepIsOf setting w me (requested setting me from (w.nodes me.0) call request) from.0 call.boot call.seq
 request_is_of setting w me from call request =
-    request_each (λ (step : NodeStep). StepIsOf setting w me step (w.numbers from.0 call.boot call.seq)) setting me from (w.nodes me.0) call request
-    (quiet_is_of setting w me (w.nodes me.0) (w.numbers from.0 call.boot call.seq) refl refl)
-    (λ group seat here at view.
+    request_each (λ (step : NodeStep). StepIsOf setting w me step from.0 call.boot call.seq) setting me from (w.nodes me.0) call request
+    (quiet_is_of setting w me (w.nodes me.0) [] [] from.0 call.boot call.seq refl refl (none_at from.0 call.boot call.seq))
+    (λ reply is. quiet_is_of setting w me (w.nodes me.0) (reply_packets me from call (Some reply)) [] from.0 call.boot call.seq refl refl (replied_to (Some reply)))
+    (λ group seat here is.
     let reaction = handle setting.code group.m (full_at setting.layout.records (w.nodes me.0).live) seat (replica_at (w.nodes me.0) call) request in
-    record {
-      boot = refl;
-      packets = replied_to reaction.reply;
-      calls = λ k other. refl;
-      operations = λ replies reached a other. refl;
-    })
+    quiet_is_of setting w me (with_replica (w.nodes me.0) call reaction) (reply_packets me from call reaction.reply) [] from.0 call.boot call.seq refl refl
+    (replied_to reaction.reply))
+    (λ group ballot asks here.
+    let vote = vote_at (w.nodes me.0) call ballot asks in
+    quiet_is_of setting w me (voted_on me from (w.nodes me.0) call vote).node (reply_packets me from call (Some vote.reply)) [] from.0 call.boot call.seq refl
+    refl (replied_to (Some vote.reply)))
   where
+    -- the reply is under the call
     replied_to : (o : Option Reply) (j : ℕ) (packet : Packet) → slice_get (reply_packets me from call o) j ≡ Some packet
-        → operation_of w packet ≡ w.numbers from.0 call.boot call.seq
-    replied_to None j packet at = none_at w (w.numbers from.0 call.boot call.seq) j packet at
-    replied_to (Some reply) j packet at =
-        subst (λ (z : Packet). operation_of w z ≡ w.numbers from.0 call.boot call.seq)
-        (get_one (record { from = me; to = from; message = Message.Reply call reply }) packet j at) refl
+        → IsKeyed from.0 call.boot call.seq packet ⊎ IsOfViews packet.message
+    replied_to o =
+        each_reply (λ (packet : Packet). IsKeyed from.0 call.boot call.seq packet ⊎ IsOfViews packet.message) me from call o
+        (λ r is. inl (refl, refl, refl))
+
+-- a brick that is as it was in its boot and its open operations
+pub record IsSelf (old new : Node) : Type 0 where
+  pub boot : new.boot ≡ old.boot
+  pub calls : new.calls ≡ old.calls
 
 -- an operation's coordinator takes its next step
-module _ (setting : Setting) (w : World) (books : Books setting w) (me : BrickId) (known : ℕ) (c : Coordinator) (is : IsCall w me.0 c.call.seq c) where
+module _ (setting : Setting) (w : World) (books : Books setting w) (me : BrickId) (node : Node) (self : IsSelf (w.nodes me.0) node) (known : ℕ) (c : Coordinator)
+    (is : IsCall w me.0 c.call.seq c) where
   its : CallBooks setting w me.0 c.call.seq c
   its = books.calls me.0 c.call.seq c is
 
-  -- its number
-  abbrev m : ℕ
-  m = number_of w me.0 c.call.seq
+  -- the boot and the number of its call
+  abbrev its_boot : ℕ
+  its_boot = (w.nodes me.0).boot
 
-  -- the packets of a call of the same operation
-  own_packets : (call : Call) → call.boot ≡ c.call.boot → call.seq ≡ c.call.seq → (request : ℕ → Request) (members : List BrickId) (j : ℕ) (packet : Packet)
-      → slice_get (to_members me call request 0 members) j ≡ Some packet → operation_of w packet ≡ m
-  own_packets call boot seq request members j packet at =
-      members_are_of w me call request 0 members j packet at
-      ∙ ap (λ (b : ℕ). w.numbers me.0 b call.seq) (boot ∙ its.call_boot) ∙ ap (λ (k : ℕ). w.numbers me.0 (w.nodes me.0).boot k) seq
+  abbrev its_seq : ℕ
+  its_seq = c.call.seq
 
   -- the other calls stay
-  other_calls : (z : Option Coordinator) (k : ℕ) → number_of w me.0 k ≢ m → put (w.nodes me.0).calls c.call.seq z k ≡ (w.nodes me.0).calls k
-  other_calls z k other = put_other (w.nodes me.0).calls c.call.seq z k (λ same. other (ap (λ (l : ℕ). number_of w me.0 l) same))
+  other_calls : (z : Option Coordinator) (k : ℕ) → number_of w me.0 k ≢ number_of w me.0 c.call.seq
+      → put node.calls c.call.seq z k ≡ (w.nodes me.0).calls k
+  other_calls z k other =
+      put_other node.calls c.call.seq z k (λ same. other (ap (λ (l : ℕ). number_of w me.0 l) same)) ∙ ap (λ f. f k) self.calls
 
   -- and so do the other operations
-  other_operations : (change : Option Operation → Option Operation) (a : ℕ) → a ≢ m → put w.operations m (change (w.operations m)) a ≡ w.operations a
-  other_operations change a other = put_other w.operations m (change (w.operations m)) a other
+  other_operations : (m : ℕ) (change : Option Operation → Option Operation) (a : ℕ) → a ≢ m → put w.operations m (change (w.operations m)) a ≡ w.operations a
+  other_operations m change a other = put_other w.operations m (change (w.operations m)) a other
 
-  collects_are : (stored : Option Stamp) (j : ℕ) (packet : Packet) → slice_get (collect_packets me c stored) j ≡ Some packet → operation_of w packet ≡ m
-  collects_are None j packet at = none_at w m j packet at
-  collects_are (Some t) j packet at = own_packets c.call refl refl (λ seat. Request.Collect t) c.group.members j packet at
+  collects_are : (stored : Option Stamp)
+      → OfEach (λ packet. IsKeyed me.0 its_boot its_seq packet ⊎ IsOfViews packet.message) (collect_packets me c stored)
+  collects_are None = none_at me.0 its_boot its_seq
+  collects_are (Some t) = keyed_members me c.call (λ seat. Request.Collect t) me.0 its_boot its_seq refl its.call_boot refl c.group.members
 
   pub next_is_of : (fresh : Option Stamp) (d : Coordinator) (z : Next) → d.call ≡ c.call → NextFits fresh d z
-      → StepIsOf setting w me (carried_out setting me (w.nodes me.0) known c z) m
+      → StepIsOf setting w me (carried_out setting me node known c z) me.0 its_boot its_seq
   next_is_of fresh d Ignores same fits = absurd fits
   next_is_of fresh d (Waits e) same fits = record {
-    boot = refl;
-    packets = none_at w m;
+    boot_is = self.boot;
+    packets = none_at me.0 its_boot its_seq;
     calls = other_calls (Some e);
-    operations = λ replies reached a other. refl;
+    operations = λ replies choices reached a other. refl;
   }
   next_is_of fresh d (Sends e) same fits = record {
-    boot = refl;
-    packets = own_packets e.call (fits.same.boot ∙ ap (λ call. call.boot) same) (fits.same.seq ∙ ap (λ call. call.seq) same) (request_of setting.code e)
-        e.group.members;
+    boot_is = self.boot;
+    packets = keyed_members me e.call (request_of setting.code e) me.0 its_boot its_seq refl (fits.same.boot ∙ ap (λ call. call.boot) same ∙ its.call_boot)
+        (fits.same.seq ∙ ap (λ call. call.seq) same) e.group.members;
     calls = other_calls (Some e);
-    operations = λ replies reached a other. refl;
+    operations = λ replies choices reached a other. refl;
   }
   next_is_of fresh d (Makes e) same fits = record {
-    boot = refl;
-    packets = own_packets e.call (fits.same.boot ∙ ap (λ call. call.boot) same) (fits.same.seq ∙ ap (λ call. call.seq) same) (request_of setting.code e)
-        e.group.members;
+    boot_is = self.boot;
+    packets = keyed_members me e.call (request_of setting.code e) me.0 its_boot its_seq refl (fits.same.boot ∙ ap (λ call. call.boot) same ∙ its.call_boot)
+        (fits.same.seq ∙ ap (λ call. call.seq) same) e.group.members;
     calls = other_calls (Some e);
-    operations = λ replies reached a other. other_operations (with_made e.stamp e.base) a other;
+    operations = λ replies choices reached a other. other_operations (number_of w me.0 c.call.seq) (with_made e.stamp e.base) a other;
   }
   next_is_of fresh d (Ends answer None stored) same fits = record {
-    boot = refl;
+    boot_is = self.boot;
     packets = collects_are stored;
     calls = other_calls None;
-    operations = λ replies reached a other. other_operations (with_answer answer) a other;
+    operations = λ replies choices reached a other. other_operations (number_of w me.0 c.call.seq) (with_answer answer) a other;
   }
   next_is_of fresh d (Ends answer (Some v) stored) same fits = record {
-    boot = refl;
+    boot_is = self.boot;
     packets = collects_are stored;
     calls = other_calls None;
-    operations = λ replies reached a other.
+    operations = λ replies choices reached a other.
+        let m : ℕ = number_of w me.0 c.call.seq in
         put_other (put w.operations m (with_seen v (w.operations m))) m (with_answer answer (put w.operations m (with_seen v (w.operations m)) m)) a other
-        ∙ other_operations (with_seen v) a other;
+        ∙ other_operations m (with_seen v) a other;
   }
 
--- a reply that is handled
-reply_is_of : (setting : Setting) (w : World) (books : Books setting w) (me : BrickId) (now : ℕ) (from : BrickId) (call : Call) (reply : Reply)
-    → StepIsOf setting w me (replied setting me now from (w.nodes me.0) call reply) (w.numbers me.0 call.boot call.seq)
-unfolding replied on_reply
-reply_is_of setting w books me now from call reply = at_call ((w.nodes me.0).calls call.seq) refl
+-- a reply that is handled, by a brick that may have been taught a view
+replied_is_of : (setting : Setting) (w : World) (books : Books setting w) (me : BrickId) (now : ℕ) (from : BrickId) (node : Node) → IsSelf (w.nodes me.0) node
+    → (call : Call) (reply : Reply) → StepIsOf setting w me (replied_at setting me now from node call reply ((w.nodes me.0).calls call.seq)) me.0 call.boot call.seq
+unfolding on_reply
+replied_is_of setting w books me now from node self call reply = at_call ((w.nodes me.0).calls call.seq) refl
   where
+    quiet : (next : Node) → next.boot ≡ node.boot → next.calls ≡ node.calls → StepIsOf setting w me (no_step next) me.0 call.boot call.seq
+    quiet next boot calls = quiet_is_of setting w me next [] [] me.0 call.boot call.seq (boot ∙ self.boot) (calls ∙ self.calls) (none_at me.0 call.boot call.seq)
+
     at_seat : (c : Coordinator) → IsCall w me.0 call.seq c → (z : Option ℕ) → counts_at setting.layout.block c from.0 call reply ≡ z
-        → StepIsOf setting w me (carried_out setting me (w.nodes me.0) (known_after (w.nodes me.0).known reply) c
-        (counted_at setting.layout.block setting.code (fresh_stamp me c.call.view now (w.nodes me.0).boot (known_after (w.nodes me.0).known reply)) c from reply z))
-        (w.numbers me.0 call.boot call.seq)
-    at_seat c is None none =
-        quiet_is_of setting w me (with_known (w.nodes me.0) (known_after (w.nodes me.0).known reply)) (w.numbers me.0 call.boot call.seq) refl refl
+        → StepIsOf setting w me (carried_out setting me node (known_after node.known reply) c
+        (counted_at setting.layout.block setting.code (fresh_stamp me c.call.view now node.boot (known_after node.known reply)) c from reply z))
+        me.0 call.boot call.seq
+    at_seat c is None none = quiet (with_known node (known_after node.known reply)) refl refl
     at_seat c is (Some seat) counts =
         let facts : CountsAt setting.layout.block c from.0 call reply seat = counts_facts setting.layout.block c from.0 call reply seat counts in
-        let time : ℕ = known_after (w.nodes me.0).known reply in
-        let fresh : Option Stamp = fresh_stamp me c.call.view now (w.nodes me.0).boot time in
+        let time : ℕ = known_after node.known reply in
+        let fresh : Option Stamp = fresh_stamp me c.call.view now node.boot time in
         let own : IsCall w me.0 c.call.seq c = subst (λ (k : Call). IsCall w me.0 k.seq c) facts.call_is is in
         let books_of : CallBooks setting w me.0 c.call.seq c = books.calls me.0 c.call.seq c own in
-        let number : number_of w me.0 c.call.seq ≡ w.numbers me.0 call.boot call.seq
-        = ap (λ (b : ℕ). w.numbers me.0 b c.call.seq) (sym books_of.call_boot) ∙ ap (λ (k : Call). w.numbers me.0 k.boot k.seq) (sym facts.call_is) in
-        subst (λ (m : ℕ). StepIsOf setting w me (carried_out setting me (w.nodes me.0) time c
-        (once_full setting.layout.block setting.code fresh (with_reply c seat from reply))) m) number
-        (next_is_of setting w books me time c own fresh (with_reply c seat from reply)
+        subst (λ (b : ℕ). StepIsOf setting w me (carried_out setting me node time c
+        (once_full setting.layout.block setting.code fresh (with_reply c seat from reply))) me.0 b call.seq)
+        (sym books_of.call_boot ∙ ap (λ (k : Call). k.boot) (sym facts.call_is))
+        (subst (λ (l : ℕ). StepIsOf setting w me (carried_out setting me node time c
+        (once_full setting.layout.block setting.code fresh (with_reply c seat from reply))) me.0 (w.nodes me.0).boot l)
+        (ap (λ (k : Call). k.seq) (sym facts.call_is))
+        (next_is_of setting w books me node self time c own fresh (with_reply c seat from reply)
         (once_full setting.layout.block setting.code fresh (with_reply c seat from reply)) refl
-        (once_full_fits setting.layout.block setting.code fresh (with_reply c seat from reply)))
+        (once_full_fits setting.layout.block setting.code fresh (with_reply c seat from reply))))
 
     at_call : (z : Option Coordinator) → (w.nodes me.0).calls call.seq ≡ z
-        → StepIsOf setting w me (replied_at setting me now from (w.nodes me.0) call reply z) (w.numbers me.0 call.boot call.seq)
+        → StepIsOf setting w me (replied_at setting me now from node call reply z) me.0 call.boot call.seq
     at_call None none =
-        quiet_is_of setting w me (with_known (w.nodes me.0) (known_after (w.nodes me.0).known reply)) (w.numbers me.0 call.boot call.seq) refl refl
+        ballot_each (λ (step : NodeStep). StepIsOf setting w me step me.0 call.boot call.seq) setting.layout me from
+        (with_known node (known_after node.known reply)) call reply node.proposal
+        (λ seq round proposal packets reports more are.
+        quiet_is_of setting w me (record (with_known node (known_after node.known reply)) { seq = seq; round = round; proposal = proposal }) packets reports
+        me.0 call.boot call.seq self.boot self.calls (λ j packet at. inr (are j packet at)))
     at_call (Some c) is = at_seat c is (counts_at setting.layout.block c from.0 call reply) refl
+
+-- a reply that is heard
+reply_is_of : (setting : Setting) (w : World) (books : Books setting w) (me : BrickId) (now : ℕ) (from : BrickId) (call : Call) (reply : Reply)
+    → StepIsOf setting w me (heard setting me now from (w.nodes me.0) call reply) me.0 call.boot call.seq
+reply_is_of setting w books me now from call reply =
+    heard_each (λ (step : NodeStep). StepIsOf setting w me step me.0 call.boot call.seq) setting me now from (w.nodes me.0) call reply
+    (quiet_is_of setting w me (with_known (with_round (w.nodes me.0) reply) (known_after (w.nodes me.0).known reply)) [] [] me.0 call.boot call.seq refl refl
+    (none_at me.0 call.boot call.seq))
+    (λ fit.
+    replied_is_of setting w books me now from
+    (node_taught_by setting.layout.block call.group.0 (with_round (w.nodes me.0) reply) (view_counted setting.layout from (w.nodes me.0) call reply))
+    (told_each (λ (n : Node). IsSelf (w.nodes me.0) n) setting.layout.block call.group.0 (with_round (w.nodes me.0) reply)
+    (view_counted setting.layout from (w.nodes me.0) call reply) (record { boot = refl; calls = refl }) (λ view later. record { boot = refl; calls = refl }))
+    call reply)
+
+-- the brick, boot and number of a packet's call; of a packet of no call these are 0
+abbrev pub key_of : BrickId → BrickId → Message → ℕ × ℕ × ℕ
+key_of from to (Message.Request call request) = (from.0, call.boot, call.seq)
+key_of from to (Message.Reply call reply) = (to.0, call.boot, call.seq)
+key_of from to message = (0, 0, 0)
 
 -- a message that is handled
 pub message_is_of : (setting : Setting) (w : World) (books : Books setting w) (now : ℕ) (from to : BrickId) (message : Message)
     → (let packet : Packet = record { from = from; to = to; message = message } in
-    StepIsOf setting w to (received setting to now (w.nodes to.0) packet) (operation_of w packet))
+    let key = key_of from to message in
+    StepIsOf setting w to (received setting to now (w.nodes to.0) packet) key.0 key.1 key.2)
 unfolding received
 message_is_of setting w books now from to (Message.Request call request) = request_is_of setting w to from call request
 message_is_of setting w books now from to (Message.Reply call reply) = reply_is_of setting w books to now from call reply
-message_is_of setting w books now from to message = quiet_is_of setting w to (w.nodes to.0) 0 refl refl
+message_is_of setting w books now from to (Message.Learn group view) =
+    quiet_is_of setting w to (node_learnt setting.layout (w.nodes to.0) group view) [] [] 0 0 0 learnt.boot learnt.calls (none_at 0 0 0)
+  where
+    learnt : IsSelf (w.nodes to.0) (node_learnt setting.layout (w.nodes to.0) group view)
+    learnt =
+        learnt_each (λ (n : Node). IsSelf (w.nodes to.0) n) setting.layout (w.nodes to.0) group view (record { boot = refl; calls = refl })
+        (λ later. record { boot = refl; calls = refl })
+message_is_of setting w books now from to message = quiet_is_of setting w to (w.nodes to.0) [] [] 0 0 0 refl refl (none_at 0 0 0)

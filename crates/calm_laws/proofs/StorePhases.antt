@@ -5,7 +5,7 @@ use Rattle.std.proofs.lemmas.Bool.Decides.{nat_tests}
 use Rattle.std.specs.Prelude.{nat_eq, nat_lt, ◌-◌, ◌^◌}
 use Rattle.calm_laws.proofs.Asking.{each_then}
 use Rattle.calm_laws.proofs.Counts.{counted_of}
-use Rattle.calm_laws.proofs.Decided.{asked_in_phase, in_this, modify_decides, none_full, none_refuses, store_decides}
+use Rattle.calm_laws.proofs.Decided.{asked_in_phase, in_this, modify_decides, none_stops, none_refuses, store_decides}
 use Rattle.calm_laws.proofs.PhaseRuns.{Cast, IsOpen}
 use Rattle.calm_laws.proofs.Rooms.{not_full}
 use Rattle.calm_laws.proofs.Scenes.{Closes, Each, Fits, IsNewest, IsSeated, Part, Scene, Seated, Stage, reaction}
@@ -20,7 +20,7 @@ use Rattle.messages.specs.declared.requests.Request.{Request}
 use Rattle.messages.specs.declared.requests.Version.{Version}
 use Rattle.protocol.specs.Calms.{early}
 use Rattle.protocol.specs.Coordinators.{Coordinator, Ends, Sends, answer_with, answers_phase, delta_at, in_phase, request_of, some_behind}
-use Rattle.protocol.specs.Nodes.{fits_block, full_at}
+use Rattle.protocol.specs.Nodes.{fits as request_fits, full_at}
 use Rattle.protocol.specs.Replicas.{below, handle, is_changed, modified_block, modified_on, newest_of, stays, stored, top_of, unless_full}
 use Rattle.protocol.specs.Worlds.{is_answer}
 use Rattle.protocol.specs.declared.phases.Phase.{Phase}
@@ -46,7 +46,7 @@ each_so P all (x ∷ xs) = (all x, each_so P all xs)
 -- what is asked fits, by the phase's name
 pub fits_in_phase : (stage : Stage) (c : Coordinator) (phase : Phase) (x : Seated) → c.phase ≡ phase → Fits stage (in_this c phase) x → Fits stage c x
 fits_in_phase stage c phase x is fits =
-    subst (λ (r : Request). fits_block stage.setting.layout.block stage.group.m x.seat r ≡ true)
+    subst (λ (r : Request). request_fits stage.setting.layout stage.group.m c.call r (Some x.seat) ≡ true)
     (sym (asked_in_phase stage.setting.code c phase x.seat is)) fits
 
 -- what a member does, by the phase's name
@@ -111,7 +111,7 @@ store_phase stage cast s open_is phase early blocks taking =
       answer_with (read_of stage.setting.layout.block s.c.ask.op s.c.content),
       answers_well (read_of stage.setting.layout.block s.c.ask.op s.c.content),
       store_decides stage.setting.layout.block stage.setting.code fresh (record s.c { counted = map (counted_of (λ x. Stored)) cast.xs })
-          (none_full (λ x. Stored) (λ x. refl) cast.xs) phase (none_refuses (λ x. Stored) (λ x. refl) cast.xs),
+          (none_stops (λ x. Stored) (λ x. refl) (λ x. refl) cast.xs) phase (none_refuses (λ x. Stored) (λ x. refl) cast.xs),
     ))
 
 -- a change is stored, where it is stored already, or its base is the newest version
@@ -184,7 +184,7 @@ modify_phase stage cast s base j open_is phase early below long on =
       Done,
       refl,
       modify_decides stage.setting.layout.block stage.setting.code fresh (record s.c { counted = map (counted_of (λ x. Stored)) cast.xs })
-          (none_full (λ x. Stored) (λ x. refl) cast.xs) base j phase (none_refuses (λ x. Stored) (λ x. refl) cast.xs)
+          (none_stops (λ x. Stored) (λ x. refl) (λ x. refl) cast.xs) base j phase (none_refuses (λ x. Stored) (λ x. refl) cast.xs)
           ∙ ap (λ (b : Bool). cond b (Sends (in_phase (record s.c { counted = map (counted_of (λ x. Stored)) cast.xs }) (Bases base)))
           (Ends Done None (Some s.c.stamp))) (none_behind cast.xs),
     ))

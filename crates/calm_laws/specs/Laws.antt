@@ -36,12 +36,16 @@ EncodesBlocks setting = (m : ℕ) (content : List ℕ) (seat : ℕ) → length (
 abbrev pub most_records : ℕ
 most_records = 2 ^ 20
 
--- After every schedule: an operation whose messages among these bricks alone are delivered is answered, where it is calm.
+-- an operation runs in view 1 of its group, which has none before it
+abbrev pub RunsInFirst : Coordinator → Type 0
+RunsInFirst c = c.call.view.0 ≡ 1
+
+-- After every schedule: an operation in view 1 whose messages among these bricks alone are delivered is answered, where it is calm.
 abbrev pub CalmOperationsEnd : Type 0
 CalmOperationsEnd =
     (setting : Setting) (events : List Event) (n : ℕ) (bricks : List BrickId) → IsSound setting → EncodesBlocks setting
-    → setting.layout.records ≤ most_records → IsCalm setting (run setting events (first_world setting.layout)) n bricks
-    → EndsAlone setting (run setting events (first_world setting.layout)) n bricks
+    → setting.layout.records ≤ most_records → (calm : IsCalm setting (run setting events (first_world setting.layout)) n bricks)
+    → RunsInFirst calm.coordinator → EndsAlone setting (run setting events (first_world setting.layout)) n bricks
 
 -- the packet of this number is a Collect of version t, which brick me sent to this brick under the call of this coordinator, in some phase
 pub record IsCollect (w : World) (me : BrickId) (c : Coordinator) (t : Stamp) (brick : BrickId) (number : ℕ) : Type 0 where
@@ -89,5 +93,5 @@ abbrev pub CollectsLeaveOne : Type 0
 CollectsLeaveOne =
     (setting : Setting) (events : List Event) (n : ℕ) (bricks : List BrickId) → IsSound setting → EncodesBlocks setting
     → setting.layout.records ≤ most_records → (calm : IsCalm setting (run setting events (first_world setting.layout)) n bricks)
-    → (alone : List Event) (last : World) → RunsAlone setting n bricks (run setting events (first_world setting.layout)) alone last
+    → RunsInFirst calm.coordinator → (alone : List Event) (last : World) → RunsAlone setting n bricks (run setting events (first_world setting.layout)) alone last
     → LeavesItsOwn setting (run setting events (first_world setting.layout)) n bricks calm last

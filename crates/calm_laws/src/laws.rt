@@ -2,12 +2,12 @@
 
 ghost use Rattle.calm_laws.specs.Laws.{CalmOperationsEnd, CollectsLeaveOne};
 
-/// An operation that runs alone comes to its end, and is answered data or that it is done, and not aborted: whatever had happened before, and
-/// whatever else is open.
+/// An operation in view 1 of its group that runs alone comes to its end, and is answered data or that it is done, and not aborted: whatever had happened
+/// before, and whatever else is open.
 ///
 /// It runs alone among some bricks where none of its messages was delivered before, and then those among these bricks are delivered one after
-/// another, in the order of sending, and nothing else happens. The bricks are distinct and up, they serve the view of the operation, a quorum
-/// of its members is among them, each has room for two live records more, and no time that they or its coordinator know or keep is 2^63 or
+/// another, in the order of sending, and nothing else happens. The bricks are distinct and up, they have learnt no later view of its group and have accepted
+/// no list to follow view 1, a quorum of the members is among them, each has room for two live records more, and no time that they or its coordinator know or keep is 2^63 or
 /// later (`protocol/specs/Calms.antt`, `IsCalm`). This holds for every layout within the limits of a quorum whose bricks keep at most 2^20
 /// live records, and for every code that gives back what it encodes, in blocks of the layout's length.
 ///
@@ -19,9 +19,9 @@ pub fn calm_operations_end()
     ensures { CalmOperationsEnd }
 {}
 
-/// Where an operation ran alone and made a version, and just a quorum of the members of its view are among these bricks, its Collects leave that
+/// Where an operation in view 1 ran alone and made a version, and just a quorum of the members of that view are among these bricks, its Collects leave that
 /// version only: once they were delivered to these members, each handled whole, and nothing else happened meanwhile, each of these members keeps
-/// one version of the stripe in the view, which is the operation's. One was sent to each of them; they may come in any order, and more than once.
+/// one version of the stripe in view 1, which is the operation's. One was sent to each of them; they may come in any order, and more than once.
 ///
 /// Why: the members whose replies count are then all that are among these bricks, and each of them has stored the version, as its newest. A log
 /// ascends, and no stamp stands twice in it: so what is not below its newest version is that version.

@@ -14,7 +14,8 @@ use Rattle.messages.specs.declared.turns.Next.TheVariants.{Wait, Send, End, Reco
 use Rattle.coord_phase.specs.declared.operations.News.{News}
 use Rattle.protocol.specs.declared.phases.Counted.{Counted}
 use Rattle.protocol.specs.declared.phases.FullMember.{FullMember}
-use Rattle.protocol.specs.Coordinators.{Next, Ignores, Waits, counts_at, lowest_full, aborted_full, decided, on_reply, counted_at}
+use Rattle.protocol.specs.declared.phases.Mover.{Mover}
+use Rattle.protocol.specs.Coordinators.{Next, Ignores, Waits, counts_at, lowest_full, aborted_full, lowest_mover, aborted_moved, decided, on_reply, counted_at}
 use Rattle.stripe_code.specs.Codes.{block_code}
 use Rattle.coord_phase.specs.Operations.{Operation, StaysAsked, with_state, without_last, telling, needed, seat_told, counts, heard, heard_at}
 use Rattle.coord_phase.specs.Decisions.{decided_on, decision, Answers, AsksRecovery, HasBlocks, SendsPhase, IsWait}
@@ -55,7 +56,7 @@ heard_reply fresh op from call reply None is =
       heard = λ some. absurd (false≢true some);
       unchanged = λ none. refl;
       uncounted = λ some. absurd (false≢true some);
-      stays = record { block = refl; group = refl; ask = refl };
+      stays = record { block = refl; group = refl; prior = refl; ask = refl };
     }
 heard_reply fresh op from call reply (Some seat) is =
     let after = heard_at op from (messages.Reply call reply) (Some seat) in
@@ -66,7 +67,7 @@ heard_reply fresh op from call reply (Some seat) is =
           (decided op.block (block_code op.block) fresh after.state);
       unchanged = λ none. absurd (false≢true (sym none));
       uncounted = λ some. ap (λ (counted : List Counted). with_state op (record op.state { counted = counted })) (all_but_last op.state.counted _);
-      stays = record { block = refl; group = refl; ask = refl };
+      stays = record { block = refl; group = refl; prior = refl; ask = refl };
     }
 
 heard_message : (fresh : Option Stamp) (op : Operation) (from : BrickId) (message : Message)
@@ -79,7 +80,7 @@ heard_message fresh op from message =
       heard = λ some. absurd (false≢true some);
       unchanged = λ none. refl;
       uncounted = λ some. absurd (false≢true some);
-      stays = record { block = refl; group = refl; ask = refl };
+      stays = record { block = refl; group = refl; prior = refl; ask = refl };
     }
 
 -- a message that does not count changes nothing, and the machine leaves it out
@@ -106,13 +107,14 @@ heard_stays op from message = (heard_message None op from message).stays
 -- what is asked stays so from one step to the next
 pub stays_both : (a b c : Operation) → StaysAsked a b → StaysAsked b c → StaysAsked a c
 stays_both a b c first second =
-    record { block = second.block ∙ first.block; group = second.group ∙ first.group; ask = second.ask ∙ first.ask }
+    record { block = second.block ∙ first.block; group = second.group ∙ first.group; prior = second.prior ∙ first.prior; ask = second.ask ∙ first.ask }
 
 stays_telling : (mid after : Operation) (news : News) → after ≡ telling mid mid.state news → StaysAsked mid after
 stays_telling mid after news is =
     record {
       block = ap (λ (op : Operation). op.block) is;
       group = ap (λ (op : Operation). op.state.group) is;
+      prior = ap (λ (op : Operation). op.state.prior) is;
       ask = ap (λ (op : Operation). op.state.ask) is;
     }
 
@@ -173,20 +175,38 @@ answers_decided fresh before from message mid after answered full heard_is some 
       stays = heard_then before from message mid after heard_is stays;
     }
 
--- where a member's store is full, that aborts it
-full_decided : (fresh : Option Stamp) (op : Operation) (f : FullMember) → lowest_full op.state.counted ≡ Some f
+-- a member that told a later view aborts it, whatever the others told
+moved_decided : (fresh : Option Stamp) (op : Operation) (m : Mover) → lowest_mover op.state.counted ≡ Some m
+    → decided op.block (block_code op.block) fresh op.state ≡ aborted_moved m
+unfolding decided
+moved_decided fresh op m is = rw is refl
+
+pub answers_moved : (fresh : Option Stamp) (before : Operation) (from : BrickId) (message : Message) (mid after : Operation) (answered : Answer)
+    (full : Bool) (m : Mover)
+    → mid ≡ heard before from message → counts before from message ≡ true → full ≡ is_full mid → full ≡ true
+    → lowest_mover mid.state.counted ≡ Some m → decision after answered ≡ aborted_moved m → SendsPhase after answered
+    → after ≡ telling mid mid.state News.Nothing
+    → Answers fresh before from message answered after
+answers_moved fresh before from message mid after answered full m heard_is some full_is enough told aborts sent is =
+    let decides = moved_decided fresh mid m told in
+    answers_decided fresh before from message mid after answered full heard_is some full_is enough (aborts ∙ sym decides) sent
+    (stays_telling mid after News.Nothing is)
+
+-- where no member told one, and a member's store is full, that aborts it
+full_decided : (fresh : Option Stamp) (op : Operation) (f : FullMember) → lowest_mover op.state.counted ≡ None
+    → lowest_full op.state.counted ≡ Some f
     → decided op.block (block_code op.block) fresh op.state ≡ aborted_full f
 unfolding decided
-full_decided fresh op f is = rw is refl
+full_decided fresh op f none is = rw none (rw is refl)
 
 pub answers_full : (fresh : Option Stamp) (before : Operation) (from : BrickId) (message : Message) (mid after : Operation) (answered : Answer)
     (full : Bool) (f : FullMember)
     → mid ≡ heard before from message → counts before from message ≡ true → full ≡ is_full mid → full ≡ true
-    → lowest_full mid.state.counted ≡ Some f → decision after answered ≡ aborted_full f → SendsPhase after answered
+    → lowest_mover mid.state.counted ≡ None → lowest_full mid.state.counted ≡ Some f → decision after answered ≡ aborted_full f → SendsPhase after answered
     → after ≡ telling mid mid.state News.Nothing
     → Answers fresh before from message answered after
-answers_full fresh before from message mid after answered full f heard_is some full_is enough told aborts sent is =
-    let decides = full_decided fresh mid f told in
+answers_full fresh before from message mid after answered full f heard_is some full_is enough none told aborts sent is =
+    let decides = full_decided fresh mid f none told in
     answers_decided fresh before from message mid after answered full heard_is some full_is enough (aborts ∙ sym decides) sent
     (stays_telling mid after News.Nothing is)
 

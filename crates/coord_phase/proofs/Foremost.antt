@@ -6,8 +6,9 @@ use Rattle.fab_base.specs.Stamps.{stamp_below}
 use Rattle.protocol.specs.declared.phases.Counted.{Counted}
 use Rattle.protocol.specs.declared.phases.Refuser.{Refuser}
 use Rattle.protocol.specs.declared.phases.FullMember.{FullMember}
-use Rattle.protocol.specs.Coordinators.{refuser_of, greater_refuser, greatest_refuser, full_member_of, lower_full, lowest_full, greater_stamp, greatest_found}
-use Rattle.coord_phase.specs.Foremost.{foremost, foremost_of, told_version, yields_refuser, yields_full}
+use Rattle.protocol.specs.declared.phases.Mover.{Mover}
+use Rattle.protocol.specs.Coordinators.{refuser_of, greater_refuser, greatest_refuser, full_member_of, lower_full, lowest_full, mover_of, lower_mover, lowest_mover, greater_stamp, greatest_found}
+use Rattle.coord_phase.specs.Foremost.{foremost, foremost_of, told_version, yields_refuser, yields_full, yields_mover}
 
 -- three tests one after the other, as one
 one_test : {X : Type 0} (less more low : Bool) (x y : X) → cond (less || (not more && low)) x y ≡ cond less x (cond more y (cond low x y))
@@ -25,6 +26,11 @@ full_of_two None b = refl
 full_of_two (Some a) None = refl
 full_of_two (Some a) (Some b) = refl
 
+mover_of_two : (a b : Option Mover) → foremost_of yields_mover a b ≡ lower_mover a b
+mover_of_two None b = refl
+mover_of_two (Some a) None = refl
+mover_of_two (Some a) (Some b) = refl
+
 stamp_of_two : (a b : Option Stamp) → foremost_of stamp_below a b ≡ greater_stamp a b
 stamp_of_two None b = refl
 stamp_of_two (Some a) None = refl
@@ -41,6 +47,12 @@ pub lowest_full_is : (counted : List Counted) → foremost full_member_of yields
 lowest_full_is [] = refl
 lowest_full_is (c ∷ counted) =
     ap (foremost_of yields_full (full_member_of c)) (lowest_full_is counted) ∙ full_of_two (full_member_of c) (lowest_full counted)
+
+-- the member of the lowest seat that told a later view
+pub lowest_mover_is : (counted : List Counted) → foremost mover_of yields_mover counted ≡ lowest_mover counted
+lowest_mover_is [] = refl
+lowest_mover_is (c ∷ counted) =
+    ap (foremost_of yields_mover (mover_of c)) (lowest_mover_is counted) ∙ mover_of_two (mover_of c) (lowest_mover counted)
 
 -- the greatest version
 pub greatest_found_is : (counted : List Counted) → foremost told_version stamp_below counted ≡ greatest_found counted

@@ -5,6 +5,7 @@ use Rattle.fab_base.specs.Stamps.{stamp_below}
 use Rattle.protocol.specs.declared.phases.Counted.{Counted}
 use Rattle.protocol.specs.declared.phases.Refuser.{Refuser}
 use Rattle.protocol.specs.declared.phases.FullMember.{FullMember}
+use Rattle.protocol.specs.declared.phases.Mover.{Mover}
 use Rattle.protocol.specs.Coordinators.{told_stamp}
 
 -- of two, where there are some, the first, unless it yields to the second
@@ -29,3 +30,7 @@ yields_refuser a b = stamp_below a.stamp b.stamp || (not (stamp_below b.stamp a.
 -- a full member goes after one at a lower seat
 abbrev pub yields_full : FullMember → FullMember → Bool
 yields_full a b = nat_lt b.seat a.seat
+
+-- a member that told a later view goes after one at a lower seat
+abbrev pub yields_mover : Mover → Mover → Bool
+yields_mover a b = nat_lt b.seat a.seat

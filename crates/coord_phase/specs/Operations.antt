@@ -67,10 +67,11 @@ may_count c seat = not (has_seat seat c.counted)
 abbrev pub without_last : Coordinator → Coordinator
 without_last c = record c { counted = take (length c.counted - 1) c.counted }
 
--- an operation stays what it is: its blocks' length, its group, and what it is asked
+-- an operation stays what it is: its blocks' length, its group, the members before these, and what it is asked
 pub record StaysAsked (before after : Operation) : Type 0 where
   pub block : after.block ≡ before.block
   pub group : after.state.group ≡ before.state.group
+  pub prior : after.state.prior ≡ before.state.prior
   pub ask : after.state.ask ≡ before.state.ask
 
 -- a group, or one without data blocks
@@ -105,6 +106,7 @@ opened_op layout view call ask stamp phase =
       block = layout.block;
       state = record {
         group = group_in_view layout view.members ask.group.0;
+        prior = view.prior;
         ask = ask;
         stamp = stamp;
         round = 1;

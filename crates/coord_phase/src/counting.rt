@@ -66,6 +66,7 @@ fn answers(block: u16, stamp: Stamp, seat: u8, phase: Phase, reply: &Reply) -> b
             may_be_found(block, bound, found)
         }
         (Phase::Bases(base), Reply::OrderedRead { found }) => may_be_base(block, base, found),
+        (_, Reply::Moved { .. }) => true,
         (Phase::Orders, Reply::Ordered)
         | (Phase::Modifies { .. }, Reply::Stored | Reply::Behind { .. })
         | (Phase::Stores, Reply::Stored)

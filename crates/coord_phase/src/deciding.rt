@@ -11,7 +11,7 @@ use std::alloc::Global;
 /// How the operations of one kind go on once a quorum of replies counts.
 pub trait Decide {
     ghost use Rattle.std.specs.Prelude.{◌≡◌, ◌-◌, ◌<◌, ◌≤◌, ◌^◌, true, None, IfOk, OnOk, OnErr, length};
-    ghost use Rattle.protocol.specs.Coordinators.{decided, lowest_full};
+    ghost use Rattle.protocol.specs.Coordinators.{decided, lowest_full, lowest_mover};
     ghost use Rattle.protocol.specs.Nodes.{has_length};
     ghost use Rattle.stripe_code.specs.Codes.{block_code};
     ghost use Rattle.coord_phase.specs.Operations.{StaysAsked};
@@ -23,13 +23,14 @@ pub trait Decide {
     // whether they may ask that their stripe be recovered
     ghost may_recover: { Bool };
 
-    /// What a quorum of replies decides, none of which tells of a full store. A new round of ordering would have the fresh stamp.
+    /// What a quorum of replies decides, none of which tells of a later view, or of a full store. A new round of ordering would have the fresh stamp.
     ///
     /// # Errors
     ///
     /// `NoMemory` where no memory was left; then nothing has changed.
     fn decide(op: &mut Operation, alloc: Global, fresh: Option<Stamp>) -> Result<Next, NoMem>
         requires own { is_own op.old.state.phase ≡ true }
+        requires served { lowest_mover op.old.state.counted ≡ None }
         requires room { lowest_full op.old.state.counted ≡ None }
         requires long { has_length op.old.state.group.m op.old.block op.old.state.ask.op ≡ true }
         requires enough { op.old.state.group.m ≤ length op.old.state.counted }
@@ -47,8 +48,8 @@ impl Operation {
     ghost use Rattle.coord_phase.specs.Operations.{without_last};
     ghost use Rattle.coord_phase.specs.Decisions.{Answers, AsksRecovery};
 
-    /// What an operation of this kind does with a message: it counts a reply, and decides once a quorum counts. A member's full store aborts
-    /// it, whatever the others told. A new round of ordering would have the fresh stamp; there is none where no later time is left.
+    /// What an operation of this kind does with a message: it counts a reply, and decides once a quorum counts. A member that serves the
+    /// operation's view no more aborts it, and else one whose store is full, whatever the others told. A new round of ordering would have the fresh stamp; there is none where no later time is left.
     ///
     /// # Errors
     ///
@@ -71,6 +72,9 @@ impl Operation {
         }
         if !self.is_full() {
             return Ok(self.wait());
+        }
+        if let Some(member) = self.mover() {
+            return Ok(self.abort_moved(member));
         }
         if let Some(member) = self.full_member() {
             return Ok(self.abort_full(member));

@@ -45,12 +45,13 @@ pub enum News {
     Stored,
 }
 
-/// An open operation: the bytes of a block, the group of its view, what is asked, how far the operation is, the base that it found,
-/// where it did, the replies that count in its phase, and what is new of a version.
+/// An open operation: the bytes of a block, the group of its view, the members of the view before that, what is asked, how far the operation
+/// is, the base that it found, where it did, the replies that count in its phase, and what is new of a version.
 #[derive(Drop)]
 pub struct Operation {
     pub(crate) block: u16,
     pub(crate) group: Group,
+    pub(crate) prior: Members,
     pub(crate) ask: Ask,
     pub(crate) stage: Stage,
     pub(crate) on_base: Option<OnBase>,
@@ -66,12 +67,12 @@ impl Model for Operation {
 
     ghost view = { λ op. record {
       block = op.block;
-      state = record { group = op.group; ask = op.ask; stamp = op.stage.stamp; round = op.stage.round; base = base_in op.on_base; content = content_in op.ask.op op.on_base; call = op.stage.call; phase = op.stage.phase; counted = op.replies.list.items };
+      state = record { group = op.group; prior = op.prior; ask = op.ask; stamp = op.stage.stamp; round = op.stage.round; base = base_in op.on_base; content = content_in op.ask.op op.on_base; call = op.stage.call; phase = op.stage.phase; counted = op.replies.list.items };
       news = op.news;
     } };
 
     ghost invariant = { λ op. IsInPhase op.block
-        (record { group = op.group; ask = op.ask; stamp = op.stage.stamp; round = op.stage.round; base = base_in op.on_base; content = content_in op.ask.op op.on_base; call = op.stage.call; phase = op.stage.phase; counted = op.replies.list.items })
+        (record { group = op.group; prior = op.prior; ask = op.ask; stamp = op.stage.stamp; round = op.stage.round; base = base_in op.on_base; content = content_in op.ask.op op.on_base; call = op.stage.call; phase = op.stage.phase; counted = op.replies.list.items })
         × (op.replies.tally.n ≡ length op.group.members) };
 }
 
@@ -154,6 +155,7 @@ impl Operation {
         Operation {
             block: layout.block(),
             group,
+            prior: view.prior.copy(),
             ask,
             stage: Stage {
                 stamp,
@@ -174,6 +176,7 @@ impl Operation {
         Ok(Operation {
             block: self.block,
             group: self.group.copy(),
+            prior: self.prior.copy(),
             ask: self.ask.copy(alloc)?,
             stage: self.stage,
             on_base: copy_on_base(alloc, &self.on_base)?,

@@ -8,7 +8,7 @@ use crate::operations::{News, OnBase, Operation, Stage};
 use crate::replies::Replies;
 use fab_base::{Answer, Bytes, Cause, NoMem, Op, Stamp};
 use messages::{Messages, Next, Turn};
-use protocol::{FullMember, Phase, Refuser};
+use protocol::{FullMember, Mover, Phase, Refuser};
 use std::alloc::Global;
 use std::mem;
 
@@ -48,7 +48,7 @@ fn content_after(alloc: Global, op: &Op, block: u16, m: u8, content: Bytes) -> R
 
 impl Operation {
     ghost use Rattle.std.specs.Prelude.{◌≡◌, ◌-◌, ◌*◌, ◌<◌, ◌^◌, true, None, Some, IsSome, IfOk, OnOk, OnErr, length};
-    ghost use Rattle.protocol.specs.Coordinators.{Ends, bytes_at, block_written, next_phase, in_phase, restoring, modifying, ordered_again, answer_with, common_version_at, greatest_refuser, aborted_by, aborted_full, unless_refused};
+    ghost use Rattle.protocol.specs.Coordinators.{Ends, bytes_at, block_written, next_phase, in_phase, restoring, modifying, ordered_again, answer_with, common_version_at, greatest_refuser, aborted_by, aborted_full, aborted_moved, unless_refused};
     ghost use Rattle.stripe_code.specs.Codes.{block_code};
     ghost use Rattle.reg_model.specs.Registers.{read_of};
     ghost use Rattle.protocol.specs.declared.phases.Phase.TheVariants.{Orders, OrdersAt, Stores};
@@ -260,6 +260,20 @@ impl Operation {
         Next::End(Answer::Aborted(Cause::Full {
             brick: member.brick,
             live: member.live,
+        }))
+    }
+
+    /// Ends the operation, since this member told a later view than the operation's.
+    pub(crate) fn abort_moved(&mut self, mover: Mover) -> Next
+        ensures next { decision self.new result ≡ aborted_moved mover }
+        ensures state { self.new ≡ telling self.old self.old.state news.Nothing }
+        ensures sent { SendsPhase self.new result }
+        ensures never { NeverRecovers result }
+    {
+        self.tell(News::Nothing);
+        Next::End(Answer::Aborted(Cause::Moved {
+            brick: mover.brick,
+            view: mover.view,
         }))
     }
 

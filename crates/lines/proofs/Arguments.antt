@@ -1,6 +1,6 @@
 -- What stands behind a line's first word, where there are so many words of it.
 use Rattle.std.proofs.Common.{◌≡◌, ◌≢◌, ◌-◌, ◌<◌, ◌≤◌, ℕ, List, [], ◌∷◌, length, map, take, drop, take_all, get_or, Bor, Some, None, refl, arith}
-use Rattle.lines.specs.Grammar.{write_block, read_block, write_all, read_all, fault, deliver, start, clock, one_brick}
+use Rattle.lines.specs.Grammar.{write_block, read_block, write_all, read_all, fault, deliver, start, clock, one_brick, calm, propose}
 
 -- the words that stand in a slice
 abbrev pub words : List (Bor (List ℕ)) → List (List ℕ)
@@ -60,12 +60,32 @@ unfolding start
 start_none [] none = refl
 start_none (b ∷ behind) none = absurd (omega arith)
 
+pub calm_none : (found : List (Bor (List ℕ))) → length found < 1 → None ≡ calm (words found)
+unfolding calm
+calm_none [] none = refl
+calm_none (n ∷ behind) none = absurd (omega arith)
+
+pub propose_none : (found : List (Bor (List ℕ))) → length found < 2 → None ≡ propose (words found)
+unfolding propose
+propose_none [] none = refl
+propose_none (b ∷ []) none = refl
+propose_none (b ∷ g ∷ behind) none = absurd (omega arith)
+
 -- the first word, and those behind it
 pub first_and_rest : (found : List (Bor (List ℕ))) → 1 ≤ length found
     → words found ≡ word_at found 0 ∷ words (take (length found - 1) (drop 1 found))
 first_and_rest [] some = absurd (omega arith)
 first_and_rest (word ∷ rest) some =
     let behind : take (length (word ∷ rest) - 1) rest ≡ rest = take_all _ _ (omega arith) in
+    rw behind refl
+
+-- the first two words, and those behind them
+pub two_and_rest : (found : List (Bor (List ℕ))) → 2 ≤ length found
+    → words found ≡ word_at found 0 ∷ word_at found 1 ∷ words (take (length found - 2) (drop 2 found))
+two_and_rest [] some = absurd (omega arith)
+two_and_rest (word ∷ []) some = absurd (omega arith)
+two_and_rest (word ∷ second ∷ rest) some =
+    let behind : take (length (word ∷ second ∷ rest) - 2) rest ≡ rest = take_all _ _ (omega arith) in
     rw behind refl
 
 -- no word befalls nothing, and any count but 0, 2 and 4 is none

@@ -1,12 +1,11 @@
--- The numbers that a list of tokens spells, token by token.
+-- The numbers that a list of tokens spells, token by token, and how many may name bricks.
 use Rattle.std.proofs.Common.{◌≡◌, ◌≢◌, ℕ, ◌+◌, ◌-◌, ◌<◌, ◌≤◌, Bool, cond, ◌&&◌, true, false, nat_lt, nat_le, List, [], ◌∷◌, ◌++◌, length, take, drop, append-nil, append_assoc, Option, Some, None, option_and_then, ◌⊎◌, inl, inr, ⊎_elim, refl, sym, ap, ◌∙◌, Bor, arith}
 use Rattle.std.specs.Option.{option_map}
 use Rattle.std.proofs.lemmas.Bool.Decides.{nat_tests}
 use Rattle.std.proofs.lemmas.List.{drop_more, drop_all, length-map}
 use Rattle.lines.specs.Tokens.{number}
-use Rattle.lines.specs.Grammar.{numbers, calm}
-use Rattle.lines.specs.declared.forms.Line.TheVariants.{Calm}
-use Rattle.lines.proofs.Arguments.{words, word_at, first_and_rest}
+use Rattle.lines.specs.Grammar.{numbers, brick_list}
+use Rattle.lines.proofs.Arguments.{words, word_at}
 
 -- numbers that were found, before those that are left
 abbrev pub onto : List ℕ → Option (List ℕ) → Option (List ℕ)
@@ -52,53 +51,30 @@ pub numbers_none_yet : (left : Option (List ℕ)) → onto [] left ≡ left
 numbers_none_yet None = refl
 numbers_none_yet (Some more) = refl
 
--- no word is no operation, and bricks are 1 to 64
-pub calm_none : (found : List (Bor (List ℕ))) → length found < 1 → None ≡ calm (words found)
-unfolding calm
-calm_none [] none = refl
-calm_none (n ∷ behind) none = absurd (omega arith)
-
+-- there are as many words as tokens
 pub length_words : (found : List (Bor (List ℕ))) → length (words found) ≡ length found
 length_words found = length-map found (λ token. token.now)
 
--- an operation, and its bricks
-unfold_calm : (n : List ℕ) (tokens : List (List ℕ))
-    → calm (n ∷ tokens)
-    ≡ cond (nat_lt 0 (length tokens) && nat_le (length tokens) 64)
-    (option_and_then (λ operation. option_and_then (λ bricks. Some (Calm operation bricks)) (numbers tokens)) (number n)) None
-unfolding calm
-unfold_calm n tokens = refl
-
--- too few bricks, or too many
-pub calm_count : (found : List (Bor (List ℕ))) → 1 ≤ length found
-    → (length (take (length found - 1) (drop 1 found)) ≡ 0) ⊎ (64 < length (take (length found - 1) (drop 1 found))) → None ≡ calm (words found)
-calm_count found some bad =
-    let behind : List (Bor (List ℕ)) = take (length found - 1) (drop 1 found) in
-    let same : length (words behind) ≡ length behind = length_words behind in
-    let off : nat_lt 0 (length (words behind)) && nat_le (length (words behind)) 64 ≡ false = refused (length (words behind))
+-- too few tokens, or too many, name no bricks
+pub brick_list_off : (found : List (Bor (List ℕ))) → (length found ≡ 0) ⊎ (64 < length found) → None ≡ brick_list (words found)
+unfolding brick_list
+brick_list_off found bad =
+    let same : length (words found) ≡ length found = length_words found in
+    let off : nat_lt 0 (length (words found)) && nat_le (length (words found)) 64 ≡ false = refused (length (words found))
     (⊎_elim (λ none. inl (same ∙ none)) (λ many. inr (omega arith)) bad) in
-    sym (ap calm (first_and_rest found some) ∙ unfold_calm (word_at found 0) (words behind)
-    ∙ ap (λ (b : Bool). cond b (option_and_then (λ operation. option_and_then (λ bricks. Some (Calm operation bricks)) (numbers (words behind)))
-    (number (word_at found 0))) None) off)
+    rw off refl
   where
     refused : (n : ℕ) → (n ≡ 0) ⊎ (64 < n) → nat_lt 0 n && nat_le n 64 ≡ false
     refused n (inl none) = grind (arith, nat_tests)
     refused n (inr many) = grind (arith, nat_tests)
 
--- 1 to 64 of them
-pub calm_counted : (found : List (Bor (List ℕ))) (n : Option ℕ) (bricks : Option (List ℕ)) → 1 ≤ length found
-    → length (take (length found - 1) (drop 1 found)) ≢ 0 → length (take (length found - 1) (drop 1 found)) ≤ 64
-    → n ≡ number (word_at found 0) → bricks ≡ numbers (words (take (length found - 1) (drop 1 found)))
-    → option_and_then (λ operation. option_and_then (λ numbers. Some (Calm operation numbers)) bricks) n ≡ calm (words found)
-calm_counted found n bricks some least most spells are =
-    let behind : List (Bor (List ℕ)) = take (length found - 1) (drop 1 found) in
-    let same : length (words behind) ≡ length behind = length_words behind in
-    let count : ℕ = length (words behind) in
-    let on : nat_lt 0 (length (words behind)) && nat_le (length (words behind)) 64 ≡ true = taken (length (words behind)) (omega arith) (omega arith) in
-    rw (spells, are)
-    (sym (ap calm (first_and_rest found some) ∙ unfold_calm (word_at found 0) (words behind)
-    ∙ ap (λ (b : Bool). cond b (option_and_then (λ operation. option_and_then (λ bricks. Some (Calm operation bricks)) (numbers (words behind)))
-    (number (word_at found 0))) None) on))
+-- 1 to 64 of them name those that they spell
+pub brick_list_on : (found : List (Bor (List ℕ))) → length found ≢ 0 → length found ≤ 64 → brick_list (words found) ≡ numbers (words found)
+unfolding brick_list
+brick_list_on found least most =
+    let same : length (words found) ≡ length found = length_words found in
+    let on : nat_lt 0 (length (words found)) && nat_le (length (words found)) 64 ≡ true = taken (length (words found)) (omega arith) (omega arith) in
+    rw on refl
   where
     taken : (n : ℕ) → 0 < n → n ≤ 64 → nat_lt 0 n && nat_le n 64 ≡ true
     taken n least most = grind (arith, nat_tests)

@@ -5,7 +5,7 @@ use Rattle.std.specs.Option.{option_map}
 use Rattle.std.specs.Str.{bytes_eq}
 use Rattle.lines.specs.Tokens.{tokens, number, bytes_of_hex}
 use Rattle.lines.specs.declared.forms.Line.{Line}
-use Rattle.lines.specs.declared.forms.Line.TheVariants.{Nothing, Invoke, Deliver, SetClock, Tick, Crash, Start, Calm}
+use Rattle.lines.specs.declared.forms.Line.TheVariants.{Nothing, Invoke, Deliver, SetClock, Tick, Crash, Start, Propose, Calm}
 use Rattle.lines.specs.declared.forms.Access.{Access}
 use Rattle.lines.specs.declared.forms.Access.TheVariants.{WriteBlock, ReadBlock, WriteStripe, ReadStripe}
 use Rattle.lines.specs.declared.forms.Fault.{Fault}
@@ -120,14 +120,26 @@ numbers (token ∷ tokens) = do
   others ← numbers tokens
   Some (first ∷ others)
 
+-- the numbers of 1 to 64 bricks, as tokens spell them
+unfoldable pub brick_list : List (List ℕ) → Option (List ℕ)
+brick_list tokens = if nat_lt 0 (length tokens) && nat_le (length tokens) 64 then numbers tokens else None
+
 -- `calm N B ..`, behind its first word: 1 to 64 bricks
 unfoldable pub calm : List (List ℕ) → Option Line
-calm (n ∷ tokens) =
-    if nat_lt 0 (length tokens) && nat_le (length tokens) 64 then (do
-      operation ← number n
-      bricks ← numbers tokens
-      Some (Calm operation bricks)) else None
+calm (n ∷ tokens) = do
+  operation ← number n
+  bricks ← brick_list tokens
+  Some (Calm operation bricks)
 calm _ = None
+
+-- `view B G M ..`, behind its first word: 1 to 64 members
+unfoldable pub propose : List (List ℕ) → Option Line
+propose (b ∷ g ∷ tokens) = do
+  brick ← number b
+  group ← number g
+  members ← brick_list tokens
+  Some (Propose brick group members)
+propose _ = None
 
 -- what a line says whose first word and the words behind it are these; nothing else is a line
 unfoldable pub form : List ℕ → List (List ℕ) → Option Line
@@ -141,6 +153,7 @@ form word arguments =
     else if bytes_eq word (codes "tick") then option_map Tick (one_brick arguments)
     else if bytes_eq word (codes "crash") then option_map Crash (one_brick arguments)
     else if bytes_eq word (codes "start") then start arguments
+    else if bytes_eq word (codes "view") then propose arguments
     else if bytes_eq word (codes "calm") then calm arguments
     else None
 

@@ -1,6 +1,6 @@
 // The forms of a line.
 ghost use Rattle.std.specs.Prelude.{◌≡◌, map, IfOk};
-ghost use Rattle.lines.specs.Grammar.{line_of, line_of_tokens, form, write_all, read_all, write_block, read_block, invoke, call_number, fail, cut, fault, deliver, start, clock, one_brick, numbers, calm};
+ghost use Rattle.lines.specs.Grammar.{line_of, line_of_tokens, form, write_all, read_all, write_block, read_block, invoke, call_number, fail, cut, fault, deliver, start, clock, one_brick, numbers, brick_list, calm, propose};
 
 use crate::brick_lists::BrickList;
 use crate::tokens::{parse_hex, parse_number, split};
@@ -10,7 +10,7 @@ use std::alloc::Global;
 /// The most bytes of a line, not counting its line feed and the one carriage return before that.
 pub const LINE_LIMIT: usize = 70_000;
 
-/// The most bricks among which an operation is to run alone.
+/// The most bricks that a line names at its end.
 const MOST_BRICKS: usize = 64;
 
 /// What an operation is to do with its stripe. A data block goes by its number, any below 2^64: whether the stripe has such a block is for the
@@ -92,6 +92,15 @@ pub enum Line {
         /// What is to befall a call of that.
         fault: Option<Fault>,
     },
+    /// A brick is to propose members of the next view of a group: `view B G M ..`, with 1 to 64 members.
+    Propose {
+        /// The brick that is asked.
+        brick: u64,
+        /// The group.
+        group: u64,
+        /// The members.
+        members: BrickList,
+    },
     /// An operation is to run alone among some bricks, until it ends: `calm N B ..`, with 1 to 64 bricks.
     Calm {
         /// The number of the operation, in the order of beginning.
@@ -153,6 +162,8 @@ fn parse_form(alloc: Global, word: &[u8], arguments: &[&[u8]]) -> Result<Option<
         Ok(parse_brick(arguments).map(|brick| Line::Crash { brick }))
     } else if word == b"start".as_slice() {
         Ok(parse_start(arguments))
+    } else if word == b"view".as_slice() {
+        parse_propose(alloc, arguments)
     } else if word == b"calm".as_slice() {
         parse_calm(alloc, arguments)
     } else {
@@ -352,16 +363,46 @@ fn parse_calm(alloc: Global, arguments: &[&[u8]]) -> Result<Option<Line>, NoMem>
     let [operation, behind @ ..] = arguments else {
         return Ok(None);
     };
-    if behind.len() == 0 || behind.len() > MOST_BRICKS {
-        return Ok(None);
-    }
     let Some(operation) = parse_number(operation) else {
         return Ok(None);
     };
-    let Some(bricks) = parse_numbers(alloc, behind)? else {
+    let Some(bricks) = parse_bricks(alloc, behind)? else {
         return Ok(None);
     };
     Ok(Some(Line::Calm { operation, bricks }))
+}
+
+/// `view B G M ..`, behind its first word: 1 to 64 members.
+fn parse_propose(alloc: Global, arguments: &[&[u8]]) -> Result<Option<Line>, NoMem>
+    ensures { IfOk result (λ line. line ≡ propose (map (λ token. token.now) arguments.now)) }
+{
+    let [brick, group, behind @ ..] = arguments else {
+        return Ok(None);
+    };
+    let Some(brick) = parse_number(brick) else {
+        return Ok(None);
+    };
+    let Some(group) = parse_number(group) else {
+        return Ok(None);
+    };
+    let Some(members) = parse_bricks(alloc, behind)? else {
+        return Ok(None);
+    };
+    Ok(Some(Line::Propose {
+        brick,
+        group,
+        members,
+    }))
+}
+
+/// The numbers of 1 to 64 bricks. None where there are fewer or more tokens, or one spells no number.
+fn parse_bricks(alloc: Global, tokens: &[&[u8]]) -> Result<Option<BrickList>, NoMem>
+    ensures { IfOk result (λ found. found ≡ brick_list (map (λ token. token.now) tokens.now)) }
+{
+    if tokens.len() == 0 || tokens.len() > MOST_BRICKS {
+        return Ok(None);
+    }
+    parse_numbers(alloc, tokens)
 }
 
 /// The numbers that tokens spell. None where one spells none.

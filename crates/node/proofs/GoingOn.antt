@@ -85,12 +85,13 @@ phase_left d News.Stored = refl
 module _ (layout : Layout) (before after : Operation) (block : (shown_of after).block ≡ (shown_of before).block) where
   -- an operation that waits sends and tells nothing
   pub waits_out : (known : ℕ) → (coordinator_of after).call ≡ (coordinator_of before).call
-      → CarriesOut layout before after known known (machine.Waits (coordinator_of after)) (record { messages = []; told = []; answers = [] })
+      → CarriesOut layout before after known known (machine.Waits (coordinator_of after)) (record { messages = []; told = []; answers = []; reports = [] })
   waits_out known same =
       record {
         packets = λ me. refl;
         told = refl;
         answers = refl;
+        reports = refl;
         knows = refl;
         left = refl;
         keeps = ap (λ (call : Call). call.seq) same;
@@ -101,7 +102,7 @@ module _ (layout : Layout) (before after : Operation) (block : (shown_of after).
   pub begins_out : (known later : ℕ) (messages : List (BrickId × Message)) → SendsPhase layout after messages
       → (coordinator_of after).call ≡ next_phase (coordinator_of before).call
       → (let next = begins_in (shown_of after).news (coordinator_of after) in later ≡ known_by known next
-      → CarriesOut layout before after known later next (record { messages = messages; told = told_in (coordinator_of after).call.seq next; answers = [] }))
+      → CarriesOut layout before after known later next (record { messages = messages; told = told_in (coordinator_of after).call.seq next; answers = []; reports = [] }))
   begins_out known later messages sends call knows =
       let c = coordinator_of before in
       let d = coordinator_of after in
@@ -110,6 +111,7 @@ module _ (layout : Layout) (before after : Operation) (block : (shown_of after).
         packets = λ me. sends me ∙ phase_carried layout me c d news;
         told = ap (λ (call : Call). told_in call.seq (begins_in news d)) call;
         answers = none_answered c.call.seq d news;
+        reports = refl;
         knows = knows;
         left = phase_left d news;
         keeps = ap (λ (call : Call). call.seq) call;
@@ -123,12 +125,14 @@ module _ (layout : Layout) (before after : Operation) (block : (shown_of after).
         messages = collect_messages call stored (coordinator_of after).group.members;
         told = seen_told call.seq seen;
         answers = record { seq = call.seq; answer = answer } ∷ [];
+        reports = [];
       })
   ends_out known call answer seen stored group same =
       record {
         packets = λ me. (λ i. packets_from me (collect_messages (same i) stored (group i).members)) ∙ collected_is me (coordinator_of before) stored;
         told = ap (λ (call : Call). seen_told call.seq seen) same;
         answers = ap (λ (call : Call). record { seq = call.seq; answer = answer } ∷ []) same;
+        reports = refl;
         knows = refl;
         left = refl;
         keeps = tt;

@@ -11,11 +11,12 @@ use Rattle.protocol.specs.declared.phases.Phase.TheVariants.{Looks, LooksAt, Ord
 use Rattle.protocol.specs.declared.phases.Counted.{Counted}
 use Rattle.protocol.specs.declared.phases.Refuser.{Refuser}
 use Rattle.protocol.specs.declared.phases.FullMember.{FullMember}
+use Rattle.protocol.specs.declared.phases.Mover.{Mover}
 use Rattle.fab_base.specs.Layouts.{Group}
 use Rattle.quorum.specs.Quorums.{quorum_of}
 use Rattle.reg_model.specs.Registers.{read_of}
 use Rattle.protocol.specs.Settings.{Code}
-use Rattle.protocol.specs.Coordinators.{Coordinator, Next, Ignores, Waits, Sends, Makes, Ends, next_phase, in_phase, fast_version, fast_version_at, common_version_at, some_behind, greatest_refuser, greatest_found, pieces_at, answered_fast, answered_fast_at, modified_if, once_modified, rebuilt, once_ordered, ordered_again, unless_refused, unless_told_full, lowest_full, read_back, answer_with, decided, once_full, counted_at, counts_at, on_reply, most_rounds}
+use Rattle.protocol.specs.Coordinators.{Coordinator, Next, Ignores, Waits, Sends, Makes, Ends, next_phase, in_phase, fast_version, fast_version_at, common_version_at, some_behind, greatest_refuser, greatest_found, pieces_at, answered_fast, answered_fast_at, modified_if, once_modified, rebuilt, once_ordered, ordered_again, unless_refused, unless_told_full, unless_told_moved, lowest_full, lowest_mover, read_back, answer_with, decided, once_full, counted_at, counts_at, on_reply, most_rounds}
 use Rattle.coord_phase.specs.Operations.{is_storing}
 use Rattle.node.specs.Decisions.{Collects}
 
@@ -32,13 +33,13 @@ Follows c (Sends d) = Begins c d
 Follows c (Makes d) = Begins c d
 Follows c (Ends answer seen stored) = Collects stored (is_storing c.phase ≡ true)
 
-module _ (group : Group) (ask : Ask) (stamp : Stamp) (round : ℕ) (base : Option Stamp) (content : List ℕ) (call : Call) (counted more : List Counted) where
+module _ (group : Group) (prior : List BrickId) (ask : Ask) (stamp : Stamp) (round : ℕ) (base : Option Stamp) (content : List ℕ) (call : Call) (counted more : List Counted) where
   -- the coordinator in a phase, before and after a reply counted
   abbrev before : Phase → Coordinator
-  before phase = record { group = group; ask = ask; stamp = stamp; round = round; base = base; content = content; call = call; phase = phase; counted = counted }
+  before phase = record { group = group; prior = prior; ask = ask; stamp = stamp; round = round; base = base; content = content; call = call; phase = phase; counted = counted }
 
   abbrev after : Phase → Coordinator
-  after phase = record { group = group; ask = ask; stamp = stamp; round = round; base = base; content = content; call = call; phase = phase; counted = more }
+  after phase = record { group = group; prior = prior; ask = ask; stamp = stamp; round = round; base = base; content = content; call = call; phase = phase; counted = more }
 
   fast : (code : Code) (v : Option Stamp) → Follows (before Looks) (answered_fast code (after Looks) v)
   fast code None = record { call = refl; counted = refl }
@@ -106,17 +107,26 @@ module _ (group : Group) (ask : Ask) (stamp : Stamp) (round : ℕ) (base : Optio
   unless_full None phase next is = is
   unless_full (Some f) phase next is = tt
 
+  unless_moved : (told : Option Mover) (phase : Phase) (next : Next) → Follows (before phase) next
+      → Follows (before phase) (unless_told_moved told next)
+  unless_moved None phase next is = is
+  unless_moved (Some m) phase next is = tt
+
+  unless_ended : (phase : Phase) (next : Next) → Follows (before phase) next
+      → Follows (before phase) (unless_told_moved (lowest_mover more) (unless_told_full (lowest_full more) next))
+  unless_ended phase next is = unless_moved (lowest_mover more) phase _ (unless_full (lowest_full more) phase next is)
+
   decides : (block : ℕ) (code : Code) (fresh : Option Stamp) (phase : Phase) → Follows (before phase) (decided block code fresh (after phase))
   unfolding decided
-  decides block code fresh Looks = unless_full (lowest_full more) Looks _ (fast code (fast_version more))
-  decides block code fresh (LooksAt j) = unless_full (lowest_full more) (LooksAt j) _ (fast_at j (fast_version_at j more))
-  decides block code fresh Orders = unless_full (lowest_full more) Orders _ (orders fresh (greatest_refuser more))
-  decides block code fresh (OrdersAt j) = unless_full (lowest_full more) (OrdersAt j) _ (orders_at code fresh j (greatest_refuser more))
-  decides block code fresh Recovers = unless_full (lowest_full more) Recovers _ (recovers block code fresh (greatest_refuser more))
-  decides block code fresh (Descends bound) = unless_full (lowest_full more) (Descends bound) _ (descends block code bound (greatest_refuser more))
-  decides block code fresh (Modifies base j) = unless_full (lowest_full more) (Modifies base j) _ (modifies base j (greatest_refuser more))
-  decides block code fresh (Bases base) = unless_full (lowest_full more) (Bases base) _ (bases block code base (greatest_refuser more))
-  decides block code fresh Stores = unless_full (lowest_full more) Stores _ (stores block (greatest_refuser more))
+  decides block code fresh Looks = unless_ended Looks _ (fast code (fast_version more))
+  decides block code fresh (LooksAt j) = unless_ended (LooksAt j) _ (fast_at j (fast_version_at j more))
+  decides block code fresh Orders = unless_ended Orders _ (orders fresh (greatest_refuser more))
+  decides block code fresh (OrdersAt j) = unless_ended (OrdersAt j) _ (orders_at code fresh j (greatest_refuser more))
+  decides block code fresh Recovers = unless_ended Recovers _ (recovers block code fresh (greatest_refuser more))
+  decides block code fresh (Descends bound) = unless_ended (Descends bound) _ (descends block code bound (greatest_refuser more))
+  decides block code fresh (Modifies base j) = unless_ended (Modifies base j) _ (modifies base j (greatest_refuser more))
+  decides block code fresh (Bases base) = unless_ended (Bases base) _ (bases block code base (greatest_refuser more))
+  decides block code fresh Stores = unless_ended Stores _ (stores block (greatest_refuser more))
 
   once_full_follows : (block : ℕ) (code : Code) (fresh : Option Stamp) (phase : Phase) → Follows (before phase) (once_full block code fresh (after phase))
   once_full_follows block code fresh phase =
@@ -127,7 +137,7 @@ counted_follows : (block : ℕ) (code : Code) (fresh : Option Stamp) (c : Coordi
     → Follows c (counted_at block code fresh c from reply seat)
 counted_follows block code fresh c from reply None = tt
 counted_follows block code fresh c from reply (Some seat) =
-    once_full_follows c.group c.ask c.stamp c.round c.base c.content c.call c.counted
+    once_full_follows c.group c.prior c.ask c.stamp c.round c.base c.content c.call c.counted
     (c.counted ++ (record { seat = seat; brick = from; reply = reply } ∷ [])) block code fresh c.phase
 
 -- what follows from what a coordinator does with a reply

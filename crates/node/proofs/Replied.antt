@@ -9,13 +9,13 @@ use Rattle.messages.specs.declared.replies.Reply.{Reply}
 use Rattle.fab_base.specs.Layouts.{Layout}
 use Rattle.protocol.specs.Coordinators.{Coordinator, Next, Ignores, Waits, Sends, Makes, Ends, on_reply}
 use Rattle.protocol.specs.declared.tellings.Answered.{Answered}
-use Rattle.protocol.specs.Nodes.{Node, NodeStep, put, carried_out, replied, replied_at, known_after, fresh_stamp, no_step, with_known}
+use Rattle.protocol.specs.Nodes.{Node, NodeStep, put, carried_out, replied_at, known_after, fresh_stamp, no_step, with_known}
 use Rattle.stripe_code.specs.Codes.{block_code, coding}
 use Rattle.node.specs.declared.operations.Operation.{Operation}
 use Rattle.node.specs.Operations.{shown_of}
 use Rattle.node.specs.Decisions.{or_waits, packets_in, told_in, answers_in, known_by, left_by, left_open, KeepsCall}
 use Rattle.node.specs.States.{AreCallsAfter, IsAt}
-use Rattle.node.proofs.States.{same_states}
+use Rattle.node.proofs.States.{same_but}
 
 -- to change a function where it has the value already changes nothing
 pub put_held : {X : Type 0} (f : ℕ → X) (k : ℕ) (v : X) (i : ℕ) (b : Bool) → f k ≡ v → nat_eq i k ≡ b → f i ≡ cond b v (f i)
@@ -26,7 +26,7 @@ put_held f k v i false held e = refl
 waits_is : (layout : Layout) (me : BrickId) (node : Node) (known : ℕ) (c : Coordinator) (next : Next) → node.calls c.call.seq ≡ Some c
     → carried_out (coding layout) me node known c next ≡ carried_out (coding layout) me node known c (or_waits c next)
 waits_is layout me node known c Ignores held =
-    ap no_step (same_states _ _ refl refl refl refl refl (λ g. refl) (λ g. refl) (λ g e s. refl)
+    ap no_step (same_but (with_known node known) node.boot node.seq known node.busy (put node.calls c.call.seq (Some c)) refl refl refl refl
     (λ k. put_held node.calls c.call.seq (Some c) k (nat_eq k c.call.seq) held refl))
 waits_is layout me node known c (Waits d) held = refl
 waits_is layout me node known c (Sends d) held = refl
@@ -37,22 +37,14 @@ waits_is layout me node known c (Ends answer seen stored) held = refl
 pub replied_is : (layout : Layout) (me : BrickId) (now : ℕ) (from : BrickId) (node : Node) (call : Call) (reply : Reply) (c : Coordinator)
     → node.calls call.seq ≡ Some c → c.call.seq ≡ call.seq
     → (let known = known_after node.known reply in
-    replied (coding layout) me now from node call reply
+    replied_at (coding layout) me now from node call reply (node.calls call.seq)
     ≡ carried_out (coding layout) me node known c
     (or_waits c (on_reply layout.block (block_code layout.block) (fresh_stamp me c.call.view now node.boot known) c from call reply)))
-unfolding replied
 replied_is layout me now from node call reply c held seq =
     let known = known_after node.known reply in
     let next = on_reply layout.block (block_code layout.block) (fresh_stamp me c.call.view now node.boot known) c from call reply in
     ap (replied_at (coding layout) me now from node call reply) held
     ∙ waits_is layout me node known c next (ap node.calls seq ∙ held)
-
--- a reply to no open operation only tells a time
-pub no_call : (layout : Layout) (me : BrickId) (now : ℕ) (from : BrickId) (node : Node) (call : Call) (reply : Reply)
-    → node.calls call.seq ≡ None
-    → replied (coding layout) me now from node call reply ≡ no_step (with_known node (known_after node.known reply))
-unfolding replied
-no_call layout me now from node call reply missing = ap (replied_at (coding layout) me now from node call reply) missing
 
 -- how many operations are open after a step with these answers, where so many were
 abbrev pub busy_after : List Answered → ℕ → ℕ
@@ -95,6 +87,13 @@ module _ (layout : Layout) (me : BrickId) (node : Node) (known : ℕ) (c : Coord
   does_answer (Sends d) = refl
   does_answer (Makes d) = refl
   does_answer (Ends answer seen stored) = refl
+
+  pub does_report : (next : Next) → (does next).reports ≡ []
+  does_report Ignores = refl
+  does_report (Waits d) = refl
+  does_report (Sends d) = refl
+  does_report (Makes d) = refl
+  does_report (Ends answer seen stored) = refl
 
 -- what is left of a change at a key, and of one after it there
 left_at : {X : Type 0} (b : Bool) (w v o : Option X) → (if b then w else cond b v o) ≡ cond b w o

@@ -12,12 +12,15 @@ use Rattle.protocol.specs.declared.phases.Counted.{Counted}
 use Rattle.fab_base.specs.Layouts.{Layout}
 use Rattle.protocol.specs.Settings.{Setting}
 use Rattle.protocol.specs.Coordinators.{Coordinator, has_seat, request_of}
-use Rattle.protocol.specs.Nodes.{to_members, phase_packets, resent_to, resent, resent_up_to}
+use Rattle.protocol.specs.Nodes as machine
+use Rattle.protocol.specs.Nodes.{to_members, phase_packets, resent_to, resent, resent_up_to, view_in}
 use Rattle.stripe_code.specs.Codes.{block_code, coding}
 use Rattle.coord_phase.specs.Operations as phased
 use Rattle.coord_phase.specs.Messages.{without_sender, phase_messages, packets_from}
 use Rattle.node.specs.declared.operations.Operation.{Operation}
 use Rattle.node.specs.Operations.{shown_of, coordinator_of, IsOperationOf}
+use Rattle.node.specs.Teaching.{teaching}
+use Rattle.node.proofs.Taught.{teaching_is}
 use Rattle.node.proofs.Ticks.{of_value, by_key}
 
 -- one packet more, or none, whichever brick sends it
@@ -28,7 +31,7 @@ one_packet you me to message true theirs mine e = e
 one_packet you me to message false theirs mine e = ap (λ rest. record { from = me; to = to; message = message } ∷ rest) e
 
 -- messages to the members without a reply that counts are the machine's packets
-silent_again : (you me : BrickId) (call : Call) (request : ℕ → Request) (counted : List Counted) (seat : ℕ) (members : List BrickId)
+pub silent_again : (you me : BrickId) (call : Call) (request : ℕ → Request) (counted : List Counted) (seat : ℕ) (members : List BrickId)
     → packets_from me (map without_sender (resent_to you call request counted seat members)) ≡ resent_to me call request counted seat members
 silent_again you me call request counted seat [] = refl
 silent_again you me call request counted seat (member ∷ members) =
@@ -49,7 +52,7 @@ one_more sent true packets n few = omega arith
 one_more sent false packets n few = omega arith
 
 -- they are at most as many as the members
-few_silent : (me : BrickId) (call : Call) (request : ℕ → Request) (counted : List Counted) (seat : ℕ) (members : List BrickId)
+pub few_silent : (me : BrickId) (call : Call) (request : ℕ → Request) (counted : List Counted) (seat : ℕ) (members : List BrickId)
     → length (resent_to me call request counted seat members) ≤ length members
 few_silent me call request counted seat [] = omega arith
 few_silent me call request counted seat (member ∷ members) =
@@ -58,10 +61,11 @@ few_silent me call request counted seat (member ∷ members) =
     (few_silent me call request counted (seat + 1) members) in
     omega arith
 
--- an operation of a layout sends again what the machine does
-pub sends_again : (layout : Layout) (op : phased.Operation) (me : BrickId) → op.block ≡ layout.block
-    → packets_from me (phase_messages op) ≡ resent (coding layout) me (Some op.state)
-sends_again layout op me block =
+-- an operation of a layout sends its phase again as the machine does
+phase_again : (layout : Layout) (op : phased.Operation) (me : BrickId) → op.block ≡ layout.block
+    → packets_from me (phase_messages op)
+    ≡ resent_to me op.state.call (request_of (block_code layout.block) op.state) op.state.counted 0 op.state.group.members
+phase_again layout op me block =
     silent_again (record { 0 = 0 }) me op.state.call (request_of (block_code op.block) op.state) op.state.counted 0 op.state.group.members
     ∙ ap (λ block. resent_to me op.state.call (request_of (block_code block) op.state) op.state.counted 0 op.state.group.members) block
 
@@ -69,19 +73,31 @@ sends_again layout op me block =
 pub phase_sent : (layout : Layout) (op : phased.Operation) (me : BrickId) → op.block ≡ layout.block → op.state.counted ≡ []
     → packets_from me (phase_messages op) ≡ phase_packets (coding layout) me op.state
 phase_sent layout op me block none =
-    sends_again layout op me block
+    phase_again layout op me block
     ∙ ap (λ counted. resent_to me op.state.call (request_of (block_code layout.block) op.state) counted 0 op.state.group.members) none
     ∙ all_asked me op.state.call (request_of (block_code layout.block) op.state) 0 op.state.group.members
 
+-- what an operation sends at a tick
+abbrev pub sends_again : Operation → List (BrickId × Message)
+sends_again op = teaching (coordinator_of op).call.group (view_in (coordinator_of op)) (phase_messages (shown_of op))
+
+-- it is what the machine sends
+again_is : (layout : Layout) (op : Operation) (me : BrickId) → IsOperationOf layout op
+    → packets_from me (sends_again op) ≡ resent (coding layout) me (Some (coordinator_of op))
+again_is layout op me block =
+    let c = coordinator_of op in
+    teaching_is me c.call.group (view_in c) (phase_messages (shown_of op))
+    ∙ ap (machine.teaching c.call.group (view_in c)) (phase_again layout (shown_of op) me block)
+
 -- so do all the operations of a layout, one after the other
 pub all_send_again : (layout : Layout) (me : BrickId) (ops : List Operation) → AllByRecursion (λ (op : Operation). IsOperationOf layout op) ops
-    → packets_from me (flat_map (λ (op : Operation). phase_messages (shown_of op)) ops)
+    → packets_from me (flat_map (λ (op : Operation). sends_again op) ops)
     ≡ flat_map (λ (op : Operation). resent (coding layout) me (Some (coordinator_of op))) ops
 all_send_again layout me [] each = refl
 all_send_again layout me (op ∷ ops) each =
-    map-append (λ (sent : BrickId × Message). record { from = me; to = sent.0; message = sent.1 }) (phase_messages (shown_of op))
-    (flat_map (λ (op : Operation). phase_messages (shown_of op)) ops)
-    ∙ ap (λ front. front ++ packets_from me (flat_map (λ (op : Operation). phase_messages (shown_of op)) ops)) (sends_again layout (shown_of op) me each.0)
+    map-append (λ (sent : BrickId × Message). record { from = me; to = sent.0; message = sent.1 }) (sends_again op)
+    (flat_map (λ (op : Operation). sends_again op) ops)
+    ∙ ap (λ front. front ++ packets_from me (flat_map (λ (op : Operation). sends_again op) ops)) (again_is layout op me each.0)
     ∙ ap (λ back. resent (coding layout) me (Some (coordinator_of op)) ++ back) (all_send_again layout me ops each.1)
 
 -- what the machine sends again is what the calls 1 to n give

@@ -18,11 +18,11 @@ use Rattle.brick_store.specs.Images.{StandsFor}
 use Rattle.brick_store.specs.Openings as stores
 use Rattle.brick_store.specs.Openings.{IsCounted, Opens}
 use Rattle.brick_store.proofs.OpeningLaws.{counted_is}
-use Rattle.protocol.specs.Nodes.{Node, restarted, no_calls}
-use Rattle.replica.specs.Parts.{part_in, learnt_in, accepted_in}
-use Rattle.node.specs.declared.open_calls.OpenCalls.{OpenCalls}
+use Rattle.protocol.specs.Nodes.{Node, restarted}
+use Rattle.replica.specs.Parts.{part_in, learnt_in, ballots_in, live_at}
+use Rattle.node.specs.declared.open_work.OpenWork.{OpenWork}
 use Rattle.node.specs.Openings.{OpensBrick, stopped_by}
-use Rattle.node.specs.States.{KeptParts, state_with, parts_in}
+use Rattle.node.specs.States.{KeptParts, state_in, fresh_node, parts_in}
 use Rattle.node.specs.Running.{running, state_of, shape_at, ImageShows, reopened}
 use Rattle.node.proofs.States.{same_states}
 use Rattle.node.proofs.Views.{seen_so}
@@ -32,30 +32,27 @@ some_store : (shape : Shape) (half : Half) (image : List ℕ) → IsNoStore shap
 some_store shape A image none in_force = none.first in_force.0
 some_store shape B image none in_force = none.second in_force.0
 
--- a brick of which no call was made, and no time known
-abbrev pub fresh_node : ℕ → KeptParts → Node
-fresh_node boot parts = record { boot = boot; seq = 0; known = 0; busy = 0; live = parts.live; learnt = parts.learnt; accepted = parts.accepted; replicas = parts.replicas; calls = no_calls }
-
 -- over a store that was opened once more, the brick is the one that the image showed, restarted
-pub restarts_so : {D : Type 0} (layout : Layout) (me : BrickId) (calls : OpenCalls) (store : Brick D) (boot : ℕ) (node : Node) (image : List ℕ)
-    → calls.stamps.boot ≡ store.state.boot → boot ≡ store.state.boot → ((parts : KeptParts) → state_with parts calls ≡ fresh_node boot parts)
-    → ImageShows layout me node image → IsCounted (shape_at layout me) image store.state → state_of (running layout calls store) ≡ restarted 1 node
+pub restarts_so : {D : Type 0} (layout : Layout) (me : BrickId) (work : OpenWork) (store : Brick D) (boot : ℕ) (node : Node) (image : List ℕ)
+    → work.calls.stamps.boot ≡ store.state.boot → boot ≡ store.state.boot → ((kept : KeptParts) → state_in kept work ≡ fresh_node boot kept)
+    → ImageShows layout me node image → IsCounted (shape_at layout me) image store.state → state_of (running layout work store) ≡ restarted 1 node
 unfolding restarted
-restarts_so layout me calls store boot node image own same fresh shows counted =
+restarts_so layout me work store boot node image own same fresh shows counted =
     let is : store.state ≡ booted (shows.st.boot + 1) shows.st =
     counted_is (shape_at layout me) image store.state counted shows.st shows.stands in
-    seen_so layout calls store own
+    seen_so layout work store own
     ∙ fresh (parts_in layout store.state)
-    ∙ same_states _ _ (same ∙ ap (λ (st : StateOf Version). st.boot) is ∙ ap (λ b. b + 1) (sym shows.parts.boot)) refl refl refl
+    ∙ same_states _ _ (same ∙ ap (λ (st : StateOf Version). st.boot) is ∙ ap (λ b. b + 1) (sym shows.parts.boot)) refl refl refl refl
     (ap (λ (st : StateOf Version). live st) is ∙ sym shows.parts.live)
+    (λ g e. ap (λ (st : StateOf Version). live_at st g e) is ∙ sym (shows.parts.live_in g e))
     (λ g. ap (λ (st : StateOf Version). learnt_in layout st g) is ∙ sym (shows.parts.learnt g))
-    (λ g. ap (λ (st : StateOf Version). accepted_in st g) is ∙ sym (shows.parts.accepted g))
-    (λ g e s. ap (λ (st : StateOf Version). part_in layout.block st g e s) is ∙ sym (shows.parts.replicas g e s)) (λ k. refl)
+    (λ g. ap (λ (st : StateOf Version). ballots_in st g) is ∙ sym (shows.parts.ballots g))
+    (λ g e s. ap (λ (st : StateOf Version). part_in layout.block st g e s) is ∙ sym (shows.parts.replicas g e s)) (λ k. refl) refl refl
 
 module _ {D : Type 0} (d : on_disk.Ghosts D) (layout : Layout) (me : BrickId) (old new : D) where
   before_shows : (node : Node) (first : List ℕ) (shows : ImageShows layout me node first) (image : List ℕ)
       → StandsFor (shape_at layout me) shows.st image → ImageShows layout me node image
-  before_shows node first shows image stands = record { st = shows.st; stands = stands; parts = shows.parts; first = shows.first }
+  before_shows node first shows image stands = record { st = shows.st; stands = stands; parts = shows.parts; lists = shows.lists }
 
   after_shows : (node : Node) (first : List ℕ) (shows : ImageShows layout me node first) (image : List ℕ)
       → StandsFor (shape_at layout me) (booted (shows.st.boot + 1) shows.st) image → ImageShows layout me (reopened node) image
@@ -65,11 +62,12 @@ module _ {D : Type 0} (d : on_disk.Ghosts D) (layout : Layout) (me : BrickId) (o
     parts = record {
       boot = ap (λ b. b + 1) shows.parts.boot;
       live = shows.parts.live;
+      live_in = shows.parts.live_in;
       learnt = shows.parts.learnt;
-      accepted = shows.parts.accepted;
+      ballots = shows.parts.ballots;
       replicas = shows.parts.replicas;
     };
-    first = shows.first;
+    lists = shows.lists;
   }
 
   -- the opening of the store is the brick's

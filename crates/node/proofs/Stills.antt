@@ -1,11 +1,14 @@
--- A message that makes no call of the disk changes no part of a stripe.
-use Rattle.std.proofs.Common.{◌≡◌, ℕ, suc, Bool, true, false, cond, nat_lt, Option, Some, None, List, [], ◌∷◌, ◌++◌, map, refl, sym, ◌∙◌, ap, subst}
-use Rattle.std.specs.Prelude.{replicate}
-use Rattle.std.proofs.lemmas.Bool.{cond_both}
+-- A message that makes no call of the disk changes nothing that is kept.
+use Rattle.std.proofs.Common.{◌≡◌, ℕ, suc, Bool, true, false, cond, nat_lt, Option, Some, None, List, [], ◌∷◌, ◌++◌, map, refl, sym, ◌∙◌, ap, subst, arith, eq-eqb}
+use Rattle.std.specs.Prelude.{replicate, nat_eq}
+use Rattle.std.proofs.lemmas.Bool.{cond_both, eqb-true}
+use Rattle.std.proofs.lemmas.Bool.Decides.{nat_tests}
 use Rattle.fab_base.specs.declared.identities.BrickId.{BrickId}
 use Rattle.fab_base.specs.declared.stamps.Stamp.{Stamp}
 use Rattle.fab_base.specs.Stamps.{stamp_below, stamp_same, first_stamp}
-use Rattle.fab_base.specs.Layouts.{Layout}
+use Rattle.fab_base.specs.declared.identities.GroupId.{GroupId}
+use Rattle.fab_base.specs.declared.member_lists.View.{View}
+use Rattle.fab_base.specs.Layouts.{Layout, group_of}
 use Rattle.fab_base.proofs.StampOrder.{stamp_same_refl, stamp_same_true}
 use Rattle.messages.specs.declared.packets.Message.{Message}
 use Rattle.messages.specs.declared.requests.Version.{Version}
@@ -17,17 +20,22 @@ use Rattle.version_log.specs.Versions.{Version as Kept, version}
 use Rattle.brick_state.specs.States.{StripeOf, stripe_at}
 use Rattle.brick_store.specs.Blocks.{log_of}
 use Rattle.brick_store.specs.Bricks.{Brick}
-use Rattle.brick_store.specs.Calls.{calls_for, has_room_for}
+use Rattle.brick_store.specs.Calls.{Append, append_of, append_calls, calls_for, has_room_for}
+use Rattle.brick_store.specs.Sizes.{ballots_size, view_size}
+use Rattle.synod_laws.specs.Synods.{Kept as Ballots, last_of}
 use Rattle.stripe_code.specs.Codes.{coding}
 use Rattle.protocol.specs.Settings.{Code}
 use Rattle.protocol.specs.Replicas.{Replica, Reaction, handle, is_held, is_wanted, top_of, newest_of, told_version, looked_up, below, stays, unless_full, promised, stored, modified_block, modified_on, collected}
-use Rattle.protocol.specs.Nodes.{Node, NodeStep, requested, replica_at, full_at}
+use Rattle.protocol.specs.Ballots.{Voted}
+use Rattle.protocol.specs.Views.{Learnt, is_later, learns}
+use Rattle.protocol.specs.Nodes.{Node, NodeStep, put, requested, replica_at, full_at, may_teach, node_learnt, node_taught, vote_at, with_learnt, with_replica}
 use Rattle.protocol.proofs.Served.{request_each, parts_each}
-use Rattle.replica.specs.Calls.{shares_block, stored_append, part_append, message_calls}
+use Rattle.replica.specs.Calls.{shares_block, stored_append, part_append, ballot_append, either_append, learnt_append, message_calls, same_ballots}
 use Rattle.replica.specs.Parts.{as_version, IsBegun, IsPartsOf}
 use Rattle.replica.specs.Reactions.{member_step}
 use Rattle.replica.proofs.Dropping.{collected_other, collected_lowest}
-use Rattle.replica.proofs.Runs.{same_long, append_stored, replica_after, stamped}
+use Rattle.replica.proofs.Runs.{same_long, append_kept, append_stored, replica_after, stamped}
+use Rattle.replica.proofs.Voting.{ballots_are}
 use Rattle.replica.proofs.Sharing.{append_collected}
 
 -- what is kept takes some calls
@@ -119,27 +127,111 @@ part_begun block s = by s.from_start
     by true is = rw (stamp_same_refl first_stamp) refl
     by false is = absurd cc
 
--- a message that no call of a store keeps leaves each part as it is
-pub parts_still : {D : Type 0} (layout : Layout) (me from : BrickId) (store : Brick D) (node : Node) (message : Message)
+-- a step leaves the views that were learnt, ballots, and the parts of stripes as they are
+pub record KeepsSame (node after : Node) : Type 0 where
+  pub learnt : (g : ℕ) → after.learnt g ≡ node.learnt g
+  pub ballots : (g : ℕ) → after.ballots g ≡ node.ballots g
+  pub replicas : (g e s : ℕ) → after.replicas g e s ≡ node.replicas g e s
+
+all_same : (node : Node) → KeepsSame node node
+all_same node = record { learnt = λ g. refl; ballots = λ g. refl; replicas = λ g e s. refl }
+
+-- to change a function where it has the value already changes nothing
+same_there : {X : Type 0} (f : ℕ → X) (k : ℕ) (v : X) → v ≡ f k → (i : ℕ) → put f k v i ≡ f i
+same_there f k v is i = cond_both (nat_eq i k) v (f i) (λ z. z ≡ f i) (λ same. is ∙ ap f (sym (eqb-true i k same))) (λ other. refl)
+
+module _ {D : Type 0} (store : Brick D) where
+  -- so many calls append something
+  abbrev calls_now : Option Append → ℕ
+  calls_now append = calls_for store.shape store.listed append
+
+  -- where no call appends the one that there is of two things, none appends the first, nor the second
+  first_none : (a b : Option Append) → calls_now (either_append a b) ≡ 0 → calls_now a ≡ 0
+  first_none None b none = refl
+  first_none (Some append) b none = none
+
+  second_none : (a b : Option Append) → a ≡ None → calls_now (either_append a b) ≡ 0 → calls_now b ≡ 0
+  second_none a b is none = sym (ap (λ (o : Option Append). calls_now (either_append o b)) is) ∙ none
+
+  -- where no call keeps a vote, ballots are as they were
+  vote_still : (before after : Ballots (List BrickId)) → calls_now (ballot_append before after) ≡ 0 → after ≡ before
+  vote_still before after =
+      cond_both (same_ballots before after) None (Some (append_of (ballots_size (last_of after)) append_calls))
+      (λ (append : Option Append). calls_now append ≡ 0 → after ≡ before)
+      (λ same nothing. sym (ballots_are before after same))
+      (λ other some. absurd (never_none (has_room_for store.shape store.listed (ballots_size (last_of after))) 3 10 some))
+
+  -- a later view that is learnt is appended
+  view_appended : (g : ℕ) (node : Node) (view : View) → is_later (node.learnt g) view ≡ true
+      → learnt_append (node.learnt g) (put node.learnt g (learns (node.learnt g) view) g) ≡ Some (append_of (view_size view) append_calls)
+  unfolding learns
+  view_appended g node view later =
+      let new : Learnt = record { view = view; synced = false } in
+      let here : put node.learnt g (learns (node.learnt g) view) g ≡ new =
+      ap (λ (b : Bool). cond b (learns (node.learnt g) view) (node.learnt g)) (eq-eqb g g refl) ∙ ap (λ (b : Bool). cond b new (node.learnt g)) later in
+      let other : nat_eq (node.learnt g).view.number.0 view.number.0 ≡ false = grind (arith, nat_tests, later) in
+      ap (learnt_append (node.learnt g)) here ∙ ap (λ (b : Bool). cond b None (Some (append_of (view_size view) append_calls))) other
+
+  -- where no call keeps a view that is taught, it is not learnt
+  taught_still : (block g : ℕ) (node : Node) (view : View)
+      → calls_now (learnt_append (node.learnt g) ((node_taught block g node view).learnt g)) ≡ 0 → KeepsSame node (node_taught block g node view)
+  unfolding node_taught
+  taught_still block g node view =
+      cond_both (is_later (node.learnt g) view) (with_learnt block g node (learns (node.learnt g) view)) node
+      (λ (n : Node). calls_now (learnt_append (node.learnt g) (n.learnt g)) ≡ 0 → KeepsSame node n)
+      (λ later some. absurd (never_none (has_room_for store.shape store.listed (view_size view)) 3 10
+      (sym (ap calls_now (view_appended g node view later)) ∙ some)))
+      (λ isnt none. all_same node)
+
+  learnt_still : (layout : Layout) (node : Node) (group : GroupId) (view : View)
+      → calls_now (learnt_append (node.learnt group.0) ((node_learnt layout node group view).learnt group.0)) ≡ 0
+      → KeepsSame node (node_learnt layout node group view)
+  unfolding node_learnt
+  learnt_still layout node group view =
+      cond_both (may_teach layout (Some view) (group_of layout group.0)) (node_taught layout.block group.0 node view) node
+      (λ (n : Node). calls_now (learnt_append (node.learnt group.0) (n.learnt group.0)) ≡ 0 → KeepsSame node n)
+      (λ may. taught_still layout.block group.0 node view) (λ not none. all_same node)
+
+-- a message that no call of a store keeps leaves all that is kept as it is
+pub all_still : {D : Type 0} (layout : Layout) (me from : BrickId) (store : Brick D) (node : Node) (message : Message)
     → IsPartsOf layout store.state node → message_calls layout me from store.shape store.listed node message ≡ 0
-    → (g e s : ℕ) → (member_step layout me from node message).node.replicas g e s ≡ node.replicas g e s
+    → KeepsSame node (member_step layout me from node message).node
 unfolding requested
-parts_still layout me from store node (Message.Request call request) parts =
-    request_each (λ (step : NodeStep). calls_for store.shape store.listed
-    (part_append (shares_block request) (replica_at node call) (replica_at step.node call)) ≡ 0
-    → (g e s : ℕ) → step.node.replicas g e s ≡ node.replicas g e s) (coding layout) me from node call request
-    (λ none g e s. refl)
-    (λ group seat is served view none.
+all_still layout me from store node (Message.Request call request) parts =
+    request_each (λ (step : NodeStep). calls_now store (either_append
+    (part_append (shares_block request) (replica_at node call) (replica_at step.node call)) (ballot_append (node.ballots call.group.0) (step.node.ballots call.group.0))) ≡ 0
+    → KeepsSame node step.node) (coding layout) me from node call request
+    (λ none. all_same node)
+    (λ reply moved none. all_same node)
+    (λ group seat is served none.
     let part : Replica = replica_at node call in
     let reaction : Reaction = handle (coding layout).code group.m (full_at layout.records node.live) seat part request in
-    parts_each (λ g e s r. r ≡ node.replicas g e s) node call reaction
-    (handle_still store (shares_block request) part (coding layout).code group.m (full_at layout.records node.live) seat request
-    (subst (λ (r : Replica). IsBegun r.from_start r.log) (sym (parts.replicas call.group.0 call.view.0 call.stripe.0))
-    (part_begun layout.block (stripe_at store.state (call.group.0, call.view.0, call.stripe.0))))
-    (sym (ap (λ (r : Replica). calls_for store.shape store.listed (part_append (shares_block request) part r)) (replica_after node call reaction)) ∙ none))
-    (λ g e s. refl))
-parts_still layout me from store node (Message.Reply call reply) parts = λ none g e s. refl
-parts_still layout me from store node (Message.Learn group view) parts = λ none g e s. refl
-parts_still layout me from store node (Message.Synced group view) parts = λ none g e s. refl
-parts_still layout me from store node (Message.Client ask) parts = λ none g e s. refl
-parts_still layout me from store node (Message.ClientReply id answer) parts = λ none g e s. refl
+    let alone = first_none store (part_append (shares_block request) part (replica_at (with_replica node call reaction) call))
+    (ballot_append (node.ballots call.group.0) (node.ballots call.group.0)) none in
+    record {
+      learnt = λ g. refl;
+      ballots = λ g. refl;
+      replicas = parts_each (λ g e s r. r ≡ node.replicas g e s) node call reaction
+          (handle_still store (shares_block request) part (coding layout).code group.m (full_at layout.records node.live) seat request
+          (subst (λ (r : Replica). IsBegun r.from_start r.log) (sym (parts.replicas call.group.0 call.view.0 call.stripe.0))
+          (part_begun layout.block (stripe_at store.state (call.group.0, call.view.0, call.stripe.0))))
+          (sym (ap (λ (r : Replica). calls_now store (part_append (shares_block request) part r)) (replica_after node call reaction)) ∙ alone))
+          (λ g e s. refl);
+    })
+    (λ group ballot asks is none.
+    let part : Replica = replica_at node call in
+    let vote : Voted = vote_at node call ballot asks in
+    let there = put node.ballots call.group.0 vote.kept call.group.0 in
+    let alone = second_none store (part_append (shares_block request) part part) (ballot_append (node.ballots call.group.0) there)
+    (append_kept (shares_block request) part) none in
+    let here : there ≡ vote.kept = ap (λ (b : Bool). cond b vote.kept (node.ballots call.group.0)) (eq-eqb call.group.0 call.group.0 refl) in
+    record {
+      learnt = λ g. refl;
+      ballots = same_there node.ballots call.group.0 vote.kept (sym here ∙ vote_still store (node.ballots call.group.0) there alone);
+      replicas = λ g e s. refl;
+    })
+all_still layout me from store node (Message.Reply call reply) parts = λ none. all_same node
+all_still layout me from store node (Message.Learn group view) parts = learnt_still store layout node group view
+all_still layout me from store node (Message.Synced group view) parts = λ none. all_same node
+all_still layout me from store node (Message.Client ask) parts = λ none. all_same node
+all_still layout me from store node (Message.ClientReply id answer) parts = λ none. all_same node

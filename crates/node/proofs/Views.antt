@@ -12,13 +12,12 @@ use Rattle.brick_state.specs.States.{StateOf}
 use Rattle.brick_store.specs.Bricks.{Brick}
 use Rattle.brick_store.specs.Images.{StandsFor}
 use Rattle.fab_base.specs.Layouts.{Layout}
-use Rattle.protocol.specs.Nodes.{Node, view_at}
-use Rattle.protocol.specs.Views.{Learnt, first_learnt}
-use Rattle.replica.specs.Parts.{IsFirstView, part_in, learnt_or}
+use Rattle.protocol.specs.Nodes.{Node}
 use Rattle.node.specs.declared.open_calls.OpenCalls.{OpenCalls}
+use Rattle.node.specs.declared.open_work.OpenWork.{OpenWork}
 use Rattle.node.specs.declared.operations.Operation.{Operation}
 use Rattle.node.specs.Operations.{coordinator_of}
-use Rattle.node.specs.States.{state_with, parts_in}
+use Rattle.node.specs.States.{state_with, state_in, parts_in}
 use Rattle.node.specs.Running.{coordinators, running, state_of, shape_at, IsKept, IsBrickOf, ImageShows}
 use Rattle.node.proofs.States.{same_states}
 use Rattle.node.proofs.Tables.{map_cond}
@@ -43,36 +42,25 @@ open_seen calls k = ap is_some (map_lookup coordinator_of (is_at (nat_cmp k)) ca
     as_is None = refl
     as_is (Some operation) = refl
 
-module _ {D : Type 0} (layout : Layout) (calls : OpenCalls) (store : Brick D) where
-  -- the machine sees the store's parts, and the open calls
-  pub seen_so : calls.stamps.boot ≡ store.state.boot → state_of (running layout calls store) ≡ state_with (parts_in layout store.state) calls
+module _ {D : Type 0} (layout : Layout) (work : OpenWork) (store : Brick D) where
+  -- the machine sees what the store keeps, and what is under way
+  pub seen_so : work.calls.stamps.boot ≡ store.state.boot → state_of (running layout work store) ≡ state_in (parts_in layout store.state) work
   unfolding state_of state_with
   seen_so boot =
-      same_states _ _ (sym boot) refl refl (map_length (λ e. (e.0, coordinator_of e.1)) calls.operations.entries) refl (λ g. refl) (λ g. refl) (λ g e s. refl)
-      (λ k. map_lookup coordinator_of (is_at (nat_cmp k)) calls.operations.entries)
+      same_states _ _ (sym boot) refl refl refl (map_length (λ e. (e.0, coordinator_of e.1)) work.calls.operations.entries) refl (λ g e. refl) (λ g. refl)
+      (λ g. refl) (λ g e s. refl) (λ k. map_lookup coordinator_of (is_at (nat_cmp k)) work.calls.operations.entries) refl refl
 
   -- what the machine's brick keeps is what the store keeps
-  pub kept_so : IsBrickOf layout store.shape store.state calls → IsKept layout store.state (state_of (running layout calls store))
+  pub kept_so : IsBrickOf layout store.shape store.state work → IsKept layout store.state (state_of (running layout work store))
   unfolding state_of
   kept_so is =
       record {
-        parts = record { boot = refl; live = refl; learnt = λ g. refl; accepted = λ g. refl; replicas = λ g e s. refl };
-        first = is.first;
+        parts = record { boot = refl; live = refl; live_in = λ g e. refl; learnt = λ g. refl; ballots = λ g. refl; replicas = λ g e s. refl };
+        lists = is.lists;
       }
 
-  -- no later view was learnt of a group
-  pub first_learnt_so : IsFirstView store.state → (g : ℕ) → (state_of (running layout calls store)).learnt g ≡ first_learnt layout g
-  unfolding state_of
-  first_learnt_so first g = ap (learnt_or (first_learnt layout g)) (first g)
-
-  -- so its part of a stripe is that of the first view
-  pub part_so : IsFirstView store.state → (g s : ℕ) → (let node = state_of (running layout calls store) in part_in layout.block store.state g 1 s
-      ≡ node.replicas g (view_at node g) s)
-  unfolding state_of
-  part_so first g s = ap (λ (learnt : Learnt). part_in layout.block store.state g learnt.view.number.0 s) (sym (first_learnt_so first g))
-
--- whatever calls are open, the images are the same
-pub still_shows : {D : Type 0} (layout : Layout) (before after : OpenCalls) (store : Brick D) (me : BrickId) (image : List ℕ)
+-- whatever is under way, the images are the same
+pub still_shows : {D : Type 0} (layout : Layout) (before after : OpenWork) (store : Brick D) (me : BrickId) (image : List ℕ)
     → ImageShows layout me (state_of (running layout before store)) image → ImageShows layout me (state_of (running layout after store)) image
 unfolding state_of
 still_shows layout before after store me image shows =
@@ -82,22 +70,23 @@ still_shows layout before after store me image shows =
       parts = record {
         boot = shows.parts.boot;
         live = shows.parts.live;
+        live_in = shows.parts.live_in;
         learnt = shows.parts.learnt;
-        accepted = shows.parts.accepted;
+        ballots = shows.parts.ballots;
         replicas = shows.parts.replicas;
       };
-      first = shows.first;
+      lists = shows.lists;
     }
 
 -- a store that keeps the same is the same to the machine
-pub same_kept : {D : Type 0} (layout : Layout) (calls : OpenCalls) (old new : Brick D) → new.state ≡ old.state
-    → state_of (running layout calls new) ≡ state_of (running layout calls old)
+pub same_kept : {D : Type 0} (layout : Layout) (work : OpenWork) (old new : Brick D) → new.state ≡ old.state
+    → state_of (running layout work new) ≡ state_of (running layout work old)
 unfolding state_of
-same_kept layout calls old new is =
-    ap (λ (st : StateOf Version). state_of (running layout calls (record { disk = old.disk; shape = old.shape; state = st; listed = old.listed; halted = old.halted }))) is
+same_kept layout work old new is =
+    ap (λ (st : StateOf Version). state_of (running layout work (record { disk = old.disk; shape = old.shape; state = st; listed = old.listed; halted = old.halted }))) is
 
 -- an image that stands for the store shows the brick
 pub shows_so : {D : Type 0} (layout : Layout) (me : BrickId) (node : Node) (store : Brick D) (image : List ℕ) → store.shape ≡ shape_at layout me
     → IsKept layout store.state node → StandsFor store.shape store.state image → ImageShows layout me node image
 shows_so layout me node store image shape kept stands =
-    record { st = store.state; stands = subst (λ (s : Shape). StandsFor s store.state image) shape stands; parts = kept.parts; first = kept.first }
+    record { st = store.state; stands = subst (λ (s : Shape). StandsFor s store.state image) shape stands; parts = kept.parts; lists = kept.lists }

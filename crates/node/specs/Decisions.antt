@@ -91,12 +91,13 @@ abbrev pub KeepsCall : List Answered → Operation → Operation → Type 0
 KeepsCall [] before after = (coordinator_of after).call.seq ≡ (coordinator_of before).call.seq
 KeepsCall (answered ∷ answers) before after = Unit {0}
 
--- An operation does what is decided: it sends, tells and answers that, and is what that leaves open. The brick knew this time before, and knows
--- this one later.
+-- An operation does what is decided: it sends, tells and answers that, reports nothing, and is what that leaves open. The brick knew this time before, and
+-- knows this one later.
 pub record CarriesOut (layout : Layout) (before after : Operation) (known later : ℕ) (next : machine.Next) (outs : Outcome) : Type 0 where
   pub packets : (me : BrickId) → packets_from me outs.messages ≡ packets_in layout me (coordinator_of before) next
   pub told : outs.told ≡ told_in (coordinator_of before).call.seq next
   pub answers : outs.answers ≡ answers_in (coordinator_of before).call.seq next
+  pub reports : outs.reports ≡ []
   pub knows : later ≡ known_by known next
   pub left : left_by next ≡ option_map coordinator_of (left_open outs.answers after)
   pub keeps : KeepsCall outs.answers before after

@@ -20,8 +20,8 @@ abbrev pub disk_in : {D : Type 0} → Result (Running D) (OpenFault × D) → D
 disk_in (Ok node) = node.brick.disk
 disk_in (Err refused) = refused.1
 
--- how a start ended, by its fault or its answer: a fault of the disk cut the opening short, a store that has learnt a later view was opened, and any
--- other fault came before the first call
+-- how a start ended, by its fault or its answer: a fault of the disk cut the opening short, a store whose lists of members may not keep the layout's groups was
+-- opened, and any other fault came before the first call
 abbrev pub stopped_by : OpenFault → End
 stopped_by Disk = Cut
 stopped_by NotAStore = Whole

@@ -1,5 +1,5 @@
 -- A running brick over its durable store, and what its disk shows.
-use Rattle.std.specs.Prelude.{◌≡◌, ◌⊎◌, ℕ, ◌+◌, List, length, map}
+use Rattle.std.specs.Prelude.{◌≡◌, ◌⊎◌, ℕ, ◌+◌, List, length, map, Option, None}
 use Rattle.std.specs.Ordering.{nat_cmp}
 use Rattle.std.specs.Map.{lookup}
 use Rattle.std.specs.BTreeMap.{BTreeMap, is_at}
@@ -13,21 +13,24 @@ use Rattle.brick_store.specs.Images.{StandsFor}
 use Rattle.fab_base.specs.Layouts.{Layout}
 use Rattle.protocol.specs.Coordinators.{Coordinator}
 use Rattle.protocol.specs.Nodes as machine
-use Rattle.replica.specs.Parts.{part_in, learnt_in, accepted_in, IsPartsOf, IsFirstView}
-use Rattle.replica.specs.Reactions.{KeepsOtherViews}
-use Rattle.node.specs.declared.open_calls.OpenCalls.{OpenCalls}
+use Rattle.protocol.specs.Proposals.{Proposal}
+use Rattle.replica.specs.Parts.{part_in, learnt_in, ballots_in, live_at, IsPartsOf, ListsStand}
+use Rattle.node.specs.Proposals.{proposal_in}
+use Rattle.node.specs.declared.open_work.OpenWork.{OpenWork}
 use Rattle.node.specs.declared.operations.Operation.{Operation}
 use Rattle.node.specs.Operations.{coordinator_of}
-use Rattle.node.specs.States.{AreCallsOf}
+use Rattle.node.specs.States.{IsWorkOf}
 
 -- A running brick: the disk's layout, its number, its last call number, the greatest time that it knows, the coordinators of its open operations
--- by their call numbers, which rise, and its store.
+-- by their call numbers, which rise, the greatest round of a ballot that it knows, its proposal, and its store.
 pub record Running (D : Type 0) : Type 0 where
   pub layout : Layout
   pub me : BrickId
   pub seq : ℕ
   pub known : ℕ
   pub calls : List (ℕ × Coordinator)
+  pub round : ℕ
+  pub proposal : Option Proposal
   pub brick : Brick D
 
 -- what the machine sees of it
@@ -37,38 +40,51 @@ state_of node =
       boot = node.brick.state.boot;
       seq = node.seq;
       known = node.known;
+      round = node.round;
       busy = length node.calls;
       live = live node.brick.state;
+      live_in = live_at node.brick.state;
       learnt = learnt_in node.layout node.brick.state;
-      accepted = accepted_in node.brick.state;
+      ballots = ballots_in node.brick.state;
       replicas = part_in node.layout.block node.brick.state;
       calls = λ k. lookup (is_at (nat_cmp k)) node.calls;
+      proposal = node.proposal;
+      job = None;
     }
 
 -- the coordinators of operations by number
 abbrev pub coordinators : BTreeMap ℕ Operation → List (ℕ × Coordinator)
 coordinators operations = map (λ e. (e.0, coordinator_of e.1)) operations.entries
 
--- the brick of this layout that has these calls open, over this store
-abbrev pub running : {D : Type 0} → Layout → OpenCalls → Brick D → Running D
-running layout calls store =
-    record { layout = layout; me = calls.me; seq = calls.seq; known = calls.stamps.known; calls = coordinators calls.operations; brick = store }
+-- the brick of this layout that has these operations and this proposal under way, over this store
+abbrev pub running : {D : Type 0} → Layout → OpenWork → Brick D → Running D
+running layout work store =
+    record {
+      layout = layout;
+      me = work.calls.me;
+      seq = work.calls.seq;
+      known = work.calls.stamps.known;
+      calls = coordinators work.calls.operations;
+      round = work.proposals.rounds;
+      proposal = proposal_in work.proposals.under_way;
+      brick = store;
+    }
 
 -- what a store is made for at a brick of the layout
 abbrev pub shape_at : Layout → BrickId → Shape
 shape_at layout me = shape_of me.0 layout.block layout.records
 
--- the store's state keeps what the machine's brick keeps, and no later view
+-- the store's state keeps what the machine's brick keeps, and its lists of members may keep the layout's groups
 pub record IsKept (layout : Layout) (st : StateOf Version) (node : machine.Node) : Type 0 where
   pub parts : IsPartsOf layout st node
-  pub first : IsFirstView st
+  pub lists : ListsStand layout st
 
--- the image opens as a store that keeps what the machine's brick keeps
+-- the image opens as a store that keeps what the machine's brick keeps, and lists of members that may keep the layout's groups
 pub record ImageShows (layout : Layout) (me : BrickId) (node : machine.Node) (image : List ℕ) : Type 0 where
   pub st : StateOf Version
   pub stands : StandsFor (shape_at layout me) st image
   pub parts : IsPartsOf layout st node
-  pub first : IsFirstView st
+  pub lists : ListsStand layout st
 
 -- the image shows the brick before a step, or the brick after it
 abbrev pub ShowsEither : Layout → BrickId → machine.Node → machine.Node → List ℕ → Type 0
@@ -82,21 +98,15 @@ LeavesBrick layout me node may_leave = (image : List ℕ) → may_leave image �
 abbrev pub reopened : machine.Node → machine.Node
 reopened node = record node { boot = node.boot + 1 }
 
--- What the machine does not see of a store is as it was: the views that were learnt and the ballots of each group, and what is kept of stripes in
--- other views than the learnt ones.
-pub record KeepsUnseen (before after : StateOf Version) : Type 0 where
-  pub groups : after.groups ≡ before.groups
-  pub views : KeepsOtherViews before after
-
 -- it is the same brick of the same disk
 pub record IsSameBrick {D : Type 0} (old new : Running D) : Type 0 where
   pub layout : new.layout ≡ old.layout
   pub me : new.me ≡ old.me
 
--- The store is that of the brick of the layout, was opened as often as its calls say, and has learnt no later view; and the open operations are
--- of the layout.
-pub record IsBrickOf (layout : Layout) (shape : Shape) (st : StateOf Version) (calls : OpenCalls) : Type 0 where
-  pub shape_is : shape ≡ shape_at layout calls.me
-  pub boot : calls.stamps.boot ≡ st.boot
-  pub first : IsFirstView st
-  pub open_calls : AreCallsOf layout calls
+-- The store is that of the brick of the layout, was opened as often as its calls say, and its lists of members may keep the layout's groups; and the open
+-- operations and the proposal are of the layout.
+pub record IsBrickOf (layout : Layout) (shape : Shape) (st : StateOf Version) (work : OpenWork) : Type 0 where
+  pub shape_is : shape ≡ shape_at layout work.calls.me
+  pub boot : work.calls.stamps.boot ≡ st.boot
+  pub lists : ListsStand layout st
+  pub work_is : IsWorkOf layout work

@@ -1,15 +1,20 @@
-//! One brick over its durable store: its parts of stripes, and the operations that it coordinates. Each step computes exactly what the
-//! protocol's machine says, from the brick's own state and the message alone, and what it keeps is kept before it answers.
+//! One brick over its durable store: its parts of stripes, the operations that it coordinates, and its proposal of a view's successor. Each
+//! step computes exactly what the protocol's machine says, from the brick's own state and the message alone, and what it keeps is kept before
+//! it answers.
 #![tactic(auto)]
 
 pub mod faults;
+mod learnt_views;
 pub mod nodes;
 mod numbered;
 pub mod open_calls;
+pub mod open_work;
 pub mod operations;
 pub mod outs;
+pub mod proposals;
 mod refusals;
 mod sending;
+mod teaching;
 
 pub use faults::NodeFault;
 pub use nodes::Node;

@@ -1,6 +1,6 @@
 //! A brick's steps.
 
-ghost use Rattle.std.specs.Prelude.{◌≡◌, ◌≢◌, ◌⊎◌, ◌+◌, ◌-◌, ◌^◌, ◌<◌, ◌≤◌, ℕ, List, true, false, Some, None, is_some, Ok, Err, IsOk, IfOk, IfErr, OnOk, OnErr, length, vec_len};
+ghost use Rattle.std.specs.Prelude.{◌≡◌, ◌≢◌, ◌⊎◌, ◌+◌, ◌-◌, ◌^◌, ◌<◌, ◌≤◌, ℕ, List, true, false, Some, None, is_some, option_map, Ok, Err, IfOk, IfErr, OnOk, OnErr, length, vec_len};
 ghost use Rattle.std.specs.Option.{SomeIff};
 ghost use Rattle.fab_disk.specs.Disk.{IsUntouched, KeepsRoom};
 ghost use Rattle.fab_disk.specs.Changing.{Stands};
@@ -11,10 +11,14 @@ ghost use Rattle.brick_state.specs.States.{StateOf};
 ghost use Rattle.brick_store.specs.Images.{IsFound};
 ghost use Rattle.brick_store.specs.Openings.{IsCounted, IsListedOnOpening, IsWornOut};
 ghost use Rattle.protocol.specs.Nodes as machine;
-ghost use Rattle.protocol.specs.Nodes.{view_at, refusal_of, invoked, replied, received, absorbed, ticked, restarted};
+ghost use Rattle.protocol.specs.Nodes.{view_at, refusal_of, invoked, heard, node_learnt, proposal_refusal, proposed, received, absorbed, ticked, restarted};
+ghost use Rattle.protocol.specs.Proposals.{Proposal};
+ghost use Rattle.protocol.specs.Views.{view_told};
+ghost use Rattle.fab_base.specs.Layouts.{Group, group_of};
+ghost use Rattle.messages.specs.declared.replies.Reply as told;
 ghost use Rattle.messages.specs.declared.packets.Message.TheVariants as message;
 ghost use Rattle.stripe_code.specs.Codes.{coding};
-ghost use Rattle.replica.specs.Parts.{IsFirstView, part_seen};
+ghost use Rattle.replica.specs.Parts.{ListsStand, part_seen};
 ghost use Rattle.replica.specs.Reactions.{member_step};
 ghost use Rattle.replica.specs.Calls.{message_append, message_calls};
 ghost use Rattle.coord_phase.specs.Messages.{packets_from};
@@ -23,28 +27,30 @@ ghost use Rattle.node.specs.Ends.{end_of, IsShown, StepChange};
 ghost use Rattle.node.specs.Faults.{halted_after, RefusesAs};
 ghost use Rattle.node.specs.States.{BeginsAs, StepsAs};
 ghost use Rattle.node.specs.Openings.{OpensBrick, disk_in, end_in};
-ghost use Rattle.node.specs.Running.{shape_at, state_of, IsKept, ImageShows, KeepsUnseen, IsSameBrick};
+ghost use Rattle.node.specs.Running.{shape_at, state_of, IsKept, ImageShows, IsSameBrick};
+ghost use Rattle.node.specs.Teaching.{is_taught};
 
 use crate::faults::NodeFault;
-use crate::open_calls::OpenCalls;
+use crate::learnt_views::{do_lists_stand, learnt_number, learnt_view};
+use crate::open_work::OpenWork;
 use crate::outs::{Begun, Outs};
 use crate::sending::answer_messages;
-use brick_state::MOST_GROUPS;
+use crate::teaching::{is_view, view_told};
 use brick_store::{BrickStore, OpenFault, State};
-use fab_base::{Ask, BrickId, GroupId, Refusal, StripeNo, ViewNo};
+use fab_base::{Ask, BrickId, GroupId, Refusal, StripeNo, View};
 use fab_disk::{Armed, Disk, Plan};
 use layout::Layout;
 use messages::{Call, Message, Messages, Packet, Reply};
 use std::alloc::Global;
 use std::marker::Model;
 
-/// A running brick: its parts of stripes, which its disk keeps, and the operations that it coordinates.
+/// A running brick: its parts of stripes, which its disk keeps, the operations that it coordinates, and its proposal of a view's successor.
 ///
-/// A clause sees the layout, the brick's number, the operations that it has open, and its store.
+/// A clause sees the layout, the brick's number, the operations that it has open, its proposal, and its store.
 pub struct Node<D: Disk> {
     alloc: Global,
     layout: Layout,
-    calls: OpenCalls,
+    work: OpenWork,
     store: BrickStore<D>,
 }
 
@@ -53,9 +59,9 @@ impl<D: Disk> Model for Node<D> {
 
     ghost Value = { Running D };
 
-    ghost view = { λ n. running n.layout n.calls n.store };
+    ghost view = { λ n. running n.layout n.work n.store };
 
-    ghost invariant = { λ n. IsBrickOf n.layout n.store.shape n.store.state n.calls };
+    ghost invariant = { λ n. IsBrickOf n.layout n.store.shape n.store.state n.work };
 }
 
 impl<D: Disk + Drop> Drop for Node<D> {
@@ -64,7 +70,7 @@ impl<D: Disk + Drop> Drop for Node<D> {
         let Self {
             alloc: _,
             layout: _,
-            calls: _,
+            work: _,
             store: _,
         } = self;
     }
@@ -77,7 +83,8 @@ impl<D: Disk> Node<D> {
     /// # Errors
     ///
     /// Each hands the disk back, and is a fault of [`open_store`](brick_store::open_store). [`OpenFault::NotAStore`] also where the store
-    /// was opened, and has learnt a later view of a group: later views are not built yet.
+    /// was opened, and keeps a list of members of a group of the layout that may not keep this: of the view that it has learnt, or of the
+    /// one before that, or the list that it has accepted.
     pub fn start(
         alloc: Global,
         layout: Layout,
@@ -96,10 +103,10 @@ impl<D: Disk> Node<D> {
         ensures listed { IfOk result (λ node. D.tells → IsListedOnOpening (shape_at layout me) (D.seen disk) (state_of node).live node.brick.listed) }
         // What each moment leaves, how many calls it makes, and what is left where it is cut short.
         ensures opens { OpensBrick D.Disk layout me disk (disk_in result) (end_in result) }
-        // There is no store, and nothing has changed; or its store has learnt a later view.
+        // There is no store, and nothing has changed; or its store keeps a list that may not keep its group.
         ensures not_a_store { IfErr result (λ e. e.0 ≡ OpenFault.NotAStore → D.tells
             → (IsNoStore (shape_at layout me) (D.seen disk) × IsUntouched D.seen D.may_leave D.moment D.left_since disk e.1)
-            ⊎ ((st : StateOf Version) × IsFound (shape_at layout me) st (D.seen disk) × (IsFirstView st → ⊥))) }
+            ⊎ ((st : StateOf Version) × IsFound (shape_at layout me) st (D.seen disk) × (ListsStand layout st → ⊥))) }
         ensures worn { IfErr result (λ e. e.0 ≡ OpenFault.Worn → D.tells → IsWornOut (shape_at layout me) (D.seen disk)) }
     {
         let store = match brick_store::open_store(
@@ -112,20 +119,20 @@ impl<D: Disk> Node<D> {
             Ok(store) => store,
             Err(refused) => return Err(refused),
         };
-        // In a later view the brick would not know whom it serves.
-        if !is_first_view(&store) {
+        // By such a list the brick would not know whom it serves.
+        if !do_lists_stand(&store, &layout) {
             return Err((OpenFault::NotAStore, store.into_disk()));
         }
-        let calls = OpenCalls::new(alloc, me, store.boot());
+        let work = OpenWork::new(alloc, me, store.boot());
         Ok(Node {
             alloc,
             layout,
-            calls,
+            work,
             store,
         })
     }
 
-    /// Begins an operation, at this time of the brick's clock.
+    /// Begins an operation in the view that the brick has learnt of its group, at this time of the brick's clock.
     ///
     /// # Errors
     ///
@@ -146,34 +153,76 @@ impl<D: Disk> Node<D> {
         if self.is_halted() {
             return Err(NodeFault::Halted);
         }
-        let group = match self.calls.admit(&self.layout, ask) {
+        let group = match self.work.calls.admit(&self.layout, ask) {
             Ok(group) => group,
             Err(refusal) => return Err(NodeFault::Refused(refusal)),
         };
-        let view = group.first_view();
-        Ok(self.calls.begin(self.alloc, &self.layout, view, now, ask)?)
+        let view = learnt_view(&self.store, ask.group, group);
+        Ok(
+            self.work
+                .calls
+                .begin(self.alloc, &self.layout, view, now, ask)?,
+        )
+    }
+
+    /// Begins a proposal of these members as the successor of the view that the brick has learnt of a group: what it sends. A list that may
+    /// not keep the group ends it at once: that is reported, and nothing is sent. A list may keep it exactly where it is m to 32 distinct
+    /// bricks of the disk, by the group's m.
+    ///
+    /// # Errors
+    ///
+    /// `Halted` exactly where an earlier call answered `Disk`. `Refused` exactly where the brick does not begin it, with the first reason
+    /// there is: there is no such group; it has a proposal; no greater round of a ballot, no later view or no later call has a number.
+    /// `NoMemory` where no memory was left.
+    pub fn propose(&mut self, group: GroupId, members: &[BrickId]) -> Result<Outs, NodeFault>
+        ensures refused { RefusesAs result (proposal_refusal self.old.layout (state_of self.old) group.0) }
+        ensures step { IfOk result (StepsAs self.old.me (state_of self.new) (proposed (coding self.old.layout) self.old.me (state_of self.old) group members.now)) }
+        ensures err { OnErr result (state_of self.new ≡ state_of self.old) }
+        ensures few { IfOk result (λ outs. length outs.messages ≤ 32) }
+        ensures same { IsSameBrick self.old self.new }
+        ensures brick { self.new.brick ≡ self.old.brick }
+        ensures halted { self.old.brick.halted ≡ true → result ≡ Err NodeFault.Halted }
+        ensures only_halted { result ≡ Err NodeFault.Halted → self.old.brick.halted ≡ true }
+        ensures not_disk { result ≢ Err NodeFault.Disk }
+    {
+        if self.is_halted() {
+            return Err(NodeFault::Halted);
+        }
+        let Some(kept) = self.layout.group(group) else {
+            return Err(NodeFault::Refused(Refusal::NoStripe));
+        };
+        let view = learnt_view(&self.store, group, kept);
+        if let Some(refusal) = self.work.proposal_refusal(view.number) {
+            return Err(NodeFault::Refused(refusal));
+        }
+        Ok(
+            self.work
+                .propose(self.alloc, &self.layout, kept, group, view, members)?,
+        )
     }
 
     /// At a tick of the brick's clock each open operation, in the order of beginning, sends its present phase again to each member
-    /// without a reply that counts.
+    /// without a reply that counts, and then the proposal. Each message of a later view than view 1 goes right after one that teaches its
+    /// receiver that view.
     ///
     /// # Errors
     ///
     /// `Halted` exactly where an earlier call answered `Disk`. `NoMemory` where no memory was left.
     pub fn on_tick(&self) -> Result<Messages, NodeFault>
         ensures packets { IfOk result (λ messages. packets_from self.now.me messages.items ≡ ticked (coding self.now.layout) self.now.me (state_of self.now)) }
-        ensures few { IfOk result (λ messages. vec_len messages ≤ 2048) }
+        ensures few { IfOk result (λ messages. vec_len messages ≤ 4160) }
         ensures halted { self.now.brick.halted ≡ true → result ≡ Err NodeFault.Halted }
         ensures only { OnErr result ((result ≡ Err NodeFault.Halted × (self.now.brick.halted ≡ true)) ⊎ (result ≡ Err NodeFault.NoMemory)) }
     {
         if self.is_halted() {
             return Err(NodeFault::Halted);
         }
-        Ok(self.calls.on_tick(self.alloc)?)
+        Ok(self.work.on_tick(self.alloc)?)
     }
 
-    /// Handles a message, at this time of the brick's clock. What it keeps of a request is on the disk before it answers, by the calls of
-    /// [`replica::handle`]; a message that changes nothing that is kept makes no call of the disk.
+    /// Handles a message, at this time of the brick's clock. What it keeps of a request, and a view that it learns, is on the disk before it
+    /// answers, by the calls of [`replica::handle`]; a message that changes nothing that is kept makes no call of the disk. A reply makes
+    /// some where it counts and tells a later view with its members, which the brick learns then.
     ///
     /// # Errors
     ///
@@ -182,14 +231,13 @@ impl<D: Disk> Node<D> {
     #[tactic(auto, unfolding(protocol::specs::Nodes::received, protocol::specs::Nodes::requested, protocol::specs::Nodes::absorbed))]
     pub fn on_message(&mut self, now: u64, packet: &Packet) -> Result<Outs, NodeFault>
         ensures step { IfOk result (StepsAs self.old.me (state_of self.new) (received (coding self.old.layout) self.old.me now (state_of self.old) packet.now)) }
-        ensures few { IfOk result (λ outs. length outs.messages ≤ 32) }
+        ensures few { IfOk result (λ outs. length outs.messages ≤ 64) }
         ensures err { OnErr result (state_of self.new ≡ state_of self.old) }
         ensures same { IsSameBrick self.old self.new }
-        ensures unseen { KeepsUnseen self.old.brick.state self.new.brick.state }
-        // A message that makes no call of the disk changes nothing that is kept, and does not touch the disk. None is made where no stripe's part changes.
+        // A message that makes no call of the disk changes nothing that is kept, and does not touch the disk. None is made where what is kept stays as it is.
         ensures still { packet_calls self.old.layout self.old.me (state_of self.old) packet.now self.old.brick.listed ≡ 0 → OnOk result
             ((self.new.brick.state ≡ self.old.brick.state) × IsUntouched D.seen D.may_leave D.moment D.left_since self.old.brick.disk self.new.brick.disk) }
-        // At each moment each image shows the brick as it was, or with what the request makes it keep. What is appended is what keeps that.
+        // At each moment each image shows the brick as it was, or with what the message makes it keep. What is appended is what keeps that.
         ensures change { StepChange D.Disk (packet_append self.old.layout self.old.me (state_of self.old) packet.now)
             (absorbed (coding self.old.layout) self.old.me (state_of self.old) packet.now) self.old self.new (end_of result) }
         ensures halted { self.old.brick.halted ≡ true → result ≡ Err NodeFault.Halted }
@@ -202,25 +250,24 @@ impl<D: Disk> Node<D> {
         }
         match &packet.message {
             Message::Request(_, _) => self.serve(packet.from, &packet.message),
+            Message::Learn { .. } => self.serve(packet.from, &packet.message),
             Message::Reply(call, reply) => self.on_reply(now, packet, *call, reply),
-            Message::Learn { .. }
-            | Message::Synced { .. }
-            | Message::Client(_)
-            | Message::ClientReply { .. } => Ok(Outs::nothing(self.alloc)),
+            Message::Synced { .. } | Message::Client(_) | Message::ClientReply { .. } => {
+                Ok(Outs::nothing(self.alloc))
+            }
         }
     }
 
-    /// Serves a message as a member of a group. A brick ignores a request of a group that it is no member of, one of a stripe that the
-    /// group does not have in its view, one that would store what is no block, and each message that is no request.
+    /// Serves a message as a member of a group: it handles a request, and learns a later view that it is taught. A brick ignores a void
+    /// request, and each other message.
     fn serve(&mut self, from: BrickId, message: &Message) -> Result<Outs, NodeFault>
         requires runs { self.old.brick.halted ≡ false }
         requires stands { IsShown D.Disk self.old }
         ensures step { IfOk result (StepsAs self.old.me (state_of self.new)
             (member_step self.old.layout self.old.me from (state_of self.old) message.now)) }
-        ensures few { IfOk result (λ outs. length outs.messages ≤ 32) }
+        ensures few { IfOk result (λ outs. length outs.messages ≤ 64) }
         ensures err { OnErr result (state_of self.new ≡ state_of self.old) }
         ensures same { IsSameBrick self.old self.new }
-        ensures unseen { KeepsUnseen self.old.brick.state self.new.brick.state }
         ensures still { message_calls self.old.layout self.old.me from (shape_at self.old.layout self.old.me) self.old.brick.listed (state_of self.old) message.now ≡ 0
             → OnOk result
             ((self.new.brick.state ≡ self.old.brick.state) × IsUntouched D.seen D.may_leave D.moment D.left_since self.old.brick.disk self.new.brick.disk) }
@@ -238,7 +285,9 @@ impl<D: Disk> Node<D> {
         Ok(Outs::sending(answer_messages(room, from, answer)))
     }
 
-    /// Handles a reply, at this time of the brick's clock: the operation of its call counts it, or leaves it out.
+    /// Handles a reply, at this time of the brick's clock: the operation of its call, or else the proposal, counts it, or leaves it out.
+    /// Where it counts and tells a later view with its members, the brick learns that.
+    #[tactic(auto, unfolding(protocol::specs::Nodes::received, protocol::specs::Nodes::absorbed))]
     fn on_reply(
         &mut self,
         now: u64,
@@ -247,9 +296,43 @@ impl<D: Disk> Node<D> {
         reply: &Reply,
     ) -> Result<Outs, NodeFault>
         requires reply { packet.now.message ≡ message.Reply call reply.now }
-        ensures step { IfOk result (StepsAs self.old.me (state_of self.new) (replied (coding self.old.layout) self.old.me now packet.now.from
+        requires runs { self.old.brick.halted ≡ false }
+        requires stands { IsShown D.Disk self.old }
+        ensures step { IfOk result (StepsAs self.old.me (state_of self.new) (received (coding self.old.layout) self.old.me now (state_of self.old) packet.now)) }
+        ensures few { IfOk result (λ outs. length outs.messages ≤ 64) }
+        ensures err { OnErr result (state_of self.new ≡ state_of self.old) }
+        ensures same { IsSameBrick self.old self.new }
+        ensures still { packet_calls self.old.layout self.old.me (state_of self.old) packet.now self.old.brick.listed ≡ 0 → OnOk result
+            ((self.new.brick.state ≡ self.old.brick.state) × IsUntouched D.seen D.may_leave D.moment D.left_since self.old.brick.disk self.new.brick.disk) }
+        ensures change { StepChange D.Disk (packet_append self.old.layout self.old.me (state_of self.old) packet.now)
+            (absorbed (coding self.old.layout) self.old.me (state_of self.old) packet.now) self.old self.new (end_of result) }
+        ensures not_halted { result ≢ Err NodeFault.Halted }
+        ensures halts { self.new.brick.halted ≡ halted_after false result }
+        ensures not_refused { (reason : Refusal) → result ≢ Err (NodeFault.Refused reason) }
+    {
+        let Some(view) = view_told(reply) else {
+            return self.count(now, packet, call, reply);
+        };
+        if !self.is_taught_by(packet, call, &view) {
+            return Ok(Outs::nothing(self.alloc));
+        }
+        self.on_moved(packet, call, reply, view)
+    }
+
+    /// Handles a reply that teaches no view, at this time of the brick's clock: the operation of its call, or else the proposal, counts it,
+    /// or leaves it out.
+    fn count(
+        &mut self,
+        now: u64,
+        packet: &Packet,
+        call: Call,
+        reply: &Reply,
+    ) -> Result<Outs, NodeFault>
+        requires reply { packet.now.message ≡ message.Reply call reply.now }
+        requires untaught { view_told reply.now ≡ None }
+        ensures step { IfOk result (StepsAs self.old.me (state_of self.new) (heard (coding self.old.layout) self.old.me now packet.now.from
             (state_of self.old) call reply.now)) }
-        ensures few { IfOk result (λ outs. length outs.messages ≤ 32) }
+        ensures few { IfOk result (λ outs. length outs.messages ≤ 64) }
         ensures err { OnErr result (state_of self.new ≡ state_of self.old) }
         ensures same { IsSameBrick self.old self.new }
         ensures brick { self.new.brick ≡ self.old.brick }
@@ -257,7 +340,62 @@ impl<D: Disk> Node<D> {
             (state_of self.new) image }
         ensures only { OnErr result (result ≡ Err NodeFault.NoMemory) }
     {
-        Ok(self.calls.on_reply(self.alloc, now, packet, call, reply)?)
+        Ok(
+            self.work
+                .on_reply(self.alloc, &self.layout, now, packet, call, reply)?,
+        )
+    }
+
+    /// Whether a reply that tells this later view teaches it: the view's lists may keep the group, and the reply counts.
+    fn is_taught_by(&self, packet: &Packet, call: Call, view: &View) -> bool
+        ensures { (reply : told.Reply) → packet.now.message ≡ message.Reply call reply → view_told reply ≡ Some view.now
+            → result ≡ is_taught self.now.layout (state_of self.now) packet.now.from call reply }
+    {
+        let Some(group) = self.layout.group(call.group) else {
+            return false;
+        };
+        is_view(group.m(), self.layout.bricks(), view) && self.work.counts(call, packet)
+    }
+
+    /// Handles a reply that counts and teaches a view: it counts, and the brick learns the view.
+    fn on_moved(
+        &mut self,
+        packet: &Packet,
+        call: Call,
+        reply: &Reply,
+        view: View,
+    ) -> Result<Outs, NodeFault>
+        requires reply { packet.now.message ≡ message.Reply call reply.now }
+        requires view { view_told reply.now ≡ Some view }
+        requires taught { is_taught self.old.layout (state_of self.old) packet.now.from call reply.now ≡ true }
+        requires runs { self.old.brick.halted ≡ false }
+        requires stands { IsShown D.Disk self.old }
+        ensures step { (now : ℕ) → IfOk result (StepsAs self.old.me (state_of self.new) (heard (coding self.old.layout) self.old.me now packet.now.from
+            (state_of self.old) call reply.now)) }
+        ensures few { IfOk result (λ outs. length outs.messages ≤ 64) }
+        ensures err { OnErr result (state_of self.new ≡ state_of self.old) }
+        ensures same { IsSameBrick self.old self.new }
+        ensures still { message_calls self.old.layout self.old.me self.old.me (shape_at self.old.layout self.old.me) self.old.brick.listed (state_of self.old)
+            (message.Learn call.group view) ≡ 0 → OnOk result
+            ((self.new.brick.state ≡ self.old.brick.state) × IsUntouched D.seen D.may_leave D.moment D.left_since self.old.brick.disk self.new.brick.disk) }
+        ensures change { StepChange D.Disk (message_append self.old.layout self.old.me self.old.me (state_of self.old) (message.Learn call.group view))
+            (node_learnt self.old.layout (state_of self.old) call.group view) self.old self.new (end_of result) }
+        ensures not_halted { result ≢ Err NodeFault.Halted }
+        ensures halts { self.new.brick.halted ≡ halted_after false result }
+        ensures not_refused { (reason : Refusal) → result ≢ Err (NodeFault.Refused reason) }
+    {
+        // All else that can be refused comes before the view is learnt, and is taken back where that is refused.
+        let (alloc, seq) = (self.alloc, call.seq);
+        let turn = self
+            .work
+            .hear_moved(alloc, &self.layout, packet, call, reply, view.number)?;
+        match replica::learn(&mut self.store, &self.layout, call.group, &view) {
+            Ok(()) => Ok(self.work.finish(alloc, seq, turn)),
+            Err(fault) => {
+                self.work.take_back(seq, &turn);
+                Err(NodeFault::from(fault))
+            }
+        }
     }
 
     /// Gives the disk back. Where the brick is not halted, the disk shows it, and so does whatever a crash leaves.
@@ -268,7 +406,7 @@ impl<D: Disk> Node<D> {
         let Node {
             alloc: _,
             layout: _,
-            calls: _,
+            work: _,
             store,
         } = self;
         store.into_disk()
@@ -285,7 +423,7 @@ impl<D: Disk> Node<D> {
         ensures shape { self.now.brick.shape ≡ shape_at self.now.layout self.now.me }
     {
         // The clauses speak of the whole brick, so all of it is looked at.
-        let _ = &self.calls;
+        let _ = &self.work;
         self.store.is_halted()
     }
 
@@ -300,7 +438,7 @@ impl<D: Disk> Node<D> {
     pub fn me(&self) -> BrickId
         ensures { result ≡ self.now.me }
     {
-        self.calls.me()
+        self.work.calls.me()
     }
 
     /// The store.
@@ -314,7 +452,24 @@ impl<D: Disk> Node<D> {
     pub fn log(&self, group: GroupId, stripe: StripeNo) -> State<'_>
         ensures { let part = (state_of self.now).replicas group.0 (view_at (state_of self.now) group.0) stripe.0 in part_seen result part.from_start ≡ part }
     {
-        self.store.state(group, ViewNo(1), stripe)
+        let view = learnt_number(&self.store, group);
+        self.store.state(group, view, stripe)
+    }
+
+    /// The view that the brick has learnt of a group. None exactly where the layout has no such group.
+    pub fn learnt(&self, group: GroupId) -> Option<View>
+        ensures { result ≡ option_map (λ (kept : Group). ((state_of self.now).learnt group.0).view) (group_of self.now.layout group.0) }
+    {
+        let kept = self.layout.group(group)?;
+        Some(learnt_view(&self.store, group, kept))
+    }
+
+    /// The group a successor of whose view the brick proposes, if it has a proposal.
+    #[tactic(auto, unfolding(crate::specs::Running::state_of))]
+    pub fn proposing(&self) -> Option<GroupId>
+        ensures { result ≡ option_map (λ (p : Proposal). p.call.group) (state_of self.now).proposal }
+    {
+        self.work.proposals.group()
     }
 
     /// The number of the brick's next call. None where no number is left.
@@ -322,7 +477,7 @@ impl<D: Disk> Node<D> {
     pub fn next_seq(&self) -> Option<u64>
         ensures { SomeIff result ((state_of self.now).seq + 1 < 2 ^ 64) ((state_of self.now).seq + 1) }
     {
-        self.calls.next_seq()
+        self.work.calls.next_seq()
     }
 
     /// Whether the operation of the call of a number is open: it began since the brick started, and was not answered.
@@ -330,7 +485,7 @@ impl<D: Disk> Node<D> {
     pub fn is_open(&self, seq: u64) -> bool
         ensures { result ≡ is_some ((state_of self.now).calls seq) }
     {
-        self.calls.is_open(seq)
+        self.work.calls.is_open(seq)
     }
 
     /// How often the brick's store was opened.
@@ -338,7 +493,7 @@ impl<D: Disk> Node<D> {
     pub fn boot(&self) -> u32
         ensures { result ≡ (state_of self.now).boot }
     {
-        self.calls.boot()
+        self.work.calls.boot()
     }
 
     /// The greatest time that the brick knows. 0 where it knows none.
@@ -346,7 +501,7 @@ impl<D: Disk> Node<D> {
     pub fn known_time(&self) -> u64
         ensures { result ≡ (state_of self.now).known }
     {
-        self.calls.known_time()
+        self.work.calls.known_time()
     }
 }
 
@@ -371,17 +526,4 @@ impl<D: Armed> Node<D> {
     {
         self.store.arm(plan);
     }
-}
-
-/// Whether a store has learnt no later view of a group.
-fn is_first_view<D: Disk>(store: &BrickStore<D>) -> bool
-    ensures first { result ≡ true → IsFirstView store.now.state }
-    ensures later { result ≡ false → IsFirstView store.now.state → ⊥ }
-{
-    for group in 0..MOST_GROUPS {
-        if store.known_view(GroupId(group)).is_some() {
-            return false;
-        }
-    }
-    true
 }

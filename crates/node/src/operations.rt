@@ -1,35 +1,55 @@
 //! The open operations of a brick.
 
-ghost use Rattle.std.specs.Prelude.{◌≡◌};
-ghost use Rattle.coord_phase.specs.Operations.{with_state, without_last};
-ghost use Rattle.node.specs.Decisions.{messages_in};
+ghost use Rattle.std.specs.Prelude.{◌≡◌, [], ◌∷◌, ◌++◌, Some};
+ghost use Rattle.protocol.specs.declared.phases.Counted.{Counted};
+ghost use Rattle.protocol.specs.Coordinators.{mover_of, lowest_mover};
+ghost use Rattle.node.specs.Kinds.{shown_in};
 
 use crate::outs::Outs;
-use crate::sending::put_collects;
+use crate::sending::{messages_in, put_collects};
+use crate::teaching::teaching;
 use coord_block::BlockOp;
 use coord_phase::{News, Stage};
 use coord_recover::Recovery;
 use coord_stripe::StripeOp;
-use fab_base::{Answer, Ask, BrickId, CallId, NoMem, Op, Stamp, View};
+use fab_base::{Answer, Ask, BrickId, CallId, Cause, Members, NoMem, Op, Stamp, View, ViewNo};
 use layout::{Group, Layout};
-use messages::{Call, Message, Messages, Next};
-use protocol::{Answered, Told};
+use messages::{Call, Message, Messages, Next, Reply};
+use protocol::{Answered, Counted, Mover, Told};
 use stamp_store::StampSource;
 use std::alloc::Global;
 
-/// The messages that are sent; none where nothing is.
-fn messages_in(alloc: Global, next: Next) -> Messages
-    ensures { result.items ≡ messages_in next }
+/// The member that told a later view, where this reply tells one.
+fn mover_of(counted: &Counted) -> Option<Mover>
+    ensures { result ≡ mover_of counted.now }
 {
-    match next {
-        Next::Send(messages) => messages,
-        Next::Wait | Next::End(_) | Next::Recover(_) => Vec::new(alloc),
+    match &counted.reply {
+        Reply::Moved { view, .. } => Some(Mover {
+            seat: counted.seat,
+            brick: counted.brick,
+            view: *view,
+        }),
+        _ => None,
     }
 }
 
-/// An open operation at its coordinator.
+/// The member of the lowest seat that told a later view, of those whose replies count and of one that tells it last.
+fn lowest_mover(counted: &[Counted], last: Mover) -> Mover
+    ensures { (c : Counted) → mover_of c ≡ Some last → lowest_mover (counted.now ++ (c ∷ [])) ≡ Some result }
+{
+    let Some((first, others)) = counted.split_first() else {
+        return last;
+    };
+    let later = lowest_mover(others, last);
+    match mover_of(first) {
+        Some(mover) if later.seat >= mover.seat => mover,
+        _ => later,
+    }
+}
+
+/// An operation at the coordinator of its kind.
 #[derive(Drop)]
-pub enum Operation {
+pub enum Kind {
     /// The read or write of a stripe.
     Stripe(StripeOp),
     /// The read or write of one data block.
@@ -38,8 +58,16 @@ pub enum Operation {
     Recovery(Recovery),
 }
 
+/// An open operation at its coordinator, and the members of the view before its own.
+#[derive(Drop)]
+pub struct Operation {
+    kind: Kind,
+    prior: Members,
+    ghost before: { prior ≡ (shown_in kind).state.prior },
+}
+
 impl Operation {
-    ghost use Rattle.std.specs.Prelude.{◌≡◌, ◌≤◌, true, IfOk, OnErr, [], ◌∷◌, length, vec_len, vec_capacity};
+    ghost use Rattle.std.specs.Prelude.{◌≡◌, ◌≤◌, true, None, IfOk, OnOk, OnErr, [], ◌∷◌, length, vec_len, vec_capacity};
     ghost use Rattle.quorum.specs.Quorums.{IsWithinLimits};
     ghost use Rattle.fab_base.specs.Layouts.{Layout};
     ghost use Rattle.protocol.specs.Nodes.{has_block, has_length, seen_told};
@@ -47,8 +75,12 @@ impl Operation {
     ghost use Rattle.coord_phase.specs.Decisions as decisions;
     ghost use Rattle.coord_phase.specs.Decisions.{Answers, AsksRecovery, NeverRecovers, IsSend, decided_on, begins_in};
     ghost use Rattle.coord_phase.specs.Messages.{phase_messages};
-    ghost use Rattle.node.specs.declared.operations.Operation.TheVariants as variant;
-    ghost use Rattle.node.specs.Operations.{shown_of, coordinator_of, IsOperationOf};
+    ghost use Rattle.protocol.specs.Nodes.{view_in};
+    ghost use Rattle.protocol.specs.Coordinators as machine;
+    ghost use Rattle.coord_phase.specs.Operations.{counts, heard, with_state, without_last};
+    ghost use Rattle.node.specs.declared.operations.Kind.TheVariants as kind;
+    ghost use Rattle.node.specs.Operations.{shown_of, coordinator_of, EndsOrWaits, IsOperationOf};
+    ghost use Rattle.node.specs.Teaching.{teaching};
     ghost use Rattle.node.specs.Decisions.{told_in, or_waits, known_by, SendsPhase, CarriesOut, Collects};
     ghost use Rattle.node.specs.Sending.{collect_messages};
 
@@ -56,10 +88,10 @@ impl Operation {
     fn shown(&self) -> &coord_phase::Operation
         ensures { result.now ≡ shown_of self.now }
     {
-        match self {
-            Operation::Stripe(op) => op.operation(),
-            Operation::Block(op) => op.operation(),
-            Operation::Recovery(op) => op.operation(),
+        match &self.kind {
+            Kind::Stripe(op) => op.operation(),
+            Kind::Block(op) => op.operation(),
+            Kind::Recovery(op) => op.operation(),
         }
     }
 
@@ -68,6 +100,17 @@ impl Operation {
         ensures { result ≡ (coordinator_of self.now).call }
     {
         self.shown().stage().call
+    }
+
+    /// The view that it belongs to.
+    fn view(&self) -> View
+        ensures { result ≡ view_in (coordinator_of self.now) }
+    {
+        View {
+            number: self.call().view,
+            members: self.group().members().copy(),
+            prior: self.prior.copy(),
+        }
     }
 
     /// The group whose members the present phase asks.
@@ -93,14 +136,17 @@ impl Operation {
         ensures send { IfOk result (λ begun. IsSend begun.1) }
         ensures sent { IfOk result (λ begun. decisions.SendsPhase (shown_of begun.0) begun.1) }
     {
+        let prior = view.prior.copy();
         match &ask.op {
             Op::ReadBlock(_) | Op::WriteBlock(_, _) => {
                 let (op, next) = BlockOp::start(alloc, layout, view, call, ask, stamp)?;
-                Ok((Operation::Block(op), next))
+                let kind = Kind::Block(op);
+                Ok((Operation { kind, prior }, next))
             }
             Op::ReadStripe | Op::WriteStripe(_) => {
                 let (op, next) = StripeOp::start(alloc, layout, view, call, ask, stamp)?;
-                Ok((Operation::Stripe(op), next))
+                let kind = Kind::Stripe(op);
+                Ok((Operation { kind, prior }, next))
             }
         }
     }
@@ -128,13 +174,35 @@ impl Operation {
     }
 
     /// The messages of the present phase again, to each member of the group without a reply that counts.
-    pub fn on_tick(&self, alloc: Global) -> Result<Messages, NoMem>
+    fn messages(&self, alloc: Global) -> Result<Messages, NoMem>
         ensures messages { IfOk result (λ messages. messages.items ≡ phase_messages (shown_of self.now)) }
         ensures few { IfOk result (λ messages. vec_len messages ≤ 32) }
     {
         // There is at most a message for each member, and these are few.
         let _ = self.member_count();
         self.shown().messages(alloc)
+    }
+
+    /// The same, each right after one that teaches its receiver the operation's view, where that is later than view 1.
+    pub fn on_tick(&self, alloc: Global) -> Result<Messages, NoMem>
+        ensures messages { IfOk result (λ messages. messages.items
+            ≡ teaching (coordinator_of self.now).call.group (view_in (coordinator_of self.now)) (phase_messages (shown_of self.now))) }
+        ensures few { IfOk result (λ messages. vec_len messages ≤ 64) }
+    {
+        let messages = self.messages(alloc)?;
+        let view = self.view();
+        teaching(alloc, self.call().group, &view, messages)
+    }
+
+    /// Whether a message counts: it is a reply to this very phase of the operation, answers it, and is its member's first.
+    pub fn counts(&self, from: BrickId, message: &Message) -> bool
+        ensures { result ≡ counts (shown_of self.now) from message.now }
+    {
+        match &self.kind {
+            Kind::Stripe(op) => op.counts(from, message),
+            Kind::Block(op) => op.counts(from, message),
+            Kind::Recovery(op) => op.counts(from, message),
+        }
     }
 
     /// How many members are asked, at most 32.
@@ -171,21 +239,21 @@ impl Operation {
             (without_last (shown_of self.new).state)) }
         ensures same { OnErr result (shown_of self.new ≡ shown_of self.old) }
     {
-        match self {
-            Operation::Stripe(op) => op.on_reply(from, message, fresh),
-            Operation::Block(op) => op.on_reply(from, message, fresh),
-            Operation::Recovery(op) => op.on_reply(from, message, fresh),
+        match &mut self.kind {
+            Kind::Stripe(op) => op.on_reply(from, message, fresh),
+            Kind::Block(op) => op.on_reply(from, message, fresh),
+            Kind::Recovery(op) => op.on_reply(from, message, fresh),
         }
     }
 
     /// Takes the last reply that counted back.
-    fn take_back(&mut self)
+    pub(crate) fn take_back(&mut self)
         ensures { shown_of self.new ≡ with_state (shown_of self.old) (without_last (shown_of self.old).state) }
     {
-        match self {
-            Operation::Stripe(op) => op.take_back(),
-            Operation::Block(op) => op.take_back(),
-            Operation::Recovery(op) => op.take_back(),
+        match &mut self.kind {
+            Kind::Stripe(op) => op.take_back(),
+            Kind::Block(op) => op.take_back(),
+            Kind::Recovery(op) => op.take_back(),
         }
     }
 
@@ -218,11 +286,12 @@ impl Operation {
         }
     }
 
-    /// The operation becomes this recovery.
+    /// The operation becomes this recovery, which the members of the same view keep.
     fn become_recovery(&mut self, recovery: Recovery)
-        ensures { self.new ≡ variant.Recovery recovery }
+        requires { recovery.state.prior ≡ (coordinator_of self.old).prior }
+        ensures { self.new.kind ≡ kind.Recovery recovery }
     {
-        *self = Operation::Recovery(recovery);
+        self.kind = Kind::Recovery(recovery);
     }
 
     /// What is sent and told as a phase begins: the version, where the operation makes it. The stamp of a new round is known from now on.
@@ -231,6 +300,7 @@ impl Operation {
           messages = messages.items;
           told = told_in (coordinator_of self.now).call.seq (begins_in (shown_of self.now).news (coordinator_of self.now));
           answers = [];
+          reports = [];
         } }
         ensures known { stamps.new.known ≡ known_by stamps.old.known (begins_in (shown_of self.now).news (coordinator_of self.now)) }
         ensures boot { stamps.new.boot ≡ stamps.old.boot }
@@ -246,6 +316,7 @@ impl Operation {
                     base: op.base(),
                 }),
                 answer: None,
+                report: None,
             },
             News::Nothing | News::Seen(_) | News::Stored => {
                 stamps.saw(stamp);
@@ -263,6 +334,7 @@ impl Operation {
           messages = collect_messages call (stored_in (shown_of self.now).news (coordinator_of self.now).stamp) (coordinator_of self.now).group.members;
           told = seen_told call.seq (seen_in (shown_of self.now).news);
           answers = record { seq = call.seq; answer = answer } ∷ [];
+          reports = [];
         } }
     {
         let seq = call.seq;
@@ -274,6 +346,7 @@ impl Operation {
             messages: put_collects(room, self.group(), call, self.shown().made()),
             told,
             answer: Some(Answered { seq, answer }),
+            report: None,
         }
     }
 
@@ -307,5 +380,44 @@ impl Operation {
             Next::End(answer) => Ok(self.end(room, call, answer)),
             Next::Recover(_) => unreachable!(),
         }
+    }
+
+    /// Counts a reply on which the operation waits for more.
+    ///
+    /// # Errors
+    ///
+    /// `NoMemory` where no memory was left: the operation is as it was.
+    pub(crate) fn count(&mut self, from: BrickId, message: &Message) -> Result<(), NoMem>
+        requires waits { decided_on None (shown_of self.old) from message.now ≡ machine.Waits (heard (shown_of self.old) from message.now).state }
+        requires counts { counts (shown_of self.old) from message.now ≡ true }
+        ensures counted { OnOk result (coordinator_of self.new ≡ (heard (shown_of self.old) from message.now).state) }
+        ensures same { OnErr result (coordinator_of self.new ≡ coordinator_of self.old) }
+        ensures block { (shown_of self.new).block ≡ (shown_of self.old).block }
+    {
+        match self.hear(from, message, None)? {
+            Next::Wait => Ok(()),
+            Next::Send(_) | Next::End(_) | Next::Recover(_) => unreachable!(),
+        }
+    }
+
+    /// How the operation ends on a member's reply that counts and tells this later view: it is aborted by the mover of the lowest seat. None where it waits
+    /// for more replies.
+    pub(crate) fn ended_by(&self, from: BrickId, view: ViewNo) -> Option<Answer>
+        ensures { EndsOrWaits (coordinator_of self.now) from view result }
+    {
+        let Some(seat) = self.group().seat_of(from) else {
+            return None;
+        };
+        let counted = self.shown().counted();
+        if counted.len() + 1 < usize::from(self.group().quorum()) {
+            return None;
+        }
+        let last = Mover {
+            seat,
+            brick: from,
+            view,
+        };
+        let Mover { brick, view, .. } = lowest_mover(counted, last);
+        Some(Answer::Aborted(Cause::Moved { brick, view }))
     }
 }

@@ -2,11 +2,22 @@
 
 ghost use Rattle.std.specs.Prelude.{◌≡◌, ◌≤◌, [], length, vec_len, vec_capacity};
 ghost use Rattle.node.specs.Sending.{answer_messages, collect_messages};
-ghost use Rattle.node.specs.Decisions.{Collects};
+ghost use Rattle.node.specs.Decisions.{messages_in, Collects};
 
 use fab_base::{BrickId, Stamp};
 use layout::Group;
-use messages::{Call, Message, Messages};
+use messages::{Call, Message, Messages, Next};
+use std::alloc::Global;
+
+/// The messages that are sent; none where nothing is.
+pub(crate) fn messages_in(alloc: Global, next: Next) -> Messages
+    ensures { result.items ≡ messages_in next }
+{
+    match next {
+        Next::Send(messages) => messages,
+        Next::Wait | Next::End(_) | Next::Recover(_) => Vec::new(alloc),
+    }
+}
 
 /// The messages that let all members collect what is below a version, in room that was made for them.
 pub(crate) fn put_collects(

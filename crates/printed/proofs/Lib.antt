@@ -1,8 +1,10 @@
 pub mod Tokens
 pub mod MarkLines
 pub mod OtherLines
+pub mod ReportLines
 pub mod LineTexts
 pub mod Reading
+pub mod OpenProposals
 pub mod PrintedMarks
 pub mod Standing
 pub mod Counts

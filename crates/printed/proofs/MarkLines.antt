@@ -129,7 +129,7 @@ op_line ask ReadStripe = codes "readall " ++ (decimal ask.group.0 ++ (codes " " 
 op_line ask (WriteStripe bytes) = codes "writeall " ++ place_text ask (codes " " ++ encode_lower bytes)
 
 -- why an operation was aborted
-abbrev cause_line : Cause → List ℕ
+abbrev pub cause_line : Cause → List ℕ
 cause_line (Later brick stamp) = codes "later " ++ (decimal brick.0 ++ (codes " " ++ stamp_text stamp))
 cause_line (Gone brick) = codes "gone " ++ decimal brick.0
 cause_line (Full brick live) = codes "full " ++ (decimal brick.0 ++ (codes " " ++ decimal live))
@@ -156,7 +156,7 @@ op_ends ask ReadStripe = simp append_assoc refl
 op_ends ask (WriteStripe bytes) = simp append_assoc refl
 
 -- why an operation was aborted, and its line feed
-cause_ends : (cause : Cause) → cause_text cause ≡ cause_line cause ++ newline
+pub cause_ends : (cause : Cause) → cause_text cause ≡ cause_line cause ++ newline
 cause_ends (Later brick stamp) = simp append_assoc refl
 cause_ends (Gone brick) = simp append_assoc refl
 cause_ends (Full brick live) = simp append_assoc refl
@@ -184,7 +184,7 @@ pub literal : (most : ℕ) (text : List ℕ) → list_all is_clear text ≡ true
 literal most text clear short = record { clear = clear; short = short }
 
 -- a space
-space : IsPiece 1 (codes " ")
+pub space : IsPiece 1 (codes " ")
 space = literal 1 (codes " ") refl (omega arith)
 
 -- what is asked
@@ -210,7 +210,7 @@ op_piece ask (WriteStripe bytes) g s reads =
     (piece_both 1 (2 * most_told) _ _ space (hex_piece most_told bytes reads.are reads.few))))))
 
 -- a dot
-dot : IsPiece 1 (codes ".")
+pub dot : IsPiece 1 (codes ".")
 dot = literal 1 (codes ".") refl (omega arith)
 
 -- a stamp
@@ -221,7 +221,7 @@ stamp_piece stamp reads =
     (piece_both 1 20 _ _ dot (digits_piece stamp.boot reads.boot)))))))
 
 -- why an operation was aborted
-cause_piece : (cause : Cause) → CauseReads cause → IsPiece 200 (cause_line cause)
+pub cause_piece : (cause : Cause) → CauseReads cause → IsPiece 200 (cause_line cause)
 cause_piece (Later brick stamp) reads =
     piece_most _ 200 _ (omega arith) (piece_both 6 _ _ _ (literal 6 (codes "later ") refl (omega arith)) (piece_both 20 _ _ _
     (digits_piece brick.0 reads.0)
@@ -305,7 +305,7 @@ stamp_back stamp reads =
     ∙ bind_some _ _ _ (before_back 46 stamp.brick.0 _ refl reads.brick) ∙ bind_some _ _ _ (plain_back stamp.boot reads.boot)
 
 -- each of the four causes
-cause_back : (cause : Cause) → CauseReads cause → cause_of (cause_line cause) ≡ Some (reason_of cause)
+pub cause_back : (cause : Cause) → CauseReads cause → cause_of (cause_line cause) ≡ Some (reason_of cause)
 unfolding cause_of later_of gone_of full_of moved_of
 cause_back (Later brick stamp) reads =
     or_some _ _ _ _ (behind_front (codes "later ") _)

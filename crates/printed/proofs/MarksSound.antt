@@ -1,10 +1,12 @@
--- The marks of a run hold under its layout, and each has a spelling.
-use Rattle.protocol_laws.proofs.ViewLaws.{follows_layout}
-use Rattle.std.proofs.Common.{◌≡◌, ℕ, zero, suc, ◌*◌, ◌<◌, ◌≤◌, Bool, true, nat_lt, nat_eq, ◌&&◌, List, [], ◌∷◌, length, take, drop, replicate, Option, Some, None, refl, sym, ap, ◌∙◌, subst, arith, take-append-drop, inl, inr}
+-- The marks of a run hold under its layout, and each has a spelling; and so has each report.
+use Rattle.std.proofs.Common.{◌≡◌, ℕ, zero, suc, ◌*◌, ◌<◌, ◌≤◌, Bool, true, nat_lt, nat_eq, ◌&&◌, List, [], ◌∷◌, length, take, drop, replicate, Option, Some, None, refl, sym, ap, ◌∙◌, subst, arith, take-append-drop, append-nil, inl, inr}
 use Rattle.std.specs.Prelude.{slice_get, slice_index}
+use Rattle.std.specs.Option.{option_map}
 use Rattle.std.proofs.lemmas.Bool.{and_parts, ltb-true, eqb-true}
 use Rattle.std.proofs.lemmas.Option.{same_Some, slice_get_within, get_or_from_slice_get}
 use Rattle.fab_base.specs.declared.identities.BrickId.{BrickId}
+use Rattle.fab_base.specs.declared.identities.GroupId.{GroupId}
+use Rattle.fab_base.specs.declared.identities.ViewNo.{ViewNo}
 use Rattle.fab_base.specs.declared.stamps.Stamp.{Stamp}
 use Rattle.fab_base.specs.declared.asks.Ask.{Ask}
 use Rattle.fab_base.specs.declared.asks.Op.{Op}
@@ -13,6 +15,7 @@ use Rattle.fab_base.specs.declared.answers.Answer.{Answer}
 use Rattle.fab_base.specs.declared.answers.Answer.TheVariants.{Data, Done, Aborted}
 use Rattle.fab_base.specs.Layouts.{Layout, Group, group_of}
 use Rattle.layout.specs.Limits.{IsGroup, IsLayout}
+use Rattle.quorum.specs.Quorums.{IsWithinLimits}
 use Rattle.stripe_code.specs.Codes.{coding}
 use Rattle.stripe_code.proofs.Soundness.{coding_is_sound}
 use Rattle.reg_model.specs.declared.marks.Mark.{Mark}
@@ -21,19 +24,25 @@ use Rattle.reg_model.specs.Marks.{Life, life_of, IsOpen}
 use Rattle.reg_model.specs.Registers.{block_of, read_of}
 use Rattle.reg_model.specs.Strict.{OpFits}
 use Rattle.protocol.specs.Settings.{are_bytes}
+use Rattle.protocol.specs.declared.tellings.Report.{Report}
+use Rattle.protocol.specs.declared.tellings.Report.TheVariants.{View, Sync}
+use Rattle.protocol.specs.declared.tellings.ViewAnswer.TheVariants as answer
 use Rattle.protocol.specs.Nodes.{has_block, has_length}
-use Rattle.protocol.specs.Views.{layout_views, views_in}
+use Rattle.protocol.specs.Views.{kept_by, views_in}
 use Rattle.protocol.specs.Worlds.{World, Operation, Event, zero_content, first_world, run}
 use Rattle.protocol_laws.specs.Laws.{Laws}
 use Rattle.protocol_laws.specs.Marked as law
 use Rattle.protocol_laws.proofs.BooksEvents as books
 use Rattle.protocol_laws.proofs.EveryRun.{every_views_run}
+use Rattle.view_laws.proofs.Followed.{every_run_follows}
+use Rattle.view_laws.proofs.Named.{every_name_is_chosen, every_proposal_shows}
 use Rattle.reg_model.proofs.GrowingLives.{life_of-append, life_onward}
 use Rattle.protocol_laws.proofs.Said.{Stamping, Said, IsMadeOrFirst}
 use Rattle.protocol_laws.proofs.SaidAlways.{always_said}
 use Rattle.audit.specs.Checks.{GroupFits, BeginFits, WordFits, AnswerFits, MarksHold}
-use Rattle.printed.specs.Spellings.{IsSmall, ToldReads, AllToldRead}
+use Rattle.printed.specs.Spellings.{IsSmall, ToldReads, AllToldRead, ReportReads, AllReportsRead}
 use Rattle.printed.proofs.MarkLines.{IsTold, OpReads, AskReads, AnswerReads, MarkReads, most_told}
+use Rattle.printed.proofs.ReportLines.{ReportFits}
 use Rattle.printed.proofs.Standing.{MarkStands, AllStand, always_stand}
 
 -- bytes, by a test
@@ -66,6 +75,10 @@ dropped (suc k) (b ∷ bytes) are = dropped k bytes (and_parts (nat_lt b 256) (a
 zeros : (n : ℕ) → are_bytes (replicate n 0) ≡ true
 zeros zero = refl
 zeros (suc n) = zeros n
+
+-- members that were decided are no list that may not keep a group
+not_bad : (next : ViewNo) (members : List BrickId) → answer.Decided next members ≡ answer.BadMembers → ⊥
+not_bad next members never = cc
 
 -- what is asked
 
@@ -158,7 +171,7 @@ module _ (layout : Layout) (is : IsLayout layout) where
     -- data that was answered is bytes
 
     -- the content of a version is bytes
-    content_bytes : (stamps : Stamping) (said : Said (coding layout) (layout_views layout) w stamps) (g s : ℕ) (t : Stamp) (group : Group)
+    content_bytes : (stamps : Stamping) (said : Said (coding layout) (views_in layout w.packets) w stamps) (g s : ℕ) (t : Stamp) (group : Group)
         → group_of layout g ≡ Some group → IsMadeOrFirst w g s t
         → are_bytes (w.contents g s t) ≡ true
     content_bytes stamps said g s t group here (inl first) =
@@ -187,8 +200,8 @@ module _ (layout : Layout) (is : IsLayout layout) where
     data_bytes : (k p n : ℕ) (bytes : List ℕ) → slice_get w.marks k ≡ Some (End p n (Data bytes))
         → are_bytes bytes ≡ true
     data_bytes k p n bytes at =
-        let said = always_said (coding layout) (layout_views layout) events (coding_is_sound layout is)
-        (follows_layout (coding layout) events (coding_is_sound layout is)) in
+        let said = always_said (coding layout) (views_in layout w.packets) events (coding_is_sound layout is)
+        (every_run_follows (coding layout) events (coding_is_sound layout is)) in
         let shown = said.1.ends k p n (Data bytes) at in
         let own = (books.books (coding layout) events).operations n shown.operation shown.is in
         read_bytes shown.operation.ask.op bytes
@@ -294,3 +307,45 @@ module _ (layout : Layout) (is : IsLayout layout) where
       begins_fit = λ i mark at. begin_fits mark (stands i mark at);
       answers_fit = answers_fit;
     }
+
+    -- reports
+
+    -- members that were decided are some, and few: those of a view that the run follows
+    decided_fit : (number : GroupId) (found : Option Group) (next : ℕ) (members : List BrickId) (before : Group) (prior : List BrickId)
+        → group_of layout number.0 ≡ found → option_map (kept_by prior) found ≡ Some before → views_in layout w.packets number.0 next ≡ members
+        → (1 ≤ length members) × (length members ≤ 32)
+    decided_fit number None next members before prior here kept named = absurd (let never : None ≡ Some before = kept in cc)
+    decided_fit number (Some group) next members before prior here kept named =
+        let limits : IsWithinLimits group.m (length (views_in layout w.packets number.0 next)) =
+        (every_run_follows (coding layout) events (coding_is_sound layout is) events [] (sym (append-nil events))).limits number.0 next
+        (kept_by (views_in layout w.packets number.0 next) group)
+        (ap (option_map (kept_by (views_in layout w.packets number.0 next))) here) in
+        let many : length (views_in layout w.packets number.0 next) ≡ length members = ap (λ (l : List BrickId). length l) named in
+        let some = limits.some_block in
+        let enough = limits.enough_seats in
+        let few = limits.few_seats in
+        (omega (arith, many, some, enough), omega (arith, many, few))
+
+    -- so are those that a report tells
+    report_fits : (k : ℕ) (brick : BrickId) (told : Report) → slice_get w.choices.reports k ≡ Some (brick, told) → ReportFits told
+    report_fits k brick (Sync number ended) at = tt
+    report_fits k brick (View number call (answer.Outbid ballot)) at = tt
+    report_fits k brick (View number call (answer.NotSynced member)) at = tt
+    report_fits k brick (View number call (answer.Moved view)) at = tt
+    report_fits k brick (View number call answer.BadMembers) at = tt
+    report_fits k brick (View number None (answer.Decided next members)) at =
+        let never : answer.Decided next members ≡ answer.BadMembers =
+        (every_proposal_shows (coding layout) events (coding_is_sound layout is)).unsent brick number (answer.Decided next members) (k, at) in
+        absurd (not_bad next members never)
+    report_fits k brick (View number (Some call) (answer.Decided next members)) at =
+        let named = ((every_name_is_chosen (coding layout) events (coding_is_sound layout is)).decided brick number call next members (k, at)).1 in
+        decided_fit number (group_of layout number.0) next.0 members named.group (views_in layout w.packets number.0 named.before) refl named.group_is named.named
+
+    -- Where what the reports tell has a spelling, each reads back.
+    pub reports_read : AllReportsRead w.choices.reports → (k : ℕ) (told : BrickId × Report) → slice_get w.choices.reports k ≡ Some told
+        → ReportReads told.1 × ReportFits told.1
+    reports_read all k told at = (
+      subst (λ (one : BrickId × Report). ReportReads one.1) (get_or_from_slice_get w.choices.reports k told told at)
+          (all k told (slice_get_within w.choices.reports k told at)),
+      report_fits k told.0 told.1 at,
+    )

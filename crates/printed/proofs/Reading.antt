@@ -3,6 +3,8 @@ use Rattle.std.proofs.Common.{◌≡◌, ℕ, zero, suc, ◌+◌, ◌-◌, ◌<�
 use Rattle.std.specs.Prelude.{⊤, slice_get}
 use Rattle.std.proofs.lemmas.Bool.{eq-eqb}
 use Rattle.std.proofs.lemmas.Bool.Decides.{nat_tests}
+use Rattle.fab_base.specs.declared.identities.BrickId.{BrickId}
+use Rattle.protocol.specs.declared.tellings.Report.{Report}
 use Rattle.reg_model.specs.declared.marks.Mark.{Mark}
 use Rattle.reg_model.specs.declared.marks.Mark.TheVariants.{Begin, End, Crash}
 use Rattle.reg_model.specs.declared.marks.Happening.{Happening}
@@ -16,11 +18,12 @@ use Rattle.transcript.specs.declared.readings.Text.TheVariants.{Whole}
 use Rattle.transcript.specs.Said.{Transcribed}
 use Rattle.transcript.specs.Forms.{entry_of}
 use Rattle.transcript.specs.Transcripts.{position_said, stripe_before, is_behind, after_entry, after_line, text_at_line, text_behind, most_lines}
-use Rattle.printed.specs.Printed.{Printed, OfMark, OfRefusal, OfNothing, printed_text, printed_texts, printed_marks}
+use Rattle.printed.specs.Printed.{Printed, OfMark, OfReport, OfRefusal, OfNothing, printed_text, printed_texts, printed_marks, printed_reports}
 use Rattle.fab_base.specs.Texts.{newline}
 use Rattle.printed.proofs.LineTexts.{text_of_lines, AreClear}
-use Rattle.printed.specs.Spellings.{IsSmall}
+use Rattle.printed.specs.Spellings.{IsSmall, ReportReads}
 use Rattle.printed.proofs.MarkLines.{claim_of, mark_line, mark_ends, mark_piece, mark_back, MarkReads}
+use Rattle.printed.proofs.ReportLines.{ReportFits, report_line, report_ends, report_piece, report_back}
 use Rattle.printed.proofs.OtherLines.{refusal_line, refusal_ends, refusal_piece, refusal_back, idle_back, AllRead, happened_line, happened_piece, happened_back, counts_line, counts_back, CountsRead}
 
 -- these lines lead from the first n lines, which say so much, to the first m, which say that
@@ -74,12 +77,14 @@ other_after claims = refl
 -- a printed line, without its line feed
 abbrev pub printed_line : Printed → List ℕ
 printed_line (OfMark mark) = mark_line mark
+printed_line (OfReport told) = report_line told.1
 printed_line (OfRefusal refusal) = refusal_line refusal
 printed_line OfNothing = codes "idle"
 
 -- the printed text is the line and its line feed
 printed_end : (one : Printed) → printed_text one ≡ printed_line one ++ newline
 printed_end (OfMark mark) = mark_ends mark
+printed_end (OfReport told) = report_ends told.1
 printed_end (OfRefusal refusal) = refusal_ends refusal
 printed_end OfNothing = refl
 
@@ -95,44 +100,58 @@ abbrev pub EachReads : List Mark → Type 0
 EachReads [] = ⊤
 EachReads (mark ∷ marks) = MarkReads mark × EachReads marks
 
+-- each report reads back
+abbrev pub EachReported : List (BrickId × Report) → Type 0
+EachReported [] = ⊤
+EachReported (told ∷ reports) = (ReportReads told.1 × ReportFits told.1) × EachReported reports
+
 -- each of these marks is at its place, from p
 abbrev pub EachPlaced : ℕ → List Mark → Type 0
 EachPlaced p [] = ⊤
 EachPlaced p (mark ∷ marks) = (position_of mark ≡ p) × EachPlaced (p + 1) marks
 
 -- no byte of a printed line ends one
-pub printed_clear : (printed : List Printed) → EachReads (printed_marks printed) → AreClear (map printed_line printed)
-printed_clear [] reads = tt
-printed_clear (OfMark mark ∷ printed) reads = ((mark_piece mark reads.0).clear, printed_clear printed reads.1)
-printed_clear (OfRefusal refusal ∷ printed) reads = ((refusal_piece refusal).clear, printed_clear printed reads)
-printed_clear (OfNothing ∷ printed) reads = (refl, printed_clear printed reads)
+pub printed_clear : (printed : List Printed) → EachReads (printed_marks printed) → EachReported (printed_reports printed)
+    → AreClear (map printed_line printed)
+printed_clear [] reads reported = tt
+printed_clear (OfMark mark ∷ printed) reads reported = ((mark_piece mark reads.0).clear, printed_clear printed reads.1 reported)
+printed_clear (OfReport told ∷ printed) reads reported =
+    ((report_piece told.1 reported.0.0 reported.0.1).clear, printed_clear printed reads reported.1)
+printed_clear (OfRefusal refusal ∷ printed) reads reported = ((refusal_piece refusal).clear, printed_clear printed reads reported)
+printed_clear (OfNothing ∷ printed) reads reported = (refl, printed_clear printed reads reported)
 
 -- Printed lines say their marks.
 pub printed_read : (printed : List Printed) (n : ℕ) (claims : List ParsedMark) → n + length printed ≤ most_lines → EachReads (printed_marks printed)
-    → EachPlaced (length claims) (printed_marks printed)
+    → EachReported (printed_reports printed) → EachPlaced (length claims) (printed_marks printed)
     → Reads n (of_marks claims) (map printed_line printed) (n + length printed) (of_marks (claims ++ map claim_of (printed_marks printed)))
-printed_read [] n claims few reads placed more =
+printed_read [] n claims few reads reported placed more =
     ap (λ (k : ℕ). text_behind k (of_marks claims) more) (let same : n ≡ n + 0 = omega arith in same)
     ∙ ap (λ (l : List ParsedMark). text_behind (n + 0) (of_marks l) more) (sym (append-nil claims))
-printed_read (OfMark mark ∷ printed) n claims few reads placed more =
+printed_read (OfMark mark ∷ printed) n claims few reads reported placed more =
     reads_one n (of_marks claims) (of_marks (claims ++ claim_of mark ∷ [])) (mark_line mark) (entry.Mark (claim_of mark)) (omega (arith, few))
     (mark_back mark reads.0) (mark_after claims mark placed.0) (map printed_line printed ++ more)
-    ∙ printed_read printed (n + 1) (claims ++ claim_of mark ∷ []) (omega (arith, few)) reads.1
+    ∙ printed_read printed (n + 1) (claims ++ claim_of mark ∷ []) (omega (arith, few)) reads.1 reported
     (subst (λ (k : ℕ). EachPlaced k (printed_marks printed)) (sym (length-append claims (claim_of mark ∷ []))) placed.1) more
     ∙ ap (λ (k : ℕ). text_behind k (of_marks ((claims ++ claim_of mark ∷ []) ++ map claim_of (printed_marks printed))) more)
     (let same : (n + 1) + length printed ≡ n + suc (length printed) = omega arith in same)
     ∙ ap (λ (l : List ParsedMark). text_behind (n + suc (length printed)) (of_marks l) more)
     (append_assoc claims (claim_of mark ∷ []) (map claim_of (printed_marks printed)))
-printed_read (OfRefusal refusal ∷ printed) n claims few reads placed more =
-    reads_one n (of_marks claims) (of_marks claims) (refusal_line refusal) entry.Other (omega (arith, few))
-    (refusal_back refusal) (other_after claims) (map printed_line printed ++ more)
-    ∙ printed_read printed (n + 1) claims (omega (arith, few)) reads placed more
+printed_read (OfReport told ∷ printed) n claims few reads reported placed more =
+    reads_one n (of_marks claims) (of_marks claims) (report_line told.1) entry.Other (omega (arith, few))
+    (report_back told.1 reported.0.0 reported.0.1) (other_after claims) (map printed_line printed ++ more)
+    ∙ printed_read printed (n + 1) claims (omega (arith, few)) reads reported.1 placed more
     ∙ ap (λ (k : ℕ). text_behind k (of_marks (claims ++ map claim_of (printed_marks printed))) more)
     (let same : (n + 1) + length printed ≡ n + suc (length printed) = omega arith in same)
-printed_read (OfNothing ∷ printed) n claims few reads placed more =
+printed_read (OfRefusal refusal ∷ printed) n claims few reads reported placed more =
+    reads_one n (of_marks claims) (of_marks claims) (refusal_line refusal) entry.Other (omega (arith, few))
+    (refusal_back refusal) (other_after claims) (map printed_line printed ++ more)
+    ∙ printed_read printed (n + 1) claims (omega (arith, few)) reads reported placed more
+    ∙ ap (λ (k : ℕ). text_behind k (of_marks (claims ++ map claim_of (printed_marks printed))) more)
+    (let same : (n + 1) + length printed ≡ n + suc (length printed) = omega arith in same)
+printed_read (OfNothing ∷ printed) n claims few reads reported placed more =
     reads_one n (of_marks claims) (of_marks claims) (codes "idle") entry.Other (omega (arith, few))
     idle_back (other_after claims) (map printed_line printed ++ more)
-    ∙ printed_read printed (n + 1) claims (omega (arith, few)) reads placed more
+    ∙ printed_read printed (n + 1) claims (omega (arith, few)) reads reported placed more
     ∙ ap (λ (k : ℕ). text_behind k (of_marks (claims ++ map claim_of (printed_marks printed))) more)
     (let same : (n + 1) + length printed ≡ n + suc (length printed) = omega arith in same)
 

@@ -3,7 +3,9 @@ use Rattle.std.proofs.Common.{◌≡◌, ℕ, zero, suc, ◌+◌, ◌<◌, ◌�
 use Rattle.std.specs.Prelude.{slice_get}
 use Rattle.std.proofs.lemmas.List.Sums.{count_by-le-length}
 use Rattle.std.proofs.lemmas.Option.{same_Some, slice_get_within}
+use Rattle.fab_base.specs.declared.identities.BrickId.{BrickId}
 use Rattle.fab_base.specs.Layouts.{Layout, Group, group_of}
+use Rattle.protocol.specs.declared.tellings.Report.{Report}
 use Rattle.layout.specs.Limits.{IsLayout}
 use Rattle.layout.specs.Texts.{layout_of}
 use Rattle.layout.proofs.Accepted.{accepted_is}
@@ -34,17 +36,18 @@ use Rattle.world.specs.Runs.{Step, all_events}
 use Rattle.fab_base.specs.Texts.{newline}
 use Rattle.printed.specs.Outputs as out
 use Rattle.printed.specs.Outputs.{happened_text, stripes_text, stripes_of, groups_text, count_text, closing_text, left_by, steps_text}
-use Rattle.printed.specs.Printed.{printed_marks}
+use Rattle.printed.specs.Printed.{printed_marks, printed_reports}
 use Rattle.printed.specs.LineSteps.{AreStepsOf}
 use Rattle.printed.specs.Sound.{ReadsBack, IsSoundText}
 use Rattle.printed.proofs.Counts.{begins_are, begun_place, ends_few}
 use Rattle.printed.proofs.LineTexts.{text_of_lines, lines_both, one_line_text, AreClear, clear_all, lines_back}
-use Rattle.printed.specs.Spellings.{IsSmall, AllToldRead}
+use Rattle.printed.specs.Spellings.{IsSmall, ReportReads, WorldReads}
 use Rattle.printed.proofs.MarkLines.{claim_of, claimed, MarkReads}
 use Rattle.printed.proofs.MarksSound as marking
 use Rattle.printed.proofs.OtherLines.{counts_line, counts_piece, CountsRead}
-use Rattle.printed.proofs.PrintedMarks.{is_end, others, lines_are, begins_among, marks_among_lines, IsPrintedAs, schedule_printed}
-use Rattle.printed.proofs.Reading.{Reads, of_marks, printed_line, printed_lines, printed_clear, printed_read, EachReads, EachPlaced, counts_end}
+use Rattle.printed.proofs.PrintedMarks.{is_end, others, lines_are, begins_among, marks_among_lines, IsPrintedAs, lines_few, schedule_printed}
+use Rattle.printed.proofs.ReportLines.{ReportFits}
+use Rattle.printed.proofs.Reading.{Reads, of_marks, printed_line, printed_lines, printed_clear, printed_read, EachReads, EachReported, EachPlaced, counts_end}
 use Rattle.printed.proofs.Stripes.{IsStory, count_less, is_before, all_begins, Stage, groups_stage, groups_text_of, stripes_text_of, AreOfLayout}
 
 -- the claims of marks are these marks
@@ -66,6 +69,12 @@ each_read : (marks : List Mark) → ((k : ℕ) (mark : Mark) → slice_get marks
 each_read [] reads = tt
 each_read (mark ∷ marks) reads = (reads 0 mark refl, each_read marks (λ k one at. reads (suc k) one at))
 
+-- so does each report
+each_reported : (reports : List (BrickId × Report))
+    → ((k : ℕ) (told : BrickId × Report) → slice_get reports k ≡ Some told → ReportReads told.1 × ReportFits told.1) → EachReported reports
+each_reported [] reads = tt
+each_reported (told ∷ reports) reads = (reads 0 told refl, each_reported reports (λ k one at. reads (suc k) one at))
+
 -- the last line is that of the counts, and its line feed
 counts_end_text : (lines : ℕ) (marks : List Mark)
     → count_text lines marks
@@ -75,7 +84,7 @@ counts_end_text lines marks =
     simp append_assoc refl
 
 module _ (layout : Layout) (is : IsLayout layout) (schedule : List (List ℕ)) (steps : List Step) (are : AreStepsOf layout schedule steps)
-    (few : length steps ≤ out.most_lines) (told : AllToldRead (left_by layout steps).marks) where
+    (few : length steps ≤ out.most_lines) (told : WorldReads (left_by layout steps)) where
   abbrev events : List Event
   events = all_events steps
 
@@ -84,7 +93,7 @@ module _ (layout : Layout) (is : IsLayout layout) (schedule : List (List ℕ)) (
   w = left_by layout steps
 
   -- the printed lines
-  printed : IsPrintedAs (first_world layout) w (steps_text (coding layout) (first_world layout) steps) (length steps)
+  printed : IsPrintedAs (coding layout) (first_world layout) w (steps_text (coding layout) (first_world layout) steps) (length steps)
   printed = schedule_printed layout schedule steps are
 
   -- the laws of the disk
@@ -95,6 +104,14 @@ module _ (layout : Layout) (is : IsLayout layout) (schedule : List (List ℕ)) (
   marks_are : printed_marks printed.printed ≡ w.marks
   marks_are = sym printed.marks_are
 
+  -- and so are the reports
+  reports_are : printed_reports printed.printed ≡ w.choices.reports
+  reports_are = sym printed.reports_are
+
+  -- no more lines than there are steps are no Ends
+  others_low : others printed.printed ≤ length steps
+  others_low = lines_few layout w (steps_text (coding layout) (first_world layout) steps) (length steps) printed
+
   -- how many begin, and how many end
   begun_is : length (begun_numbers w.marks) ≡ w.begun
   begun_is = (always_numbered (coding layout) events).count ∙ (books (coding layout) events).own.count
@@ -103,7 +120,7 @@ module _ (layout : Layout) (is : IsLayout layout) (schedule : List (List ℕ)) (
   begins_few : count_by is_begin w.marks ≤ length steps
   begins_few =
       let low = begins_among printed.printed in
-      let most = printed.few in
+      let most = others_low in
       omega (arith, subst (λ (l : List Mark). count_by is_begin l ≤ others printed.printed) marks_are low, most)
 
   -- so no operation has a greater number
@@ -122,7 +139,7 @@ module _ (layout : Layout) (is : IsLayout layout) (schedule : List (List ℕ)) (
   -- so many lines are printed before the happenings
   lines_low : length printed.printed ≤ length steps + (length steps + 1)
   lines_low =
-      let most = printed.few in
+      let most = others_low in
       omega (
         arith,
         lines_are printed.printed,
@@ -138,13 +155,17 @@ module _ (layout : Layout) (is : IsLayout layout) (schedule : List (List ℕ)) (
   -- each mark reads back
   reads : (k : ℕ) (mark : Mark) → slice_get w.marks k ≡ Some mark → MarkReads mark
   reads =
-      marking.mark_reads layout is events told (omega (arith, marks_low, few))
+      marking.mark_reads layout is events told.marks (omega (arith, marks_low, few))
       (λ n life at. let low = lives_low n life at in omega (arith, low, few))
       (λ k p n b ask at.
       let place = begun_place w.marks k p n b ask at in
       let number = laws.without_gaps.numbered place.0 n place.1 in
       let within = slice_get_within (begun_numbers w.marks) place.0 n place.1 in
       omega (arith, number, within, begins_are w.marks, begins_few, few))
+
+  -- and so does each report
+  reported : EachReported (printed_reports printed.printed)
+  reported = subst EachReported (sym reports_are) (each_reported w.choices.reports (marking.reports_read layout is events told.reports))
 
   -- the marks as they are claimed
   abbrev claims : List ParsedMark
@@ -156,7 +177,7 @@ module _ (layout : Layout) (is : IsLayout layout) (schedule : List (List ℕ)) (
       subst (λ (l : List Mark). Reads 0 (of_marks []) (map printed_line printed.printed) (0 + length printed.printed)
       (of_marks (map claim_of l))) marks_are
       (printed_read printed.printed 0 [] (omega (arith, lines_low, few))
-      (subst EachReads (sym marks_are) (each_read w.marks reads))
+      (subst EachReads (sym marks_are) (each_read w.marks reads)) reported
       (subst (λ (l : List Mark). EachPlaced 0 l) (sym marks_are)
       (each_placed 0 w.marks (λ k mark at. let place = laws.without_gaps.placed k mark at in omega (arith, place)))))
 
@@ -242,7 +263,7 @@ module _ (layout : Layout) (is : IsLayout layout) (schedule : List (List ℕ)) (
   all_clear : AreClear all_lines
   all_clear =
       clear_all (map printed_line printed.printed) (stage.contents ++ (counts_line (length steps) counts ∷ []))
-      (printed_clear printed.printed (subst EachReads (sym marks_are) (each_read w.marks reads)))
+      (printed_clear printed.printed (subst EachReads (sym marks_are) (each_read w.marks reads)) reported)
       (clear_all stage.contents (counts_line (length steps) counts ∷ []) stage.clear
       ((counts_piece (length steps) counts steps_small counts_read).clear, tt))
 
@@ -336,13 +357,13 @@ module _ (layout : Layout) (is : IsLayout layout) (schedule : List (List ℕ)) (
 
 -- What is printed for the steps of a whole schedule, over the layout that a text says, reads back as the world that they leave.
 pub what_is_printed_reads_back : (head : List ℕ) (layout : Layout) (schedule : List (List ℕ)) (steps : List Step) → layout_of head ≡ Ok layout
-    → AreStepsOf layout schedule steps → length steps ≤ out.most_lines → AllToldRead (left_by layout steps).marks
+    → AreStepsOf layout schedule steps → length steps ≤ out.most_lines → WorldReads (left_by layout steps)
     → ReadsBack layout (steps_text (coding layout) (first_world layout) steps ++ closing_text layout (left_by layout steps) (length steps))
     (left_by layout steps)
 what_is_printed_reads_back head layout schedule steps says are few told = text_back layout (accepted_is head layout says) schedule steps are few told
 
 -- It is a text that an audit finds sound.
 pub what_is_printed_audits : (head : List ℕ) (layout : Layout) (schedule : List (List ℕ)) (steps : List Step) → layout_of head ≡ Ok layout
-    → AreStepsOf layout schedule steps → length steps ≤ out.most_lines → AllToldRead (left_by layout steps).marks
+    → AreStepsOf layout schedule steps → length steps ≤ out.most_lines → WorldReads (left_by layout steps)
     → IsSoundText layout (steps_text (coding layout) (first_world layout) steps ++ closing_text layout (left_by layout steps) (length steps))
 what_is_printed_audits head layout schedule steps says are few told = sound_text layout (accepted_is head layout says) schedule steps are few told

@@ -7,14 +7,14 @@ use Rattle.fab_base.specs.Layouts.{Layout}
 use Rattle.reg_model.specs.declared.marks.Mark.{Mark}
 use Rattle.reg_model.specs.declared.marks.Mark.TheVariants.{Begin, End, Crash}
 use Rattle.protocol.specs.Settings.{Setting}
-use Rattle.protocol.specs.Nodes.{refusal_of}
+use Rattle.protocol.specs.Nodes.{refusal_of, proposed}
 use Rattle.protocol.specs.Worlds.{World, Event, is_brick, is_up, run, first_world}
 use Rattle.protocol_laws.proofs.BooksEvents.{BeginFits, begin_fits}
 use Rattle.reg_model.proofs.AddedMarks.{slice_get_push}
 use Rattle.protocol.proofs.Events.{EventCases, step_on, world_counting, stepped_each, started_each, always}
 
 -- a brick that is up is one of the layout
-up_brick : (layout : Layout) (w : World) (brick : BrickId) → is_up layout w brick ≡ true → brick.0 < layout.bricks
+pub up_brick : (layout : Layout) (w : World) (brick : BrickId) → is_up layout w brick ≡ true → brick.0 < layout.bricks
 up_brick layout w brick up = ltb-true brick.0 layout.bricks (and_parts (is_brick layout brick) (w.up brick.0) up).0
 
 -- an operation that begins fits, and a brick that stops is the layout's
@@ -46,9 +46,13 @@ stand_cases setting w all = record {
       (let up = (and_parts (is_up setting.layout w brick) (not (is_some (refusal_of setting.layout (w.nodes brick.0) ask))) may).0 in
       one_more setting w.marks (Begin (length w.marks) (w.marked + 1) brick ask) all
       (up_brick setting.layout w brick up, begin_fits setting w brick ask may));
+  proposes = λ brick group members may.
+      stepped_each (MarksStand setting) setting brick (proposed setting brick (w.nodes brick.0) group members) (λ x seq t base holds. holds)
+      (λ x seq v holds. holds) (λ x one holds. one_more setting x.marks (End (length x.marks) _ one.answer) holds tt)
+      (λ x nodes held packets choices holds. holds) w all;
   handles = λ number packet at up.
       stepped_each (MarksStand setting) setting packet.to (step_on setting w packet) (λ x seq t base holds. holds) (λ x seq v holds. holds)
-      (λ x one holds. one_more setting x.marks (End (length x.marks) _ one.answer) holds tt) (λ x nodes held packets holds. holds)
+      (λ x one holds. one_more setting x.marks (End (length x.marks) _ one.answer) holds tt) (λ x nodes held packets choices holds. holds)
       (world_counting setting w number packet) all;
   sets = λ brick time is. all;
   ticks = λ brick up. all;

@@ -1,10 +1,19 @@
--- Numbers that have a spelling, and the causes that marks tell: a text of them reads back.
-use Rattle.std.specs.Prelude.{ℕ, ◌<◌, ◌^◌, List, Option, Some, None, IfSome}
+-- Numbers that have a spelling, the causes that marks tell, and what bricks report: a text of them reads back.
+use Rattle.std.specs.Prelude.{ℕ, ◌<◌, ◌^◌, List, ⊤, Option, Some, None, IfSome}
 use Rattle.std.specs.List.{All}
 use Rattle.fab_base.specs.declared.answers.Answer.TheVariants.{Data, Done, Aborted}
 use Rattle.fab_base.specs.declared.answers.Cause.{Cause}
 use Rattle.fab_base.specs.declared.answers.Cause.TheVariants.{Later, Gone, Full, Moved}
+use Rattle.fab_base.specs.declared.identities.BrickId.{BrickId}
+use Rattle.fab_base.specs.declared.stamps.Ballot.{Ballot}
 use Rattle.fab_base.specs.declared.stamps.Stamp.{Stamp}
+use Rattle.protocol.specs.declared.tellings.ViewAnswer.{ViewAnswer}
+use Rattle.protocol.specs.declared.tellings.ViewAnswer.TheVariants as ended
+use Rattle.protocol.specs.declared.tellings.SyncAnswer.{SyncAnswer}
+use Rattle.protocol.specs.declared.tellings.SyncAnswer.TheVariants as synced
+use Rattle.protocol.specs.declared.tellings.Report.{Report}
+use Rattle.protocol.specs.declared.tellings.Report.TheVariants.{View, Sync}
+use Rattle.protocol.specs.Worlds.{World}
 use Rattle.reg_model.specs.declared.marks.Mark.{Mark}
 use Rattle.reg_model.specs.declared.marks.Mark.TheVariants.{Begin, End, Crash}
 
@@ -41,3 +50,41 @@ ToldReads mark = IfSome (cause_told mark) CauseReads
 -- so has what each of these marks says
 abbrev pub AllToldRead : List Mark → Type 0
 AllToldRead marks = All ToldReads marks
+
+-- the numbers of a ballot
+pub record BallotReads (ballot : Ballot) : Type 0 where
+  pub round : IsSmall ballot.round
+  pub brick : IsSmall ballot.brick.0
+  pub boot : IsSmall ballot.boot
+
+-- those of bricks
+abbrev pub BricksRead : List BrickId → Type 0
+BricksRead bricks = All (λ brick. IsSmall brick.0) bricks
+
+-- those of how a proposal ended
+abbrev pub ViewAnswerReads : ViewAnswer → Type 0
+ViewAnswerReads (ended.Decided view members) = IsSmall view.0 × BricksRead members
+ViewAnswerReads (ended.Outbid ballot) = BallotReads ballot
+ViewAnswerReads (ended.NotSynced brick) = IsSmall brick.0
+ViewAnswerReads (ended.Moved view) = IsSmall view.0
+ViewAnswerReads ended.BadMembers = ⊤
+
+-- those of how a synchronisation ended
+abbrev pub SyncAnswerReads : SyncAnswer → Type 0
+SyncAnswerReads (synced.Synced view) = IsSmall view.0
+SyncAnswerReads (synced.Stopped stripe cause) = IsSmall stripe.0 × CauseReads cause
+SyncAnswerReads (synced.Spent stripe) = IsSmall stripe.0
+
+-- those of a report
+abbrev pub ReportReads : Report → Type 0
+ReportReads (View group call answer) = IsSmall group.0 × ViewAnswerReads answer
+ReportReads (Sync group answer) = IsSmall group.0 × SyncAnswerReads answer
+
+-- what each of these bricks reported has a spelling
+abbrev pub AllReportsRead : List (BrickId × Report) → Type 0
+AllReportsRead reports = All (λ told. ReportReads told.1) reports
+
+-- what the marks and the reports of a world tell has a spelling
+pub record WorldReads (world : World) : Type 0 where
+  pub marks : AllToldRead world.marks
+  pub reports : AllReportsRead world.choices.reports

@@ -1,18 +1,16 @@
 -- A change of members, step by step: a group of one data block on bricks 0, 1 and 2 of four goes over to 1, 2 and 3.
-use Rattle.std.proofs.Common.{◌≡◌, ℕ, true, false, List, [], ◌∷◌, Option, Some, None, refl}
+use Rattle.std.proofs.Common.{◌≡◌, ℕ, true, false, List, [], ◌∷◌, Some, None, refl}
 use Rattle.fab_base.specs.declared.identities.BrickId.{BrickId}
 use Rattle.fab_base.specs.declared.member_lists.View.{View}
 use Rattle.fab_base.specs.declared.stamps.Ballot.{Ballot}
-use Rattle.messages.specs.declared.calls.Call.{Call}
-use Rattle.messages.specs.declared.replies.Reply.{Reply}
-use Rattle.messages.specs.declared.replies.Reply.TheVariants.{Moved, Promise, Accepted, Outbid, NotSynced}
+use Rattle.messages.specs.declared.replies.Reply.TheVariants.{Promise, Accepted, Outbid, NotSynced}
 use Rattle.fab_base.specs.Stamps.{ballot_below}
 use Rattle.quorum.specs.Memberships.{is_membership}
 use Rattle.protocol.specs.declared.tellings.ViewAnswer.TheVariants as answer
 use Rattle.protocol.specs.Views.{Learnt, learns, notes_synced, first_kept}
 use Rattle.protocol.specs.Ballots.{voting, moved_to}
-use Rattle.protocol.specs.Proposals.{Proposal, Voting, Waited, Asks, Ended, begun_proposal, ballot_packets, ballot_decided, seat_voting, voted, with_voice, asking}
-use Rattle.protocol.specs.Coordinators.{call_same, next_phase}
+use Rattle.protocol.specs.Proposals.{Proposal, Waited, Asks, Ended, begun_proposal, ballot_decided, seat_voting, voted, with_voice, asking}
+use Rattle.protocol.specs.Coordinators.{call_same}
 
 abbrev brick : ℕ → BrickId
 brick i = record { 0 = i }

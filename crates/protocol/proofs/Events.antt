@@ -1,8 +1,9 @@
--- What an event makes of a world: nothing, or one of six things. So a fact holds in every world of a run where it holds at first, and each of
+-- What an event makes of a world: nothing, or one of seven things. So a fact holds in every world of a run where it holds at first, and each of
 -- these keeps it.
 use Rattle.std.proofs.Common.{◌≡◌, ℕ, true, List, [], ◌∷◌, ◌++◌, Option, Some, None, refl, ap, subst, Bool}
 use Rattle.std.proofs.lemmas.Bool.{cond_both}
 use Rattle.fab_base.specs.declared.identities.BrickId.{BrickId}
+use Rattle.fab_base.specs.declared.identities.GroupId.{GroupId}
 use Rattle.fab_base.specs.declared.asks.Ask.{Ask}
 use Rattle.fab_base.specs.declared.stamps.Stamp.{Stamp}
 use Rattle.messages.specs.declared.packets.Packet.{Packet}
@@ -10,8 +11,8 @@ use Rattle.protocol.specs.Settings.{Setting}
 use Rattle.protocol.specs.declared.tellings.Told.{Told}
 use Rattle.protocol.specs.declared.tellings.Told.TheVariants.{Made, Seen}
 use Rattle.protocol.specs.declared.tellings.Answered.{Answered}
-use Rattle.protocol.specs.Nodes.{Node, NodeStep, put, invoked, received}
-use Rattle.protocol.specs.Worlds.{World, Found, Before, After, Event, Invokes, Delivers, Sets, Ticks, Stops, Starts, first_world, is_brick, is_up, may_begin, may_start, replies_with, delivered, packet_of, world_began, world_told, world_tells, world_answered, world_answers, world_stepped, world_ticked, world_stopped, world_found, world_started, happens, run}
+use Rattle.protocol.specs.Nodes.{Node, NodeStep, put, invoked, proposed, received}
+use Rattle.protocol.specs.Worlds.{World, Choices, Found, Before, After, Event, Invokes, Proposes, Delivers, Sets, Ticks, Stops, Starts, first_world, is_brick, is_up, may_begin, may_propose, may_start, replies_with, voiced, delivered, packet_of, world_began, world_told, world_tells, world_answered, world_answers, world_stepped, world_ticked, world_stopped, world_found, world_started, happens, run}
 
 -- a brick's step on a packet
 abbrev pub step_on : Setting → World → Packet → NodeStep
@@ -19,7 +20,7 @@ step_on setting w packet = received setting packet.to (w.clocks packet.to.0) (w.
 
 -- the world in which a packet's reply has counted, and the packet has been delivered
 abbrev pub world_counting : Setting → World → ℕ → Packet → World
-world_counting setting w number packet = record w { replies = replies_with setting w packet; reached = put w.reached number true }
+world_counting setting w number packet = record w { replies = replies_with setting w packet; choices = voiced setting w packet; reached = put w.reached number true }
 
 -- the world once a packet was handled
 abbrev pub world_handled : Setting → World → ℕ → Packet → World
@@ -29,6 +30,8 @@ world_handled setting w number packet = world_stepped setting (world_counting se
 pub record EachEvent (setting : Setting) (w : World) (P : Event → World → Type 0) : Type 0 where
   pub begins : (brick : BrickId) (ask : Ask) → may_begin setting w brick ask ≡ true
       → P (Invokes brick ask) (world_began w brick ask (invoked setting brick (w.clocks brick.0) (w.nodes brick.0) ask))
+  pub proposes : (brick : BrickId) (group : GroupId) (members : List BrickId) → may_propose setting w brick group ≡ true
+      → P (Proposes brick group members) (world_stepped setting w brick (proposed setting brick (w.nodes brick.0) group members))
   pub handles : (number : ℕ) (packet : Packet) → packet_of w.packets number ≡ Some packet → is_up setting.layout w packet.to ≡ true
       → P (Delivers number) (world_handled setting w number packet)
   pub sets : (brick : BrickId) (time : ℕ) → is_brick setting.layout brick ≡ true
@@ -61,6 +64,9 @@ pub event_each : (P : Event → World → Type 0) (setting : Setting) (w : World
 unfolding happens
 event_each P setting w cases still (Invokes brick ask) =
     cond_both (may_begin setting w brick ask) _ _ (P (Invokes brick ask)) (cases.begins brick ask) (λ isnt. still (Invokes brick ask))
+event_each P setting w cases still (Proposes brick group members) =
+    cond_both (may_propose setting w brick group) _ _ (P (Proposes brick group members)) (cases.proposes brick group members)
+    (λ isnt. still (Proposes brick group members))
 event_each P setting w cases still (Delivers number) =
     handled_or_not (P (Delivers number)) setting w (still (Delivers number)) number (cases.handles number)
 event_each P setting w cases still (Sets brick time) =
@@ -119,16 +125,16 @@ pub onward : (P : World → Type 0) (setting : Setting) → ((events : List Even
     → (events more : List Event) → P (run setting more (run setting events (first_world setting.layout)))
 onward P setting all events more = subst P (run-append setting (first_world setting.layout) events more) (all (events ++ more))
 
--- A brick's step keeps a fact that is not of bricks, of what they have held or of packets, where what it tells and what it answers do.
+-- A brick's step keeps a fact that is not of bricks, of what they have held, of choices or of packets, where what it tells and what it answers do.
 pub stepped_each : (P : World → Type 0) (setting : Setting) (me : BrickId) (step : NodeStep)
     → (made : (x : World) (seq : ℕ) (t : Stamp) (base : Option Stamp) → P x → P (world_told setting x me (Made seq t base)))
     → (seen : (x : World) (seq : ℕ) (v : Stamp) → P x → P (world_told setting x me (Seen seq v)))
     → (answers : (x : World) (answered : Answered) → P x → P (world_answered x me answered))
-    → (keeps : (x : World) (nodes : ℕ → Node) (held : ℕ → ℕ → ℕ → Stamp → Bool) (packets : List Packet) → P x
-    → P (record x { nodes = nodes; held = held; packets = packets }))
+    → (keeps : (x : World) (nodes : ℕ → Node) (held : ℕ → ℕ → ℕ → Stamp → Bool) (packets : List Packet) (choices : Choices) → P x
+    → P (record x { nodes = nodes; held = held; packets = packets; choices = choices }))
     → (w : World) → P w → P (world_stepped setting w me step)
 stepped_each P setting me step made seen answers keeps w holds =
-    keeps (world_answers (world_tells setting w me step.told) me step.answers) _ _ _ (answer step.answers _ (tell step.told w holds))
+    keeps (world_answers (world_tells setting w me step.told) me step.answers) _ _ _ _ (answer step.answers _ (tell step.told w holds))
   where
     tell : (told : List Told) (x : World) → P x → P (world_tells setting x me told)
     tell [] x now = now

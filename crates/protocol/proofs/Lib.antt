@@ -4,5 +4,6 @@ pub mod CountsAt
 pub mod Events
 pub mod Packets
 pub mod Puts
+pub mod RunExample
 pub mod Served
 pub mod Tables

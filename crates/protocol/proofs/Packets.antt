@@ -1,9 +1,12 @@
 -- What holds of each packet that a brick sends: to the members in a phase, again at a tick, and to collect.
-use Rattle.std.proofs.Common.{◌≡◌, ℕ, zero, suc, ◌+◌, List, [], ◌∷◌, ◌++◌, Option, Some, None, refl, subst}
-use Rattle.std.specs.Prelude.{slice_get}
+use Rattle.std.proofs.Common.{◌≡◌, ℕ, zero, suc, ◌+◌, List, [], ◌∷◌, ◌++◌, Option, Some, None, refl, subst, arith}
+use Rattle.std.specs.Prelude.{slice_get, nat_lt, ◌<◌}
 use Rattle.std.proofs.lemmas.Bool.{cond_both}
+use Rattle.std.proofs.lemmas.Bool.Decides.{nat_tests}
 use Rattle.std.proofs.lemmas.Option.{same_Some}
 use Rattle.fab_base.specs.declared.identities.BrickId.{BrickId}
+use Rattle.fab_base.specs.declared.identities.GroupId.{GroupId}
+use Rattle.fab_base.specs.declared.member_lists.View.{View}
 use Rattle.fab_base.specs.declared.stamps.Stamp.{Stamp}
 use Rattle.messages.specs.declared.calls.Call.{Call}
 use Rattle.messages.specs.declared.packets.Message.{Message}
@@ -13,7 +16,8 @@ use Rattle.messages.specs.declared.replies.Reply.{Reply}
 use Rattle.protocol.specs.Settings.{Setting}
 use Rattle.protocol.specs.declared.phases.Counted.{Counted}
 use Rattle.protocol.specs.Coordinators.{Coordinator, has_seat, request_of}
-use Rattle.protocol.specs.Nodes.{to_members, collect_packets, reply_packets, resent_to, resent, resent_up_to}
+use Rattle.protocol.specs.Nodes.{to_members, collect_packets, reply_packets, resent_to, resent, resent_up_to, each_taught, teaching, view_in, ballot_resent, learn_packets}
+use Rattle.protocol.specs.Proposals.{Proposal, ballot_request, ballot_packets}
 
 -- a fact of each packet of a list
 abbrev pub OfEach : (Packet → Type 0) → List Packet → Type 0
@@ -65,15 +69,56 @@ module _ (P : Packet → Type 0) where
   each_reply me to call None holds = each_none
   each_reply me to call (Some r) holds = each_one _ [] (holds r refl) each_none
 
-  -- of the requests of all open operations again
+  -- what holds of a message that teaches a view holds of those before these packets too
+  pub each_teaching : (group : GroupId) (view : View)
+      → (1 < view.number.0 → (from to : BrickId) → P (record { from = from; to = to; message = Message.Learn group view })) → (packets : List Packet)
+      → OfEach P packets → OfEach P (teaching group view packets)
+  each_teaching group view teaches packets each =
+      cond_both (nat_lt 1 view.number.0) (each_taught group view packets) packets (λ (l : List Packet). OfEach P l)
+      (λ later. pairs (teaches (grind (arith, nat_tests, later))) packets each) (λ isnt. each)
+    where
+      pairs : ((from to : BrickId) → P (record { from = from; to = to; message = Message.Learn group view })) → (list : List Packet) → OfEach P list
+          → OfEach P (each_taught group view list)
+      pairs holds [] of = each_none
+      pairs holds (packet ∷ list) of =
+          each_one _ (packet ∷ each_taught group view list) (holds packet.from packet.to)
+          (each_one packet (each_taught group view list) (of 0 packet refl) (pairs holds list (λ k p at. of (suc k) p at)))
+
+  -- of a message that teaches each brick a view
+  pub each_learn : (me : BrickId) (group : GroupId) (view : View)
+      → ((to : BrickId) → P (record { from = me; to = to; message = Message.Learn group view })) → (left brick : ℕ)
+      → OfEach P (learn_packets me group view left brick)
+  each_learn me group view holds zero brick = each_none
+  each_learn me group view holds (suc left) brick =
+      each_one _ (learn_packets me group view left (brick + 1)) (holds (record { 0 = brick })) (each_learn me group view holds left (brick + 1))
+
+  -- of the requests of all open operations again, and of what teaches their views
   pub each_ticked : (setting : Setting) (me : BrickId) (calls : ℕ → Option Coordinator) (k : ℕ)
       → ((j : ℕ) (c : Coordinator) → calls j ≡ Some c → OfRequests me c.call (request_of setting.code c))
+      → ((j : ℕ) (c : Coordinator) → calls j ≡ Some c → 1 < c.call.view.0
+      → (from to : BrickId) → P (record { from = from; to = to; message = Message.Learn c.call.group (view_in c) }))
       → OfEach P (resent_up_to setting me calls k)
-  each_ticked setting me calls zero holds = each_none
-  each_ticked setting me calls (suc k) holds =
-      each_both (resent_up_to setting me calls k) (resent setting me (calls (suc k))) (each_ticked setting me calls k holds)
+  each_ticked setting me calls zero holds teaches = each_none
+  each_ticked setting me calls (suc k) holds teaches =
+      each_both (resent_up_to setting me calls k) (resent setting me (calls (suc k))) (each_ticked setting me calls k holds teaches)
       (of_call (calls (suc k)) refl)
     where
       of_call : (z : Option Coordinator) → calls (suc k) ≡ z → OfEach P (resent setting me z)
       of_call None is = each_none
-      of_call (Some c) is = each_resent me c.call (request_of setting.code c) (holds (suc k) c is) c.counted 0 c.group.members
+      of_call (Some c) is =
+          each_teaching c.call.group (view_in c) (teaches (suc k) c is) _
+          (each_resent me c.call (request_of setting.code c) (holds (suc k) c is) c.counted 0 c.group.members)
+
+  -- of the requests of a proposal, and of what teaches its view again
+  pub each_ballot : (me : BrickId) (p : Proposal)
+      → ((to : BrickId) → P (record { from = me; to = to; message = Message.Request p.call (ballot_request p) })) → OfEach P (ballot_packets me p)
+  each_ballot me p holds = each_resent me p.call (λ seat. ballot_request p) (λ seat to. holds to) p.counted 0 p.view.members
+
+  pub each_ballot_resent : (me : BrickId) (proposal : Option Proposal)
+      → ((p : Proposal) → proposal ≡ Some p → (to : BrickId) → P (record { from = me; to = to; message = Message.Request p.call (ballot_request p) }))
+      → ((p : Proposal) → proposal ≡ Some p → 1 < p.view.number.0
+      → (from to : BrickId) → P (record { from = from; to = to; message = Message.Learn p.call.group p.view }))
+      → OfEach P (ballot_resent me proposal)
+  each_ballot_resent me None holds teaches = each_none
+  each_ballot_resent me (Some p) holds teaches =
+      each_teaching p.call.group p.view (teaches p refl) (ballot_packets me p) (each_ballot me p (holds p refl))

@@ -1,72 +1,142 @@
--- What a brick does with a request: it ignores it, or changes its part of the call's stripe in the view that it has learnt.
-use Rattle.std.proofs.Common.{◌≡◌, ℕ, not, ◌&&◌, nat_lt, Option, Some, None, refl, false}
-use Rattle.std.specs.Prelude.{nat_eq}
-use Rattle.std.proofs.lemmas.Bool.{cond_both, eqb-true, and_parts, not-true}
+-- What a brick does with a request: it ignores it, tells that it serves the call's view no more, votes on a ballot, or changes its part of the call's stripe in
+-- the view that it has learnt.
+use Rattle.std.proofs.Common.{◌≡◌, ◌+◌, ℕ, Bool, not, ◌&&◌, ◌||◌, nat_lt, List, Option, Some, None, refl, true, false, ◌⊎◌, inl, inr, sym, ap, ◌∙◌}
+use Rattle.std.specs.Prelude.{nat_eq, is_some}
+use Rattle.std.proofs.lemmas.Bool.{cond_both, eqb-true, and_parts, or_parts, not-true, not-false}
+use Rattle.std.proofs.lemmas.Option.{same_Some}
 use Rattle.fab_base.specs.declared.identities.BrickId.{BrickId}
+use Rattle.fab_base.specs.declared.stamps.Ballot.{Ballot}
+use Rattle.fab_base.specs.declared.stamps.Stamp.{Stamp}
 use Rattle.messages.specs.declared.calls.Call.{Call}
 use Rattle.messages.specs.declared.requests.Request.{Request}
-use Rattle.fab_base.specs.Layouts.{Group, seat_in}
+use Rattle.messages.specs.declared.replies.Reply.{Reply}
+use Rattle.messages.specs.declared.replies.Reply.TheVariants.{Moved}
+use Rattle.fab_base.specs.Layouts.{Layout, Group, seat_in}
 use Rattle.protocol.specs.Settings.{Setting}
 use Rattle.protocol.specs.Replicas.{Replica, Reaction, handle}
-use Rattle.protocol.specs.Nodes.{Node, NodeStep, view_at, group_at, put, no_step, with_replica, replica_at, full_at, reacted, requested_at, is_served, fits_block, fitting_seat, seat_served, requested_in, requested}
+use Rattle.protocol.specs.Ballots.{moved_to}
+use Rattle.protocol.specs.Nodes.{Node, NodeStep, view_at, has_accepted, group_at, put, no_step, sending, with_replica, replica_at, full_at, reacted, reply_packets, requested_at, is_now, fits, seat_now, is_void, moved_at, served_unless, vote_at, voted_on, requested_as, requested_in, requested}
 use Rattle.protocol.proofs.Tables.{put_each}
 
--- a brick ignores a request, or handles it at its seat
-pub request_each : (P : NodeStep → Type 0) (setting : Setting) (me from : BrickId) (node : Node) (call : Call) (request : Request)
-    → P (no_step node)
-    → ((group : Group) (seat : ℕ) → group_at setting.layout node call.group.0 ≡ Some group
-    → seat_served setting.layout me node call request group ≡ Some seat → call.view.0 ≡ view_at node call.group.0
-    → P (reacted me from node call (handle setting.code group.m (full_at setting.layout.records node.live) seat (replica_at node call) request)))
-    → P (requested setting me from node call request)
-unfolding requested
-request_each P setting me from node call request ignored handled = in_group (group_at setting.layout node call.group.0) refl
-  where
-    at_seat : (group : Group) → group_at setting.layout node call.group.0 ≡ Some group → call.view.0 ≡ view_at node call.group.0 → (z : Option ℕ)
-        → seat_served setting.layout me node call request group ≡ z → P (requested_at setting group.m me from node call request z)
-    at_seat group is view None at = ignored
-    at_seat group is view (Some seat) at = handled group seat is at view
+-- a request to drop versions
+abbrev pub IsCollect : Request → Type 0
+IsCollect request = (stamp : Stamp) × (request ≡ Request.Collect stamp)
 
-    in_group : (z : Option Group) → group_at setting.layout node call.group.0 ≡ z → P (requested_in setting me from node call request z)
-    in_group None is = ignored
-    in_group (Some group) is =
-        cond_both (is_served group node call)
-        (fitting_seat setting.layout.block group.m request (seat_in group.members me.0)) None
-        (λ (z : Option ℕ). seat_served setting.layout me node call request group ≡ z → P (requested_at setting group.m me from node call request z))
-        (λ served.
-        let view = and_parts (nat_lt call.stripe.0 group.stripes) (nat_eq call.view.0 (view_at node call.group.0) && not (node.accepted call.group.0)) served in
-        let same = and_parts (nat_eq call.view.0 (view_at node call.group.0)) (not (node.accepted call.group.0)) view.1 in
-        at_seat group is (eqb-true call.view.0 (view_at node call.group.0) same.0)
-        (fitting_seat setting.layout.block group.m request (seat_in group.members me.0))) (λ isnt at. ignored)
-        refl
+-- A brick handles a request at this seat: the seat is its own in the view that it has learnt, which is the call's; the stripe is one of the group; what the
+-- request names fits; and the brick has accepted no list to follow the view, or it drops versions.
+pub record IsServed (layout : Layout) (me : BrickId) (node : Node) (call : Call) (request : Request) (group : Group) (seat : ℕ) : Type 0 where
+  pub seat_is : seat_in group.members me.0 ≡ Some seat
+  pub view : call.view.0 ≡ view_at node call.group.0
+  pub stripe : nat_lt call.stripe.0 group.stripes ≡ true
+  pub fitting : fits layout group.m call request (Some seat) ≡ true
+  pub free : (has_accepted node call.group.0 ≡ false) ⊎ IsCollect request
 
--- a request that is served is one to the brick's seat among the members
-pub served_seat : (setting : Setting) (me : BrickId) (node : Node) (call : Call) (request : Request) (group : Group) (seat : ℕ)
-    → seat_served setting.layout me node call request group ≡ Some seat → seat_in group.members me.0 ≡ Some seat
-served_seat setting me node call request group seat at =
-    cond_both (is_served group node call) (fitting_seat setting.layout.block group.m request (seat_in group.members me.0)) None
-    (λ (z : Option ℕ). z ≡ Some seat → seat_in group.members me.0 ≡ Some seat)
-    (λ served. fitting (seat_in group.members me.0))
+-- where a request is not void, its stripe is one of the group, and what it names fits
+not_void : (layout : Layout) (me : BrickId) (node : Node) (call : Call) (request : Request) (group : Group)
+    → is_void layout me node call request group ≡ false
+    → (nat_lt call.stripe.0 group.stripes ≡ true) × (fits layout group.m call request (seat_now me node call group) ≡ true)
+not_void layout me node call request group isnt =
+    let fit : Bool = fits layout group.m call request (seat_now me node call group) in
+    let seatless : Bool = is_now node call && not (is_some (seat_now me node call group)) in
+    let stripe = or_parts (not (nat_lt call.stripe.0 group.stripes)) _ isnt in
+    let view = or_parts (nat_eq call.view.0 0) _ stripe.1 in
+    let known = or_parts (nat_lt (view_at node call.group.0) call.view.0) (seatless || not fit) view.1 in
+    let seat = or_parts seatless (not fit) known.1 in
+    (not-false (nat_lt call.stripe.0 group.stripes) stripe.0, not-false fit seat.1)
+
+-- a seat in the learnt view is one in the call's
+now_at : (me : BrickId) (node : Node) (call : Call) (group : Group) (seat : ℕ) → seat_now me node call group ≡ Some seat
+    → (call.view.0 ≡ view_at node call.group.0) × (seat_in group.members me.0 ≡ Some seat)
+now_at me node call group seat =
+    cond_both (is_now node call) (seat_in group.members me.0) None
+    (λ (z : Option ℕ). z ≡ Some seat → (call.view.0 ≡ view_at node call.group.0) × (seat_in group.members me.0 ≡ Some seat))
+    (λ now is. (eqb-true call.view.0 (view_at node call.group.0) now, is))
     (λ isnt none. absurd (let never : None ≡ Some seat = none in cc))
-    at
-  where
-    fitting : (z : Option ℕ) → fitting_seat setting.layout.block group.m request z ≡ Some seat → z ≡ Some seat
-    fitting None at = at
-    fitting (Some k) at =
-        cond_both (fits_block setting.layout.block group.m k request) (Some k) None (λ (z : Option ℕ). z ≡ Some seat → Some k ≡ Some seat)
-        (λ fits is. is) (λ isnt none. absurd (let never : None ≡ Some seat = none in cc))
-        at
 
--- and the brick has accepted no list to follow the view
-pub served_open : (setting : Setting) (me : BrickId) (node : Node) (call : Call) (request : Request) (group : Group) (seat : ℕ)
-    → seat_served setting.layout me node call request group ≡ Some seat → node.accepted call.group.0 ≡ false
-served_open setting me node call request group seat at =
-    cond_both (is_served group node call) (fitting_seat setting.layout.block group.m request (seat_in group.members me.0)) None
-    (λ (z : Option ℕ). z ≡ Some seat → node.accepted call.group.0 ≡ false)
-    (λ served fits.
-    let view = and_parts (nat_lt call.stripe.0 group.stripes) (nat_eq call.view.0 (view_at node call.group.0) && not (node.accepted call.group.0)) served in
-    not-true (node.accepted call.group.0) (and_parts (nat_eq call.view.0 (view_at node call.group.0)) (not (node.accepted call.group.0)) view.1).1)
-    (λ isnt none. absurd (let never : None ≡ Some seat = none in cc))
-    at
+-- a brick that serves the call's view has accepted no list to follow it
+serves_free : (node : Node) (call : Call) → moved_at node call ≡ None → has_accepted node call.group.0 ≡ false
+serves_free node call =
+    cond_both (nat_lt call.view.0 (view_at node call.group.0)) (Some (moved_to (node.learnt call.group.0).view)) _
+    (λ (z : Option Reply). z ≡ None → has_accepted node call.group.0 ≡ false)
+    (λ later some. absurd (let never : Some (moved_to (node.learnt call.group.0).view) ≡ None = some in cc))
+    (λ isnt.
+    cond_both (has_accepted node call.group.0) (Some (Moved (record { 0 = call.view.0 + 1 }) None)) None
+    (λ (z : Option Reply). z ≡ None → has_accepted node call.group.0 ≡ false)
+    (λ has some. absurd (let never : Some (Moved (record { 0 = call.view.0 + 1 }) None) ≡ None = some in cc))
+    (λ free none. free))
+
+module _ (P : NodeStep → Type 0) (setting : Setting) (me from : BrickId) (node : Node) (call : Call) where
+  -- a request that is handled at this seat
+  abbrev Handles : Request → Type 0
+  Handles request =
+      (group : Group) (seat : ℕ) → group_at setting.layout node call.group.0 ≡ Some group → IsServed setting.layout me node call request group seat
+      → P (reacted me from node call (handle setting.code group.m (full_at setting.layout.records node.live) seat (replica_at node call) request))
+
+  -- a request that is not void is handled at the brick's seat, or ignored where it has none
+  each_seat : (request : Request) → P (no_step node) → Handles request → (group : Group) → group_at setting.layout node call.group.0 ≡ Some group
+      → is_void setting.layout me node call request group ≡ false → (has_accepted node call.group.0 ≡ false) ⊎ IsCollect request
+      → P (requested_at setting group.m me from node call request (seat_now me node call group))
+  each_seat request ignored handled group at isnt free = at_seat (seat_now me node call group) refl
+    where
+      at_seat : (z : Option ℕ) → seat_now me node call group ≡ z → P (requested_at setting group.m me from node call request z)
+      at_seat None is = ignored
+      at_seat (Some seat) is =
+          let facts = not_void setting.layout me node call request group isnt in
+          let now = now_at me node call group seat is in
+          handled group seat at (record {
+            seat_is = now.1;
+            view = now.0;
+            stripe = facts.0;
+            fitting = sym (ap (λ (z : Option ℕ). fits setting.layout group.m call request z) is) ∙ facts.1;
+            free = free;
+          })
+
+  -- the same, unless the brick tells that it serves the view no more
+  each_served : (request : Request) → P (no_step node)
+      → ((reply : Reply) → moved_at node call ≡ Some reply → P (sending node (reply_packets me from call (Some reply)))) → Handles request
+      → (group : Group) → group_at setting.layout node call.group.0 ≡ Some group → is_void setting.layout me node call request group ≡ false
+      → P (served_unless setting group.m me from node call request (seat_now me node call group) (moved_at node call))
+  each_served request ignored moved handled group at isnt = by_move (moved_at node call) refl
+    where
+      by_move : (z : Option Reply) → moved_at node call ≡ z
+          → P (served_unless setting group.m me from node call request (seat_now me node call group) z)
+      by_move None is = each_seat request ignored handled group at isnt (inl (serves_free node call is))
+      by_move (Some reply) is = moved reply is
+
+  -- a request that is not void
+  each_as : (request : Request) → P (no_step node)
+      → ((reply : Reply) → moved_at node call ≡ Some reply → P (sending node (reply_packets me from call (Some reply)))) → Handles request
+      → ((group : Group) (ballot : Ballot) (asks : Option (List BrickId)) → group_at setting.layout node call.group.0 ≡ Some group
+      → P (voted_on me from node call (vote_at node call ballot asks)))
+      → (group : Group) → group_at setting.layout node call.group.0 ≡ Some group → is_void setting.layout me node call request group ≡ false
+      → P (requested_as setting group me from node call request)
+  each_as (Request.Read want) ignored moved handled votes group at isnt = each_served (Request.Read want) ignored moved handled group at isnt
+  each_as (Request.Order t) ignored moved handled votes group at isnt = each_served (Request.Order t) ignored moved handled group at isnt
+  each_as (Request.OrderRead t look want) ignored moved handled votes group at isnt =
+      each_served (Request.OrderRead t look want) ignored moved handled group at isnt
+  each_as (Request.Write t block) ignored moved handled votes group at isnt = each_served (Request.Write t block) ignored moved handled group at isnt
+  each_as (Request.Modify t base j delta) ignored moved handled votes group at isnt =
+      each_served (Request.Modify t base j delta) ignored moved handled group at isnt
+  each_as (Request.Collect t) ignored moved handled votes group at isnt =
+      each_seat (Request.Collect t) ignored handled group at isnt (inr (t, refl))
+  each_as (Request.OldRead bound) ignored moved handled votes group at isnt = ignored
+  each_as (Request.Prepare ballot) ignored moved handled votes group at isnt = votes group ballot None at
+  each_as (Request.Accept ballot members) ignored moved handled votes group at isnt = votes group ballot (Some members) at
+
+  -- a brick ignores a request, tells that it serves its view no more, handles it at its seat, or votes
+  pub request_each : (request : Request) → P (no_step node)
+      → ((reply : Reply) → moved_at node call ≡ Some reply → P (sending node (reply_packets me from call (Some reply)))) → Handles request
+      → ((group : Group) (ballot : Ballot) (asks : Option (List BrickId)) → group_at setting.layout node call.group.0 ≡ Some group
+      → P (voted_on me from node call (vote_at node call ballot asks)))
+      → P (requested setting me from node call request)
+  unfolding requested
+  request_each request ignored moved handled votes = in_group (group_at setting.layout node call.group.0) refl
+    where
+      in_group : (z : Option Group) → group_at setting.layout node call.group.0 ≡ z → P (requested_in setting me from node call request z)
+      in_group None is = ignored
+      in_group (Some group) is =
+          cond_both (is_void setting.layout me node call request group) (no_step node) (requested_as setting group me from node call request) P
+          (λ void. ignored) (λ isnt. each_as request ignored moved handled votes group is isnt)
 
 -- what holds of the changed part, and of each part as it was
 pub parts_each : (Q : ℕ → ℕ → ℕ → Replica → Type 0) (node : Node) (call : Call) (reaction : Reaction)

@@ -10,7 +10,7 @@ use Rattle.quorum.specs.Quorums.{quorum_of}
 use Rattle.fab_base.specs.Layouts.{seat_in}
 use Rattle.protocol.specs.Settings.{Setting}
 use Rattle.protocol.specs.Coordinators.{Coordinator}
-use Rattle.protocol.specs.Nodes.{Node, view_at}
+use Rattle.protocol.specs.Nodes.{Node, view_at, has_accepted}
 use Rattle.protocol.specs.Worlds.{World, Operation, Event, Delivers, is_up, packet_of, happens}
 
 -- the number of the operation that a packet is a message of, 0 where it is none's
@@ -75,7 +75,7 @@ pub record IsEarly (node : Node) : Type 0 where
 pub record IsReady (setting : Setting) (w : World) (c : Coordinator) (brick : BrickId) : Type 0 where
   pub up : is_up setting.layout w brick ≡ true
   pub view : view_at (w.nodes brick.0) c.call.group.0 ≡ c.call.view.0
-  pub serves : (w.nodes brick.0).accepted c.call.group.0 ≡ false
+  pub serves : has_accepted (w.nodes brick.0) c.call.group.0 ≡ false
   pub room : (w.nodes brick.0).live + 2 ≤ setting.layout.records
   pub times : IsEarly (w.nodes brick.0)
 

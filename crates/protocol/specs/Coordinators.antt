@@ -17,23 +17,25 @@ use Rattle.messages.specs.declared.requests.Want.TheVariants.{Seat, All}
 use Rattle.messages.specs.declared.requests.Request.{Request}
 use Rattle.messages.specs.declared.requests.Request.TheVariants.{Read, Order, OrderRead, Write, Modify}
 use Rattle.messages.specs.declared.replies.Reply.{Reply}
-use Rattle.messages.specs.declared.replies.Reply.TheVariants.{Found, Ordered, OrderedRead, Stored, Behind, Later, Full}
+use Rattle.messages.specs.declared.replies.Reply.TheVariants.{Found, Ordered, OrderedRead, Stored, Behind, Later, Full, Moved}
 pub use Rattle.protocol.specs.declared.phases.Phase.{Phase}
 pub use Rattle.protocol.specs.declared.phases.Phase.TheVariants.{Looks, LooksAt, Orders, OrdersAt, Recovers, Descends, Modifies, Bases, Stores}
 pub use Rattle.protocol.specs.declared.phases.Counted.{Counted}
 pub use Rattle.protocol.specs.declared.phases.Refuser.{Refuser}
 pub use Rattle.protocol.specs.declared.phases.FullMember.{FullMember}
+pub use Rattle.protocol.specs.declared.phases.Mover.{Mover}
 use Rattle.fab_base.specs.Layouts.{Group, seat_in}
 use Rattle.quorum.specs.Quorums.{quorum_of}
 use Rattle.reg_model.specs.Registers.{read_of, after_op}
 use Rattle.protocol.specs.Settings.{Code, Piece}
 use Rattle.protocol.specs.Replicas.{is_changed}
 
--- An open operation at its coordinator: the group, with the members of the operation's view; what is asked; its stamp; how many rounds of
+-- An open operation at its coordinator: the group, with the members of the operation's view; the members of the view before that; what is asked; its stamp; how many rounds of
 -- ordering it has begun; the version that it makes its own on, once it found one; the content that it stores, once it knows that, or what its data
 -- block changes by, while it modifies; the call of its present phase; and the replies that count in it.
 pub record Coordinator : Type 0 where
   pub group : Group
+  pub prior : List BrickId
   pub ask : Ask
   pub stamp : Stamp
   pub round : ℕ
@@ -91,6 +93,7 @@ answers_phase block t seat (Bases base) (Full live) = true
 answers_phase block t seat Stores Stored = true
 answers_phase block t seat Stores (Later x) = true
 answers_phase block t seat Stores (Full live) = true
+answers_phase block t seat phase (Moved view lineage) = true
 answers_phase block t seat phase reply = false
 
 -- a seat has a reply that counts
@@ -259,6 +262,25 @@ abbrev pub lowest_full : List Counted → Option FullMember
 lowest_full [] = None
 lowest_full (c ∷ counted) = lower_full (full_member_of c) (lowest_full counted)
 
+-- the member that told a later view, if this one did
+abbrev pub mover_of : Counted → Option Mover
+mover_of c = mover_with c.reply
+  where
+    mover_with : Reply → Option Mover
+    mover_with (Moved view lineage) = Some (record { seat = c.seat; brick = c.brick; view = view })
+    mover_with reply = None
+
+-- of two such members the one of the lower seat
+abbrev pub lower_mover : Option Mover → Option Mover → Option Mover
+lower_mover None b = b
+lower_mover (Some a) None = Some a
+lower_mover (Some a) (Some b) = if nat_lt b.seat a.seat then Some b else Some a
+
+-- the member of the lowest seat that told a later view, if one did
+abbrev pub lowest_mover : List Counted → Option Mover
+lowest_mover [] = None
+lowest_mover (c ∷ counted) = lower_mover (mover_of c) (lowest_mover counted)
+
 -- what a seat is told that data block j changed by: nothing, where its block stays as it is
 abbrev pub delta_at : ℕ → ℕ → ℕ → List ℕ → List ℕ
 delta_at m j seat delta = if is_changed m j seat then delta else []
@@ -332,6 +354,15 @@ aborted_by r = Ends (Aborted (Cause.Later r.brick r.stamp)) None None
 abbrev pub aborted_full : FullMember → Next
 aborted_full f = Ends (Aborted (Cause.Full f.brick f.live)) None None
 
+-- the operation is aborted, since this member serves its view no more
+abbrev pub aborted_moved : Mover → Next
+aborted_moved m = Ends (Aborted (Cause.Moved m.brick m.view)) None None
+
+-- a member that serves the view no more aborts the operation; else it goes on so
+abbrev pub unless_told_moved : Option Mover → Next → Next
+unless_told_moved None next = next
+unless_told_moved (Some m) next = aborted_moved m
+
 -- a member whose store is full aborts the operation; else it goes on so
 abbrev pub unless_told_full : Option FullMember → Next → Next
 unless_told_full None next = next
@@ -393,7 +424,7 @@ answer_with (Some bytes) = Data bytes
 
 -- what a quorum of replies decides, where a new round would have this fresh stamp
 unfoldable pub decided : ℕ → Code → Option Stamp → Coordinator → Next
-decided block code fresh c = unless_told_full (lowest_full c.counted) (decided_in c.phase)
+decided block code fresh c = unless_told_moved (lowest_mover c.counted) (unless_told_full (lowest_full c.counted) (decided_in c.phase))
   where
     decided_in : Phase → Next
     decided_in Looks = answered_fast code c (fast_version c.counted)

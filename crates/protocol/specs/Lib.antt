@@ -5,6 +5,7 @@ pub mod Coordinators
 pub mod Requests
 pub mod Ballots
 pub mod Proposals
+pub mod Jobs
 pub mod Nodes
 pub mod Worlds
 pub mod Happenings

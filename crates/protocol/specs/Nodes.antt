@@ -1,7 +1,11 @@
 -- One brick: the members' parts of stripes that it keeps, and the operations that it coordinates.
-use Rattle.std.specs.Prelude.{ℕ, zero, suc, ◌+◌, ◌-◌, ◌*◌, ◌^◌, Bool, true, false, not, nat_eq, nat_lt, ◌&&◌, ◌||◌, if◌then◌else◌, List, [], ◌∷◌, ◌++◌, length, Option, Some, None, max}
+use Rattle.std.specs.Prelude.{ℕ, zero, suc, ◌+◌, ◌-◌, ◌*◌, ◌^◌, Bool, true, false, not, nat_eq, nat_lt, ◌&&◌, ◌||◌, if◌then◌else◌, List, [], ◌∷◌, ◌++◌, length, Option, Some, None, is_some, max}
 use Rattle.fab_base.specs.declared.identities.BrickId.{BrickId}
+use Rattle.fab_base.specs.declared.identities.CallId.{CallId}
+use Rattle.fab_base.specs.declared.identities.GroupId.{GroupId}
 use Rattle.fab_base.specs.declared.identities.ViewNo.{ViewNo}
+use Rattle.fab_base.specs.declared.member_lists.View.{View}
+use Rattle.fab_base.specs.declared.stamps.Ballot.{Ballot}
 use Rattle.fab_base.specs.declared.stamps.Stamp.{Stamp}
 use Rattle.fab_base.specs.declared.asks.Ask.{Ask}
 use Rattle.fab_base.specs.declared.asks.Op.{Op}
@@ -12,33 +16,47 @@ use Rattle.messages.specs.declared.packets.Message.{Message}
 use Rattle.messages.specs.declared.packets.Packet.{Packet}
 use Rattle.messages.specs.declared.requests.Request.{Request}
 use Rattle.messages.specs.declared.replies.Reply.{Reply}
+use Rattle.messages.specs.declared.replies.Reply.TheVariants.{Moved}
 pub use Rattle.protocol.specs.declared.tellings.Told.{Told}
 pub use Rattle.protocol.specs.declared.tellings.Told.TheVariants.{Made, Seen}
 pub use Rattle.protocol.specs.declared.tellings.Answered.{Answered}
+pub use Rattle.protocol.specs.declared.tellings.Report.{Report}
+use Rattle.protocol.specs.declared.tellings.Report.TheVariants as Report
+use Rattle.protocol.specs.declared.tellings.ViewAnswer.TheVariants as answer
+use Rattle.quorum.specs.Memberships.{is_membership}
 pub use Rattle.protocol.specs.Requests.{to_members, resent_to}
+use Rattle.synod_laws.specs.Synods.{Kept, last_of}
+use Rattle.protocol.specs.Proposals.{Proposal, ViewAnswer, Voting, Ignored, Waited, Asks, Ended, begun_proposal, ballot_packets, seat_voting, voted, round_after, next_ballot}
+use Rattle.protocol.specs.Jobs.{Job}
 use Rattle.fab_base.specs.Layouts.{Layout, Group, group_of, seat_in}
 use Rattle.protocol.specs.Settings.{Setting, are_bytes}
-use Rattle.protocol.specs.Views.{Learnt, first_learnt, group_kept, floor_of}
+use Rattle.protocol.specs.Views.{Learnt, first_learnt, first_kept, group_kept, floor_of, is_later, learns, may_be_taught, view_told}
+use Rattle.protocol.specs.Ballots.{Voted, voting, moved_to}
 use Rattle.protocol.specs.Replicas.{Replica, Reaction, fresh_replica, handle, is_changed, stamp_max, top_of}
-use Rattle.protocol.specs.Coordinators.{Phase, Looks, LooksAt, Orders, OrdersAt, Coordinator, Counted, Next, Ignores, Waits, Sends, Makes, Ends, has_seat, request_of, on_reply}
+use Rattle.protocol.specs.Coordinators.{Phase, Looks, LooksAt, Orders, OrdersAt, Coordinator, Next, Ignores, Waits, Sends, Makes, Ends, counts_at, request_of, on_reply}
 
 -- a function with one value changed
 abbrev pub put : {A : Type 0} → (ℕ → A) → ℕ → A → ℕ → A
 put f k v i = if nat_eq i k then v else f i
 
--- a brick: how often its store was opened, its last call number, the greatest time that it knows, how many
--- operations it has open, how many live records its store keeps, the view that it has learnt of each group, whether it has accepted a list of
--- members to follow that, its part of each stripe (by group, view and stripe), and its open operations (by call number)
+-- A brick: how often its store was opened, its last call number, the greatest time that it knows, the greatest round of a ballot that it used or heard
+-- of, how many operations it has open, how many live records its store keeps, and how many of these are of each view (by group and view), the view
+-- that it has learnt of each group, what it keeps of ballots for the successor of that, its part of each stripe (by group, view and stripe), its open operations
+-- (by call number), its proposal of a successor, and its synchronisation of a view.
 pub record Node : Type 0 where
   pub boot : ℕ
   pub seq : ℕ
   pub known : ℕ
+  pub round : ℕ
   pub busy : ℕ
   pub live : ℕ
+  pub live_in : ℕ → ℕ → ℕ
   pub learnt : ℕ → Learnt
-  pub accepted : ℕ → Bool
+  pub ballots : ℕ → Kept (List BrickId)
   pub replicas : ℕ → ℕ → ℕ → Replica
   pub calls : ℕ → Option Coordinator
+  pub proposal : Option Proposal
+  pub job : Option Job
 
 -- a brick whose fresh store was just opened
 abbrev pub first_node : Layout → Node
@@ -47,17 +65,25 @@ first_node layout =
       boot = 1;
       seq = 0;
       known = 0;
+      round = 0;
       busy = 0;
       live = 0;
+      live_in = λ group view. 0;
       learnt = first_learnt layout;
-      accepted = λ group. false;
+      ballots = λ group. None;
       replicas = λ group view stripe. fresh_replica layout.block view;
       calls = λ k. None;
+      proposal = None;
+      job = None;
     }
 
 -- the number of the view that a brick has learnt of a group
 abbrev pub view_at : Node → ℕ → ℕ
 view_at node group = (node.learnt group).view.number.0
+
+-- a brick has accepted a list of members to follow the view that it has learnt of a group: the last number of all has no successor
+abbrev pub has_accepted : Node → ℕ → Bool
+has_accepted node group = nat_lt (view_at node group) (2 ^ 32 - 1) && is_some (last_of (node.ballots group))
 
 -- a group, with the members of the view that a brick has learnt of it
 abbrev pub group_at : Layout → Node → ℕ → Option Group
@@ -65,22 +91,24 @@ group_at layout node group = group_kept layout (node.learnt group).view.members 
 
 -- what a brick has learnt of a group's views and accepted puts it above all stamps of the views before
 abbrev pub view_floor : Node → ℕ → Stamp
-view_floor node group = floor_of (if node.accepted group then view_at node group + 1 else view_at node group)
+view_floor node group = floor_of (if has_accepted node group then view_at node group + 1 else view_at node group)
 
 -- the stamp below which a brick takes nothing for a stripe, over all views
 unfoldable pub top_at : Node → ℕ → ℕ → Stamp
 top_at node group stripe = stamp_max (view_floor node group) (top_of (node.replicas group (view_at node group) stripe))
 
--- What a step leaves, the packets that it sends, what it tells of operations' versions, and the answers that it gives, each in order.
+-- What a step leaves, the packets that it sends, what it tells of operations' versions, the answers that it gives, and what it reports of the brick's
+-- proposal and synchronisation, each in order.
 pub record NodeStep : Type 0 where
   pub node : Node
   pub packets : List Packet
   pub told : List Told
   pub answers : List Answered
+  pub reports : List Report
 
--- a step that sends these packets, and tells and answers nothing
+-- a step that sends these packets, and tells, answers and reports nothing
 abbrev pub sending : Node → List Packet → NodeStep
-sending node packets = record { node = node; packets = packets; told = []; answers = [] }
+sending node packets = record { node = node; packets = packets; told = []; answers = []; reports = [] }
 
 abbrev pub no_step : Node → NodeStep
 no_step node = sending node []
@@ -167,24 +195,25 @@ given_content (WriteBlock j bytes) = []
 given_content ReadStripe = []
 given_content (WriteStripe bytes) = bytes
 
--- the coordinator of a new operation, in a view of the group with these members
-abbrev pub coordinator_in : Group → ViewNo → BrickId → ℕ → Node → Ask → Coordinator
+-- the coordinator of a new operation, in a view of the group, which the view's members keep
+abbrev pub coordinator_in : Group → View → BrickId → ℕ → Node → Ask → Coordinator
 coordinator_in group view me now node ask =
     record {
       group = group;
+      prior = view.prior;
       ask = ask;
-      stamp = new_stamp me view now node.boot node.known;
+      stamp = new_stamp me view.number now node.boot node.known;
       round = 1;
       base = None;
       content = given_content ask.op;
-      call = record { boot = node.boot; seq = node.seq + 1; phase = 1; group = ask.group; view = view; stripe = ask.stripe };
+      call = record { boot = node.boot; seq = node.seq + 1; phase = 1; group = ask.group; view = view.number; stripe = ask.stripe };
       phase = first_phase ask.op;
       counted = [];
     }
 
 -- the same, in the view that its brick has learnt
 abbrev pub new_coordinator : Group → BrickId → ℕ → Node → Ask → Coordinator
-new_coordinator group me now node ask = coordinator_in group (node.learnt ask.group.0).view.number me now node ask
+new_coordinator group me now node ask = coordinator_in group (node.learnt ask.group.0).view me now node ask
 
 -- the brick with a new open operation
 abbrev pub opened : Node → Coordinator → Node
@@ -211,11 +240,17 @@ abbrev pub with_part : (ℕ → ℕ → ℕ → Replica) → Call → Replica �
 with_part replicas call replica =
     put replicas call.group.0 (put (replicas call.group.0) call.view.0 (put (replicas call.group.0 call.view.0) call.stripe.0 replica))
 
+-- live records of each view, by group and view, with those of a call's view changed by a reaction
+abbrev pub with_live : (ℕ → ℕ → ℕ) → Call → Reaction → ℕ → ℕ → ℕ
+with_live live_in call reaction =
+    put live_in call.group.0 (put (live_in call.group.0) call.view.0 (live_in call.group.0 call.view.0 + reaction.adds - reaction.drops))
+
 -- the brick with its part of a stripe changed, and its live records counted
 abbrev pub with_replica : Node → Call → Reaction → Node
 with_replica node call reaction =
     record node {
       live = node.live + reaction.adds - reaction.drops;
+      live_in = with_live node.live_in call reaction;
       replicas = with_part node.replicas call reaction.replica;
     }
 
@@ -238,38 +273,128 @@ requested_at setting m me from node call request None = no_step node
 requested_at setting m me from node call request (Some seat) =
     reacted me from node call (handle setting.code m (full_at setting.layout.records node.live) seat (replica_at node call) request)
 
--- a call is of a stripe that the group has, and of the view that the brick has learnt, while it has accepted none to follow that
-abbrev pub is_served : Group → Node → Call → Bool
-is_served group node call =
-    nat_lt call.stripe.0 group.stripes && (nat_eq call.view.0 (view_at node call.group.0) && not (node.accepted call.group.0))
+-- a call is of the view that the brick has learnt
+abbrev pub is_now : Node → Call → Bool
+is_now node call = nat_eq call.view.0 (view_at node call.group.0)
 
--- What a request has a seat store is a block: it has the length of one; or it changes one of the m data blocks, by as many bytes, or by none where
--- the seat's block stays as it is.
-abbrev pub fits_block : ℕ → ℕ → ℕ → Request → Bool
-fits_block block m seat (Request.Write t bytes) = nat_eq (length bytes) block
-fits_block block m seat (Request.Modify t base j delta) = nat_lt j m && nat_eq (length delta) (if is_changed m j seat then block else 0)
-fits_block block m seat request = true
+-- the view of a call has a successor: there is a number for it
+abbrev pub has_successor : Call → Bool
+has_successor call = nat_lt call.view.0 (2 ^ 32 - 1)
 
--- the seat, where what a request has it store is a block
-abbrev pub fitting_seat : ℕ → ℕ → Request → Option ℕ → Option ℕ
-fitting_seat block m request None = None
-fitting_seat block m request (Some seat) = if fits_block block m seat request then Some seat else None
+-- what a seat is sent to modify its block by has the length of a block, or none where its block stays as it is; of no seat it may have any
+abbrev pub fits_change : ℕ → ℕ → ℕ → List ℕ → Option ℕ → Bool
+fits_change block m j delta None = true
+fits_change block m j delta (Some seat) = nat_eq (length delta) (if is_changed m j seat then block else 0)
 
--- the seat of the brick among the members, where a request is not void: it is of a stripe that there is, and would store what is a block, if anything
-abbrev pub seat_served : Layout → BrickId → Node → Call → Request → Group → Option ℕ
-seat_served layout me node call request group =
-    if is_served group node call then fitting_seat layout.block group.m request (seat_in group.members me.0) else None
+-- What a request names fits a group of m data blocks, at a seat of the learnt view or at none: what is to be stored is a block; one of the m data blocks changes,
+-- by as many bytes as that seat's block does; and a ballot is for a view that has a successor, and a list to accept may keep the group.
+abbrev pub fits : Layout → ℕ → Call → Request → Option ℕ → Bool
+fits layout m call (Request.Write t bytes) seat = nat_eq (length bytes) layout.block
+fits layout m call (Request.Modify t base j delta) seat = nat_lt j m && fits_change layout.block m j delta seat
+fits layout m call (Request.Prepare ballot) seat = has_successor call
+fits layout m call (Request.Accept ballot members) seat = has_successor call && is_membership m layout.bricks members
+fits layout m call request seat = true
 
--- a void request is ignored, as one to a brick that is no member
+-- the brick's seat in the view of a call, where that is the view that it has learnt
+abbrev pub seat_now : BrickId → Node → Call → Group → Option ℕ
+seat_now me node call group = if is_now node call then seat_in group.members me.0 else None
+
+-- A request is void: it is of a stripe that the group has not, of view 0, of a view later than the brick has learnt, or of that view though the brick is no
+-- member of it; or it names what does not fit.
+abbrev pub is_void : Layout → BrickId → Node → Call → Request → Group → Bool
+is_void layout me node call request group =
+    not (nat_lt call.stripe.0 group.stripes) || (nat_eq call.view.0 0 || (nat_lt (view_at node call.group.0) call.view.0
+    || ((is_now node call && not (is_some (seat_now me node call group))) || not (fits layout group.m call request (seat_now me node call group)))))
+
+-- how a brick tells that it serves the view of a call no more, where it does not: it has learnt a later view, which it tells; or it has accepted a list to
+-- follow that view
+abbrev pub moved_at : Node → Call → Option Reply
+moved_at node call =
+    if nat_lt call.view.0 (view_at node call.group.0) then Some (moved_to (node.learnt call.group.0).view)
+    else if has_accepted node call.group.0 then Some (Moved (record { 0 = call.view.0 + 1 }) None)
+    else None
+
+-- a brick tells that it serves the call's view no more; or else it handles the request at its seat
+abbrev pub served_unless : Setting → ℕ → BrickId → BrickId → Node → Call → Request → Option ℕ → Option Reply → NodeStep
+served_unless setting m me from node call request seat None = requested_at setting m me from node call request seat
+served_unless setting m me from node call request seat (Some moved) = sending node (reply_packets me from call (Some moved))
+
+-- a brick's vote on a ballot, for the successor of the view of a call
+abbrev pub vote_at : Node → Call → Ballot → Option (List BrickId) → Voted
+vote_at node call ballot asks = voting call.view.0 (node.learnt call.group.0) (node.ballots call.group.0) ballot asks
+
+-- the brick keeps what its vote leaves of ballots, and sends its reply
+abbrev pub voted_on : BrickId → BrickId → Node → Call → Voted → NodeStep
+voted_on me from node call vote =
+    sending (record node { ballots = put node.ballots call.group.0 vote.kept }) (reply_packets me from call (Some vote.reply))
+
+-- What a brick does with a request that is not void. It collects in the view that it has learnt, though it accepted a list to follow that; it votes on a
+-- ballot; and it handles each other request in the view that it serves.
+abbrev pub requested_as : Setting → Group → BrickId → BrickId → Node → Call → Request → NodeStep
+requested_as setting group me from node call (Request.Collect t) =
+    requested_at setting group.m me from node call (Request.Collect t) (seat_now me node call group)
+requested_as setting group me from node call (Request.OldRead bound) = no_step node
+requested_as setting group me from node call (Request.Prepare ballot) = voted_on me from node call (vote_at node call ballot None)
+requested_as setting group me from node call (Request.Accept ballot members) = voted_on me from node call (vote_at node call ballot (Some members))
+requested_as setting group me from node call request =
+    served_unless setting group.m me from node call request (seat_now me node call group) (moved_at node call)
+
+-- a void request is ignored
 abbrev pub requested_in : Setting → BrickId → BrickId → Node → Call → Request → Option Group → NodeStep
 requested_in setting me from node call request None = no_step node
 requested_in setting me from node call request (Some group) =
-    requested_at setting group.m me from node call request (seat_served setting.layout me node call request group)
+    if is_void setting.layout me node call request group then no_step node else requested_as setting group me from node call request
 
 -- a brick handles a request
 unfoldable pub requested : Setting → BrickId → BrickId → Node → Call → Request → NodeStep
 requested setting me from node call request =
     requested_in setting me from node call request (group_at setting.layout node call.group.0)
+
+-- ---- views
+
+-- of these numbers of live records, by view, those of the views before the first that is kept
+abbrev pub live_before : ℕ → (ℕ → ℕ) → ℕ
+live_before zero live = 0
+live_before (suc first) live = live_before first live + live first
+
+-- the brick without what it kept of a group in the views before this one
+abbrev pub dropping : ℕ → ℕ → ℕ → Node → Node
+dropping block group first node =
+    record node {
+      live = node.live - live_before first (node.live_in group);
+      live_in = put node.live_in group (λ view. if nat_lt view first then 0 else node.live_in group view);
+      replicas = put node.replicas group (λ view stripe. if nat_lt view first then fresh_replica block view else node.replicas group view stripe);
+    }
+
+-- The brick has learnt this of a group. What it kept of ballots for the successor of another view it forgets, and what it kept of the group in the views
+-- before the first that is kept.
+abbrev pub with_learnt : ℕ → ℕ → Node → Learnt → Node
+with_learnt block group node learnt =
+    dropping block group (first_kept learnt)
+    (record node {
+      learnt = put node.learnt group learnt;
+      ballots = put node.ballots group (if nat_eq learnt.view.number.0 (view_at node group) then node.ballots group else None);
+    })
+
+-- the brick once it is taught a view of a group: a later one than it has learnt it learns
+unfoldable pub node_taught : ℕ → ℕ → Node → View → Node
+node_taught block group node view =
+    if is_later (node.learnt group) view then with_learnt block group node (learns (node.learnt group) view) else node
+
+-- the same, if it is taught one
+abbrev pub node_taught_by : ℕ → ℕ → Node → Option View → Node
+node_taught_by block group node None = node
+node_taught_by block group node (Some view) = node_taught block group node view
+
+-- a view may be taught of a group that the layout has, where its lists may keep that
+abbrev pub may_teach : Layout → Option View → Option Group → Bool
+may_teach layout view None = false
+may_teach layout view (Some group) = may_be_taught group.m layout.bricks view
+
+-- the brick after a message that teaches a view of a group
+unfoldable pub node_learnt : Layout → Node → GroupId → View → Node
+node_learnt layout node group view =
+    if may_teach layout (Some view) (group_of layout group.0) then node_taught layout.block group.0 node view else node
 
 -- the time that a reply makes known
 abbrev pub known_after : ℕ → Reply → ℕ
@@ -283,6 +408,10 @@ with_call node known busy seq call = record node { known = known; busy = busy; c
 -- the brick knows this time
 abbrev pub with_known : Node → ℕ → Node
 with_known node known = record node { known = known }
+
+-- the brick knows the round that a reply tells
+abbrev pub with_round : Node → Reply → Node
+with_round node reply = record node { round = round_after node.round reply }
 
 -- what is told of the version that a read answered at once, if it did
 abbrev pub seen_told : ℕ → Option Stamp → List Told
@@ -301,6 +430,7 @@ carried_out setting me node known c (Makes d) =
       packets = phase_packets setting me d;
       told = Made c.call.seq d.stamp d.base ∷ [];
       answers = [];
+      reports = [];
     }
 carried_out setting me node known c (Ends answer seen stored) =
     record {
@@ -308,19 +438,86 @@ carried_out setting me node known c (Ends answer seen stored) =
       packets = collect_packets me c stored;
       told = seen_told c.call.seq seen;
       answers = record { seq = c.call.seq; answer = answer } ∷ [];
+      reports = [];
     }
 
--- a reply to this open operation, if there is one; a new round would have a stamp of its view
+-- ---- proposals
+
+-- a message that teaches each brick of the disk from this number on, so many of them, this view
+abbrev pub learn_packets : BrickId → GroupId → View → ℕ → ℕ → List Packet
+learn_packets me group view zero brick = []
+learn_packets me group view (suc left) brick =
+    record { from = me; to = record { 0 = brick }; message = Message.Learn group view } ∷ learn_packets me group view left (brick + 1)
+
+-- the brick with this proposal, or with none
+abbrev pub with_proposal : Node → Option Proposal → Node
+with_proposal node proposal = record node { proposal = proposal }
+
+-- the view that a proposal decided, as its successor
+abbrev pub decided_view : Proposal → ViewNo → List BrickId → View
+decided_view p number members = record { number = number; members = members; prior = p.view.members }
+
+-- what a brick sends once its proposal ended so: it teaches all bricks the view that was decided
+abbrev pub ended_packets : Layout → BrickId → Proposal → ViewAnswer → List Packet
+ended_packets layout me p (answer.Decided number members) = learn_packets me p.call.group (decided_view p number members) layout.bricks 0
+ended_packets layout me p ended = []
+
+-- a brick reports the end of its proposal, and sends what that asks for
+abbrev pub reporting : Node → List Packet → Report → NodeStep
+reporting node packets report = record { node = node; packets = packets; told = []; answers = []; reports = report ∷ [] }
+
+-- what a brick does with what its proposal decided
+abbrev pub carried_ballot : Layout → BrickId → Node → Proposal → Voting → NodeStep
+carried_ballot layout me node p Ignored = no_step node
+carried_ballot layout me node p (Waited q) = no_step (with_proposal node (Some q))
+carried_ballot layout me node p (Asks q) = sending (with_proposal node (Some q)) (ballot_packets me q)
+carried_ballot layout me node p (Ended call ended) =
+    reporting (with_proposal node None) (ended_packets layout me p ended) (Report.View p.call.group (Some call) ended)
+
+-- a reply to this proposal, if there is one
+abbrev pub replied_ballot : Layout → BrickId → BrickId → Node → Call → Reply → Option Proposal → NodeStep
+replied_ballot layout me from node call reply None = no_step node
+replied_ballot layout me from node call reply (Some p) = carried_ballot layout me node p (voted layout.bricks p from call reply)
+
+-- a reply to this open operation, if there is one, or else to the proposal; a new round would have a stamp of its view
 abbrev pub replied_at : Setting → BrickId → ℕ → BrickId → Node → Call → Reply → Option Coordinator → NodeStep
-replied_at setting me now from node call reply None = no_step (with_known node (known_after node.known reply))
+replied_at setting me now from node call reply None =
+    replied_ballot setting.layout me from (with_known node (known_after node.known reply)) call reply node.proposal
 replied_at setting me now from node call reply (Some c) =
     let known : ℕ = known_after node.known reply in
     carried_out setting me node known c
     (on_reply setting.layout.block setting.code (fresh_stamp me c.call.view now node.boot known) c from call reply)
 
--- a brick handles a reply, at this time of its clock
+-- a reply counts in this open operation, or else in this proposal
+abbrev pub counts_here : Layout → BrickId → Call → Reply → Option Proposal → Option Coordinator → Bool
+counts_here layout from call reply proposal (Some c) = is_some (counts_at layout.block c from.0 call reply)
+counts_here layout from call reply (Some p) None = is_some (seat_voting layout.bricks p from.0 call reply)
+counts_here layout from call reply None None = false
+
+-- the view that a reply teaches a brick, if it counts
+abbrev pub view_counted : Layout → BrickId → Node → Call → Reply → Option View
+view_counted layout from node call reply =
+    if counts_here layout from call reply node.proposal (node.calls call.seq) then view_told reply else None
+
+-- a step, once the brick was also taught a view, if it was
+abbrev pub then_taught : ℕ → ℕ → Option View → NodeStep → NodeStep
+then_taught block group view step = record step { node = node_taught_by block group step.node view }
+
+-- a brick handles a reply, at this time of its clock: a view that a reply tells with its members it learns last, if the reply counts
 unfoldable pub replied : Setting → BrickId → ℕ → BrickId → Node → Call → Reply → NodeStep
-replied setting me now from node call reply = replied_at setting me now from node call reply (node.calls call.seq)
+replied setting me now from node call reply =
+    then_taught setting.layout.block call.group.0 (view_counted setting.layout from node call reply)
+    (replied_at setting me now from (with_round node reply) call reply (node.calls call.seq))
+
+-- the lists that a reply tells of a view may keep the call's group; a reply that tells another is left out
+abbrev pub lists_fit : Layout → Call → Reply → Bool
+lists_fit layout call reply = not (is_some (view_told reply)) || may_teach layout (view_told reply) (group_of layout call.group.0)
+
+-- a brick handles a reply, or leaves it out but for the time and the round that it tells
+abbrev pub heard : Setting → BrickId → ℕ → BrickId → Node → Call → Reply → NodeStep
+heard setting me now from node call reply =
+    if lists_fit setting.layout call reply then replied setting me now from node call reply
+    else no_step (with_known (with_round node reply) (known_after node.known reply))
 
 -- a brick handles a message, at this time of its clock
 unfoldable pub received : Setting → BrickId → ℕ → Node → Packet → NodeStep
@@ -328,22 +525,48 @@ received setting me now node packet = received_as packet.message
   where
     received_as : Message → NodeStep
     received_as (Message.Request call request) = requested setting me packet.from node call request
-    received_as (Message.Reply call reply) = replied setting me now packet.from node call reply
+    received_as (Message.Reply call reply) = heard setting me now packet.from node call reply
+    received_as (Message.Learn group view) = no_step (node_learnt setting.layout node group view)
     received_as message = no_step node
 
 -- the node after a message whose handling was cut short once it had kept what it keeps: what it kept of a
--- request stays, and its reply is never sent
+-- request stays, and its reply is never sent; and so does a view that it learnt
 unfoldable pub absorbed : Setting → BrickId → Node → Packet → Node
 absorbed setting me node packet = absorbed_as packet.message
   where
     absorbed_as : Message → Node
     absorbed_as (Message.Request call request) = (requested setting me packet.from node call request).node
+    absorbed_as (Message.Reply call reply) = (
+        if lists_fit setting.layout call reply
+        then node_taught_by setting.layout.block call.group.0 node (view_counted setting.layout packet.from node call reply) else node
+        )
+    absorbed_as (Message.Learn group view) = node_learnt setting.layout node group view
     absorbed_as message = node
+
+-- each of these packets, right after one that teaches its receiver this view
+abbrev pub each_taught : GroupId → View → List Packet → List Packet
+each_taught group view [] = []
+each_taught group view (packet ∷ packets) =
+    record { from = packet.from; to = packet.to; message = Message.Learn group view } ∷ (packet ∷ each_taught group view packets)
+
+-- packets of a view: those of a later one than view 1 teach their receivers that view first
+abbrev pub teaching : GroupId → View → List Packet → List Packet
+teaching group view packets = if nat_lt 1 view.number.0 then each_taught group view packets else packets
+
+-- the view of an open operation
+abbrev pub view_in : Coordinator → View
+view_in c = record { number = c.call.view; members = c.group.members; prior = c.prior }
 
 -- the present phase of an open operation again
 abbrev pub resent : Setting → BrickId → Option Coordinator → List Packet
 resent setting me None = []
-resent setting me (Some c) = resent_to me c.call (request_of setting.code c) c.counted 0 c.group.members
+resent setting me (Some c) =
+    teaching c.call.group (view_in c) (resent_to me c.call (request_of setting.code c) c.counted 0 c.group.members)
+
+-- the present phase of a proposal again
+abbrev pub ballot_resent : BrickId → Option Proposal → List Packet
+ballot_resent me None = []
+ballot_resent me (Some p) = teaching p.call.group p.view (ballot_packets me p)
 
 -- the same of the calls 1 to k, in order
 abbrev pub resent_up_to : Setting → BrickId → (ℕ → Option Coordinator) → ℕ → List Packet
@@ -351,22 +574,59 @@ resent_up_to setting me calls zero = []
 resent_up_to setting me calls (suc k) = resent_up_to setting me calls k ++ resent setting me (calls (suc k))
 
 -- what a brick sends at a tick of its clock: each open operation its present phase again, in the order of
--- beginning
+-- beginning, and then its proposal
 unfoldable pub ticked : Setting → BrickId → Node → List Packet
-ticked setting me node = resent_up_to setting me node.calls node.seq
+ticked setting me node = resent_up_to setting me node.calls node.seq ++ ballot_resent me node.proposal
+
+-- why a running brick does not begin to propose a successor of the view that it has learnt of a group, the first reason of these: there is no such group; it
+-- has a proposal; or the next round, the successor or the next call has no number
+abbrev pub proposal_refusal_in : Node → ℕ → Option Group → Option Refusal
+proposal_refusal_in node number None = Some Refusal.NoStripe
+proposal_refusal_in node number (Some group) =
+    if is_some node.proposal then Some Refusal.Busy
+    else if not (nat_lt node.round (2 ^ 32 - 1)) || (not (nat_lt (view_at node number) (2 ^ 32 - 1)) || nat_eq node.seq (2 ^ 64 - 1)) then Some Refusal.Spent
+    else None
+
+unfoldable pub proposal_refusal : Layout → Node → ℕ → Option Refusal
+proposal_refusal layout node number = proposal_refusal_in node number (group_of layout number)
+
+-- the next call of a brick
+abbrev pub next_call : Node → CallId
+next_call node = record { boot = node.boot; seq = node.seq + 1 }
+
+-- the proposal of a list as the successor of the view that a brick has learnt of a group, under its next ballot
+abbrev pub new_proposal : BrickId → Node → ℕ → GroupId → List BrickId → Proposal
+new_proposal me node m group members =
+    begun_proposal m group (node.learnt group.0).view (next_call node) (next_ballot node.round me (next_call node)) members
+
+-- the brick with a new proposal: its call is the brick's last, and its round the greatest that it used
+abbrev pub proposing : Node → Proposal → Node
+proposing node p = record node { seq = p.call.seq; round = p.ballot.round; proposal = Some p }
+
+-- A brick begins a proposal that is not refused. A list that may not keep the group ends it at once, and uses up neither a call nor a round.
+abbrev pub proposed_in : Setting → BrickId → Node → GroupId → List BrickId → Option Group → NodeStep
+proposed_in setting me node group members None = no_step node
+proposed_in setting me node group members (Some kept) =
+    if is_membership kept.m setting.layout.bricks members
+    then (let p = new_proposal me node kept.m group members in sending (proposing node p) (ballot_packets me p))
+    else reporting node [] (Report.View group None answer.BadMembers)
+
+unfoldable pub proposed : Setting → BrickId → Node → GroupId → List BrickId → NodeStep
+proposed setting me node group members = proposed_in setting me node group members (group_of setting.layout group.0)
 
 -- no operation is open
 abbrev pub no_calls : ℕ → Option Coordinator
 no_calls k = None
 
--- a brick that stopped: its open operations are gone, and what it keeps of stripes stays
+-- a brick that stopped: its open operations, its proposal and its synchronisation are gone, and what it keeps of stripes stays
 unfoldable pub stopped : Node → Node
-stopped node = record node { busy = 0; calls = no_calls }
+stopped node = record node { busy = 0; calls = no_calls; proposal = None; job = None }
 
 -- a stopped brick whose store was opened so many times since, the last time to run: it has made no call, and
--- knows no time
+-- knows no time and no round
 unfoldable pub restarted : ℕ → Node → Node
-restarted openings node = record node { boot = node.boot + openings; seq = 0; known = 0; busy = 0; calls = no_calls }
+restarted openings node =
+    record node { boot = node.boot + openings; seq = 0; known = 0; round = 0; busy = 0; calls = no_calls; proposal = None; job = None }
 
 -- the store can be opened so many times, at least once: it counts its openings, up to 2^32 - 1
 abbrev pub may_open : ℕ → Node → Bool

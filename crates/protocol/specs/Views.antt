@@ -1,6 +1,8 @@
 -- Views: the lists of members that keep a group, one after another, by number from 1 (Saito 2004, section 5).
 use Rattle.messages.specs.declared.packets.Packet.{Packet}
 use Rattle.messages.specs.declared.packets.Message.{Message}
+use Rattle.messages.specs.declared.replies.Reply.{Reply}
+use Rattle.messages.specs.declared.replies.Reply.TheVariants.{Moved}
 use Rattle.std.specs.Prelude.{ℕ, true, false, Bool, not, nat_lt, if◌then◌else◌, List, [], Option, Some, None, max, ◌-◌, ◌∷◌, nat_eq, ◌&&◌}
 use Rattle.std.specs.Option.{option_map, unwrap_or}
 use Rattle.fab_base.specs.declared.identities.BrickId.{BrickId}
@@ -43,6 +45,16 @@ first_learnt layout group =
 -- the view's members, and those before them, may keep a group of m data blocks on a disk of so many bricks
 abbrev pub is_view : ℕ → ℕ → View → Bool
 is_view m bricks view = is_membership m bricks view.members && is_membership m bricks view.prior
+
+-- the view that a reply teaches: a later one that it tells with its members
+abbrev pub view_told : Reply → Option View
+view_told (Moved number (Some lineage)) = Some (record { number = number; members = lineage.members; prior = lineage.prior })
+view_told reply = None
+
+-- the lists of a view that is taught, if one is, may keep a group of m data blocks on a disk of so many bricks
+abbrev pub may_be_taught : ℕ → ℕ → Option View → Bool
+may_be_taught m bricks None = true
+may_be_taught m bricks (Some view) = is_view m bricks view
 
 -- a view is later than the one that was learnt
 abbrev pub is_later : Learnt → View → Bool

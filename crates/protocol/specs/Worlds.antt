@@ -1,11 +1,14 @@
 -- The whole disk, and what a schedule of steps makes of it. Every message that was ever sent may be
 -- delivered, once, often or never, in any order: that is all that a network may do to it.
-use Rattle.std.specs.Prelude.{ℕ, zero, suc, ◌+◌, Bool, true, false, not, nat_eq, nat_lt, ◌&&◌, ◌||◌, if◌then◌else◌, List, [], ◌∷◌, ◌++◌, length, Option, Some, None, is_some, slice_get}
+use Rattle.std.specs.Prelude.{ℕ, zero, suc, ◌+◌, Bool, true, false, not, nat_eq, nat_lt, ◌&&◌, ◌||◌, if◌then◌else◌, List, [], ◌∷◌, ◌++◌, length, map, Option, Some, None, is_some, slice_get}
 use Rattle.fab_base.specs.declared.identities.BrickId.{BrickId}
+use Rattle.fab_base.specs.declared.identities.GroupId.{GroupId}
 use Rattle.fab_base.specs.declared.stamps.Stamp.{Stamp}
 use Rattle.fab_base.specs.declared.asks.Ask.{Ask}
 use Rattle.fab_base.specs.declared.asks.Op.{Op}
 use Rattle.fab_base.specs.declared.answers.Answer.{Answer}
+use Rattle.fab_base.specs.declared.answers.Cause.{Cause}
+use Rattle.fab_base.specs.declared.stamps.Ballot.{Ballot}
 use Rattle.fab_base.specs.declared.answers.Answer.TheVariants.{Data, Done, Aborted}
 use Rattle.fab_base.specs.Stamps.{stamp_same}
 use Rattle.messages.specs.declared.calls.Call.{Call}
@@ -20,7 +23,9 @@ use Rattle.protocol.specs.Settings.{Setting}
 use Rattle.protocol.specs.Views.{view_of}
 use Rattle.protocol.specs.Replicas.{fresh_replica, is_held}
 use Rattle.protocol.specs.Coordinators.{Counted, Coordinator, counts_at}
-use Rattle.protocol.specs.Nodes.{Node, NodeStep, Told, Made, Seen, Answered, view_at, top_at, put, first_node, refusal_of, invoked, received, absorbed, ticked, stopped, restarted, may_open}
+use Rattle.protocol.specs.Proposals.{Proposal, seat_voting}
+use Rattle.synod_laws.specs.Synods.{last_of, ballot_same}
+use Rattle.protocol.specs.Nodes.{Node, NodeStep, Report, Told, Made, Seen, Answered, view_at, top_at, put, first_node, refusal_of, proposal_refusal, invoked, proposed, lists_fit, received, absorbed, ticked, stopped, restarted, may_open}
 
 -- Which of two a store is found to hold, when its brick starts: what it held before the handling that the brick's stop cut short, or what that
 -- handling would have kept.
@@ -28,12 +33,13 @@ pub data Found : Type 0 where
   Before : Found
   After : Found
 
--- What happens next: a brick is asked for an operation; the message of a number, counted from 1 in the order of sending, is delivered; a brick's
+-- What happens next: a brick is asked for an operation, or to propose a list of members as the successor of the view that it has learnt of a group; the message of a number, counted from 1 in the order of sending, is delivered; a brick's
 -- clock reads another time from now on, or ticks; a brick stops, during the handling of the message of a number, which was cut short or failed,
 -- or during none; or a stopped brick starts again, its store having been opened so many times since, the last time to run, and found to hold
 -- one of the two. A start that was itself cut short or failed is none: it may have counted an opening, and leaves both possible.
 pub data Event : Type 0 where
   Invokes : (brick : BrickId) → (ask : Ask) → Event
+  Proposes : (brick : BrickId) → (group : GroupId) → (members : List BrickId) → Event
   Delivers : (number : ℕ) → Event
   Sets : (brick : BrickId) → (time : ℕ) → Event
   Ticks : (brick : BrickId) → Event
@@ -42,8 +48,8 @@ pub data Event : Type 0 where
 
 -- What is known of an operation, by number: its coordinator, how often the store of that had been opened, its
 -- call number, where it begins, what it asks, the version that it made or read, whether it made it, and on
--- which base, whether it was answered, and the number of its marks; and, for the proof alone, the view of its group that
--- it runs in, and how far each brick's part of the stripe had come when it began.
+-- which base, whether it was answered, the number of its marks, 0 if it has none, and how one without marks ended, which is by a cause if it was aborted;
+-- and, for the proof alone, the view of its group that it runs in, and how far each brick's part of the stripe had come when it began.
 pub record Operation : Type 0 where
   pub brick : BrickId
   pub boot : ℕ
@@ -55,12 +61,25 @@ pub record Operation : Type 0 where
   pub base : Option Stamp
   pub answered : Bool
   pub mark : ℕ
+  pub closed : Option (Option Cause)
   pub view : ℕ
   pub floor : ℕ → Stamp
 
+-- What is known of the choices of successors: what bricks reported of proposals and synchronisations, in order; and, for the proof alone, what each brick has
+-- accepted to follow each view (by brick, group, view and ballot), and the replies that counted in each phase of a proposal (by brick, boot, call
+-- number and the phase's).
+pub record Choices : Type 0 where
+  pub reports : List (BrickId × Report)
+  pub votes : ℕ → ℕ → ℕ → Ballot → Option (List BrickId)
+  pub voices : ℕ → ℕ → ℕ → ℕ → List Counted
+
+-- nothing was chosen yet
+abbrev pub no_choices : Choices
+no_choices = record { reports = []; votes = λ i group view ballot. None; voices = λ i b k p. [] }
+
 -- The whole disk: its bricks, which of them are up, and what their clocks read; every message that was ever
 -- sent, in order; the marks, and how many Begins are among them; how many operations have begun, and each by its number; the number of the
--- operation of each call (by brick, boot and call number); and, for the proof alone, the time that a brick
+-- operation of each call (by brick, boot and call number); what is known of the choices of successors; and, for the proof alone, the time that a brick
 -- knew last in each earlier boot, the content of each version (by group, stripe and stamp), which stamps each
 -- brick ever had in its log of a stripe (by brick, group and stripe), the replies that counted in each
 -- phase of an operation (by its number and the phase's), and which messages, by number, were delivered to a brick that was up. Of a brick that is
@@ -76,6 +95,7 @@ pub record World : Type 0 where
   pub begun : ℕ
   pub operations : ℕ → Option Operation
   pub numbers : ℕ → ℕ → ℕ → ℕ
+  pub choices : Choices
   pub past : ℕ → ℕ → ℕ
   pub contents : ℕ → ℕ → Stamp → List ℕ
   pub held : ℕ → ℕ → ℕ → Stamp → Bool
@@ -101,6 +121,7 @@ first_world layout =
       begun = 0;
       operations = λ n. None;
       numbers = λ i b k. 0;
+      choices = no_choices;
       past = λ i b. 0;
       contents = λ group stripe t. zero_content layout.block (group_of layout group);
       held = λ i group stripe t. is_held t (fresh_replica layout.block (view_of t)).log;
@@ -120,6 +141,11 @@ is_up layout w brick = is_brick layout brick && w.up brick.0
 abbrev pub may_begin : Setting → World → BrickId → Ask → Bool
 may_begin setting w brick ask =
     is_up setting.layout w brick && not (is_some (refusal_of setting.layout (w.nodes brick.0) ask))
+
+-- the brick begins a proposal that is not refused
+abbrev pub may_propose : Setting → World → BrickId → GroupId → Bool
+may_propose setting w brick group =
+    is_up setting.layout w brick && not (is_some (proposal_refusal setting.layout (w.nodes brick.0) group.0))
 
 -- the numbers of calls, with that of a brick's last call
 abbrev pub with_number : (ℕ → ℕ → ℕ → ℕ) → ℕ → Node → ℕ → ℕ → ℕ → ℕ → ℕ
@@ -145,6 +171,7 @@ world_began w brick ask step =
         base = None;
         answered = false;
         mark = w.marked + 1;
+        closed = None;
         view = view_at (w.nodes brick.0) ask.group.0;
         floor = λ i. top_at (w.nodes i) ask.group.0 ask.stripe.0;
       }));
@@ -192,6 +219,19 @@ with_content block contents t base (Some o) = content_by block contents t base o
 abbrev pub with_held : (ℕ → ℕ → ℕ → Stamp → Bool) → ℕ → Node → ℕ → ℕ → ℕ → Stamp → Bool
 with_held held i node = put held i (λ group stripe t. held i group stripe t || is_held t (node.replicas group (view_of t) stripe).log)
 
+-- a list that was accepted under a ballot, where the brick's last acceptance is this one, or else what it had accepted under it
+abbrev pub vote_with : Option (List BrickId) → Option (Ballot × List BrickId) → Ballot → Option (List BrickId)
+vote_with earlier None ballot = earlier
+vote_with earlier (Some (accepted, members)) ballot = if ballot_same ballot accepted then Some members else earlier
+
+-- what a brick has accepted last to follow a view of a group
+abbrev pub accepted_in : Node → ℕ → ℕ → Option (Ballot × List BrickId)
+accepted_in node group view = if nat_eq view (view_at node group) then last_of (node.ballots group) else None
+
+-- what bricks have accepted, with what brick i has accepted last
+abbrev pub with_votes : (ℕ → ℕ → ℕ → Ballot → Option (List BrickId)) → ℕ → Node → ℕ → ℕ → ℕ → Ballot → Option (List BrickId)
+with_votes votes i node = put votes i (λ group view ballot. vote_with (votes i group view ballot) (accepted_in node group view) ballot)
+
 -- the number of the operation of a brick's call since it was started last
 abbrev pub number_of : World → ℕ → ℕ → ℕ
 number_of w i seq = w.numbers i (w.nodes i).boot seq
@@ -234,7 +274,16 @@ abbrev pub world_answers : World → BrickId → List Answered → World
 world_answers w brick [] = w
 world_answers w brick (answered ∷ more) = world_answers (world_answered w brick answered) brick more
 
--- the world after a brick's step on a message
+-- what a brick reported, by the brick
+abbrev pub reports_of : BrickId → List Report → List (BrickId × Report)
+reports_of brick reports = map (λ (report : Report). (brick, report)) reports
+
+-- what is known of choices once a brick is this, and reported this
+abbrev pub choices_after : Choices → BrickId → Node → List Report → Choices
+choices_after choices brick node reports =
+    record choices { reports = choices.reports ++ reports_of brick reports; votes = with_votes choices.votes brick.0 node }
+
+-- the world after a brick's step
 abbrev pub world_stepped : Setting → World → BrickId → NodeStep → World
 world_stepped setting w brick step =
     (let told : World = world_answers (world_tells setting w brick step.told) brick step.answers in
@@ -242,6 +291,7 @@ world_stepped setting w brick step =
       nodes = put w.nodes brick.0 step.node;
       held = with_held w.held brick.0 step.node;
       packets = w.packets ++ step.packets;
+      choices = choices_after w.choices brick step.node step.reports;
     })
 
 -- the replies that have counted, with one more
@@ -265,8 +315,45 @@ abbrev pub replies_with : Setting → World → Packet → ℕ → ℕ → List 
 replies_with setting w packet = replies_of packet.message
   where
     replies_of : Message → ℕ → ℕ → List Counted
-    replies_of (Message.Reply call reply) = replies_at setting w packet.to packet.from call reply ((w.nodes packet.to.0).calls call.seq)
+    replies_of (Message.Reply call reply) = (
+        if lists_fit setting.layout call reply
+        then replies_at setting w packet.to packet.from call reply ((w.nodes packet.to.0).calls call.seq) else w.replies
+        )
     replies_of message = w.replies
+
+-- the replies that have counted in a phase of a proposal, with one more: by brick, boot, call number and phase
+abbrev pub with_voiced : (ℕ → ℕ → ℕ → ℕ → List Counted) → ℕ → Call → Counted → ℕ → ℕ → ℕ → ℕ → List Counted
+with_voiced voices i call counted =
+    put voices i (put (voices i) call.boot (put (voices i call.boot) call.seq
+    (put (voices i call.boot call.seq) call.phase (voices i call.boot call.seq call.phase ++ (counted ∷ [])))))
+
+-- the same, with this reply of a brick to brick i, where it counts at this seat
+abbrev pub voiced_after : (ℕ → ℕ → ℕ → ℕ → List Counted) → ℕ → BrickId → Call → Reply → Option ℕ → ℕ → ℕ → ℕ → ℕ → List Counted
+voiced_after voices i from call reply None = voices
+voiced_after voices i from call reply (Some seat) = with_voiced voices i call (record { seat = seat; brick = from; reply = reply })
+
+-- the same, with a reply to this proposal of brick i, if there is one, unless it is to an open operation
+abbrev pub voices_at : Setting → World → ℕ → BrickId → Call → Reply → Option Coordinator → Option Proposal → ℕ → ℕ → ℕ → ℕ → List Counted
+voices_at setting w i from call reply (Some c) proposal = w.choices.voices
+voices_at setting w i from call reply None None = w.choices.voices
+voices_at setting w i from call reply None (Some p) =
+    voiced_after w.choices.voices i from call reply (seat_voting setting.layout.bricks p from.0 call reply)
+
+-- the replies that have counted in proposals once this packet is delivered
+abbrev pub voices_with : Setting → World → Packet → ℕ → ℕ → ℕ → ℕ → List Counted
+voices_with setting w packet = voices_of packet.message
+  where
+    voices_of : Message → ℕ → ℕ → ℕ → ℕ → List Counted
+    voices_of (Message.Reply call reply) = (
+        if lists_fit setting.layout call reply
+        then voices_at setting w packet.to.0 packet.from call reply ((w.nodes packet.to.0).calls call.seq) (w.nodes packet.to.0).proposal
+        else w.choices.voices
+        )
+    voices_of message = w.choices.voices
+
+-- what is known of choices once this packet is delivered, but for what its brick does
+abbrev pub voiced : Setting → World → Packet → Choices
+voiced setting w packet = record w.choices { voices = voices_with setting w packet }
 
 -- the packet of a number is delivered to a brick of the layout that is up; it counts as delivered also if the brick ignores it
 abbrev pub delivered : Setting → World → ℕ → Option Packet → World
@@ -274,7 +361,7 @@ delivered setting w number None = w
 delivered setting w number (Some packet) =
     if is_up setting.layout w packet.to
     then (let step = received setting packet.to (w.clocks packet.to.0) (w.nodes packet.to.0) packet in
-    world_stepped setting (record w { replies = replies_with setting w packet; reached = put w.reached number true }) packet.to step)
+    world_stepped setting (record w { replies = replies_with setting w packet; choices = voiced setting w packet; reached = put w.reached number true }) packet.to step)
     else w
 
 -- a brick's clock ticks
@@ -321,7 +408,11 @@ world_stopped setting w brick during =
 abbrev pub world_found : World → BrickId → Found → World
 world_found w brick Before = w
 world_found w brick After =
-    record w { nodes = put w.nodes brick.0 (w.after brick.0); held = with_held w.held brick.0 (w.after brick.0) }
+    record w {
+      nodes = put w.nodes brick.0 (w.after brick.0);
+      held = with_held w.held brick.0 (w.after brick.0);
+      choices = choices_after w.choices brick (w.after brick.0) [];
+    }
 
 -- the world after a stopped brick was started again, with what it keeps
 abbrev pub world_started : World → BrickId → ℕ → World
@@ -341,12 +432,14 @@ may_start layout w brick openings = is_brick layout brick && (not (w.up brick.0)
 abbrev pub known_in : World → ℕ → ℕ → ℕ
 known_in w i boot = if nat_eq boot (w.nodes i).boot then (w.nodes i).known else w.past i boot
 
--- the world after an event; what cannot happen changes nothing: an operation that is refused, a number that
+-- the world after an event; what cannot happen changes nothing: an operation or a proposal that is refused, a number that
 -- was not sent, a brick that the layout has not, a stopped brick that is to stop, handle a message or tick,
 -- and one that is to start though it is up
 unfoldable pub happens : Setting → World → Event → World
 happens setting w (Invokes brick ask) =
     if may_begin setting w brick ask then world_began w brick ask (invoked setting brick (w.clocks brick.0) (w.nodes brick.0) ask) else w
+happens setting w (Proposes brick group members) =
+    if may_propose setting w brick group then world_stepped setting w brick (proposed setting brick (w.nodes brick.0) group members) else w
 happens setting w (Delivers number) = delivered setting w number (packet_of w.packets number)
 happens setting w (Sets brick time) = if is_brick setting.layout brick then record w { clocks = put w.clocks brick.0 time } else w
 happens setting w (Ticks brick) = if is_up setting.layout w brick then world_ticked setting w brick else w

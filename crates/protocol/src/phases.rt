@@ -1,6 +1,6 @@
 //! The phases of an operation at its coordinator, and the replies that count in them.
 
-use fab_base::{BrickId, Stamp};
+use fab_base::{BrickId, Stamp, ViewNo};
 use messages::Reply;
 
 /// The phase that an operation is in (Frølund 2004: a read looks, and recovers where it finds no version that
@@ -65,4 +65,15 @@ pub struct FullMember {
     pub brick: BrickId,
     /// How many live records it keeps.
     pub live: u32,
+}
+
+/// A member that serves the operation's view no more.
+#[derive(Clone, Copy, PartialEq, Eq)]
+pub struct Mover {
+    /// The member's seat.
+    pub seat: u8,
+    /// The member.
+    pub brick: BrickId,
+    /// The number of the later view that it has learnt, or of the one that it has accepted a list for.
+    pub view: ViewNo,
 }

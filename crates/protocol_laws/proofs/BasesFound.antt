@@ -3,7 +3,7 @@ use Rattle.std.proofs.Common.{◌≡◌, ℕ, ◌++◌, ◌∷◌, [], false, Op
 use Rattle.protocol.specs.Views.{Views}
 use Rattle.protocol.specs.Settings.{Setting, IsSound}
 use Rattle.protocol.specs.declared.phases.Counted.{Counted}
-use Rattle.protocol.specs.Coordinators.{greatest_refuser, lowest_full}
+use Rattle.protocol.specs.Coordinators.{greatest_refuser, lowest_full, lowest_mover}
 use Rattle.protocol.specs.Worlds.{World}
 use Rattle.protocol.proofs.CountsAt.{CountsAt, counts_facts}
 use Rattle.protocol_laws.specs.Laws.{BasesAreFound}
@@ -19,10 +19,10 @@ is_none (Some x) isnt = cc
 
 pub bases_found : (setting : Setting) (views : Views) → IsSound setting → (w : World) (stamps : Stamping) → Books setting w → Said setting views w stamps
     → BasesAreFound setting w
-bases_found setting views sound w stamps books said i k seat c base from reply is reads sent counts many unrefused roomy =
+bases_found setting views sound w stamps books said i k seat c base from reply is reads sent counts many unrefused roomy stays =
     base_enough setting views sound w stamps (record { 0 = i }) c books said call (c.counted ++ (one ∷ []))
     (each_more (CountedSays setting views w i c) c.counted one says.counted new_says) (once_more c.counted one says.once facts.first)
-    many base reads (is_none (greatest_refuser (c.counted ++ (one ∷ []))) unrefused) (is_none (lowest_full (c.counted ++ (one ∷ []))) roomy)
+    many base reads (is_none (greatest_refuser (c.counted ++ (one ∷ []))) unrefused) (is_none (lowest_mover (c.counted ++ (one ∷ []))) stays, is_none (lowest_full (c.counted ++ (one ∷ []))) roomy)
   where
     one : Counted
     one = record { seat = seat; brick = from; reply = reply }

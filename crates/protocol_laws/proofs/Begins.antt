@@ -93,6 +93,7 @@ module _ (setting : Setting) (views : Views) (w : World) (stamps : Stamping) (me
         base = None;
         answered = false;
         mark = w.marked + 1;
+        closed = None;
         view = view_at (w.nodes me.0) ask.group.0;
         floor = λ i. top_at (w.nodes i) ask.group.0 ask.stripe.0;
       }
@@ -349,7 +350,7 @@ module _ (setting : Setting) (views : Views) (w : World) (stamps : Stamping) (me
           (λ now. let here : (put w.nodes me.0 node me.0).seq ≡ c.call.seq = ap (λ (x : Node). x.seq) (put_same w.nodes me.0 node) in omega arith);
       tops = λ g e s i. inl (ap (λ (r : Replica). top_of r) (part_same w next me.0 node refl refl g e s i));
       logs = λ g e s i k version is. inl (k, ap (λ (r : Replica). slice_get r.log k) (sym (part_same w next me.0 node refl refl g e s i)) ∙ is);
-      lowest = λ g e s i x log is. inl (log, ap (λ (r : Replica). r.log) (sym (part_same w next me.0 node refl refl g e s i)) ∙ is);
+      lowest = λ g e s i x log within is. inl (log, ap (λ (r : Replica). r.log) (sym (part_same w next me.0 node refl refl g e s i)) ∙ is);
       packets = λ k packet is. ⊎_elim
           (λ (there : slice_get w.packets k ≡ Some packet). inl there)
           (λ (sent : (j : ℕ) × (slice_get (phase_packets setting me c) j ≡ Some packet)).

@@ -69,6 +69,7 @@ module _ (setting : Setting) (w : World) (brick : BrickId) (now : ℕ) (ask : As
     base = None;
     answered = false;
     mark = w.marked + 1;
+    closed = None;
     view = view_at (w.nodes i) ask.group.0;
     floor = λ j. top_at (w.nodes j) ask.group.0 ask.stripe.0;
   }

@@ -1,6 +1,6 @@
 -- The books of a world where an open operation ended, or where a brick stopped.
 use Rattle.fab_base.specs.declared.stamps.Stamp.{Stamp}
-use Rattle.std.proofs.Common.{inl, ◌≡◌, ◌≢◌, ℕ, ◌<◌, ◌≤◌, ⊎_elim, true, false, Option, Some, None, refl, sym, ap, ◌∙◌, subst, arith, List, [], ◌∷◌, ◌++◌, length, Bool}
+use Rattle.std.proofs.Common.{◌≡◌, ◌≢◌, ℕ, ◌<◌, ◌≤◌, ⊎_elim, true, false, Option, Some, None, refl, sym, ap, ◌∙◌, subst, arith, List, [], ◌∷◌, ◌++◌, length, Bool}
 use Rattle.std.proofs.lemmas.Option.{same_Some}
 use Rattle.std.proofs.lemmas.Bool.{cases_eq}
 use Rattle.fab_base.specs.declared.identities.BrickId.{BrickId}
@@ -16,7 +16,7 @@ use Rattle.protocol.specs.Settings.{Setting}
 use Rattle.protocol.specs.declared.phases.Counted.{Counted}
 use Rattle.protocol.specs.Coordinators.{Coordinator}
 use Rattle.protocol.specs.Nodes.{Node, has_length, no_calls, stopped, has_block}
-use Rattle.protocol.specs.Worlds.{World, Operation, own_mark, is_answer, number_of, world_stopped}
+use Rattle.protocol.specs.Worlds.{World, Operation, own_mark, is_answer, number_of, world_stopped, Choices}
 use Rattle.protocol_laws.proofs.Books.{Books, OperationBooks, CallBooks, IsOperation, IsCall}
 use Rattle.protocol_laws.proofs.MarkNumbers.{own_by}
 use Rattle.protocol_laws.proofs.BooksKept.{KeepsNumbers, operation_stays, operation_kept, call_kept, number_at, calls_apart, cases_call, keeps_all}
@@ -56,8 +56,8 @@ pub record Ended (w : World) (i k : ℕ) (c : Coordinator) (before o : Operation
   pub other_operations : (m : ℕ) → m ≢ number_of w i k → operations m ≡ w.operations m
 
 -- the world with these bricks, packets, operations and counted replies, and an End of operation n
-abbrev pub ended_world : World → (ℕ → Node) → (ℕ → ℕ → ℕ → Stamp → Bool) → List Packet → (ℕ → Option Operation) → (ℕ → ℕ → List Counted) → ℕ → Answer → World
-ended_world w nodes held packets operations replies n answer =
+abbrev pub ended_world : World → (ℕ → Node) → (ℕ → ℕ → ℕ → Stamp → Bool) → List Packet → (ℕ → Option Operation) → (ℕ → ℕ → List Counted) → Choices → ℕ → Answer → World
+ended_world w nodes held packets operations replies choices n answer =
     record {
       nodes = nodes;
       after = w.after;
@@ -69,6 +69,7 @@ ended_world w nodes held packets operations replies n answer =
       begun = w.begun;
       operations = operations;
       numbers = w.numbers;
+      choices = choices;
       past = w.past;
       contents = w.contents;
       held = held;
@@ -78,11 +79,11 @@ ended_world w nodes held packets operations replies n answer =
 
 module _ (setting : Setting) (w : World) (i k : ℕ) (c : Coordinator) (before o : Operation) (answer : Answer) (nodes : ℕ → Node) (held : ℕ → ℕ → ℕ → Stamp → Bool)
     (packets : List Packet)
-    (operations : ℕ → Option Operation) (replies : ℕ → ℕ → List Counted) (books : Books setting w)
+    (operations : ℕ → Option Operation) (replies : ℕ → ℕ → List Counted) (choices : Choices) (books : Books setting w)
     (ended : Ended w i k c before o answer nodes operations) where
   -- the world after the end
   abbrev later : World
-  later = ended_world w nodes held packets operations replies (number_of w i k) answer
+  later = ended_world w nodes held packets operations replies choices (number_of w i k) answer
 
   call : CallBooks setting w i k c
   call = books.calls i k c ended.was
@@ -121,8 +122,8 @@ module _ (setting : Setting) (w : World) (i k : ℕ) (c : Coordinator) (before o
             (ended.keeps o.brick.0).boot ∙ ap (λ (j : ℕ). (w.nodes j).boot) at in
             let boot : o.boot ≡ before.boot = ended.boot in
             (omega (arith, own.booted.0), omega (arith, own.booted.1)));
-        called = (let seqs : (nodes o.brick.0).seq ≡ (w.nodes before.brick.0).seq =
-            (ended.keeps o.brick.0).seq ∙ ap (λ (j : ℕ). (w.nodes j).seq) at in
+        called = (let seqs : (w.nodes o.brick.0).seq ≤ (nodes o.brick.0).seq = (ended.keeps o.brick.0).seq in
+            let there : (w.nodes o.brick.0).seq ≡ (w.nodes before.brick.0).seq = ap (λ (j : ℕ). (w.nodes j).seq) at in
             let seq : o.seq ≡ before.seq = ended.seq in (
               omega (arith, own.called.0),
               λ present.
@@ -170,7 +171,7 @@ module _ (setting : Setting) (w : World) (i k : ℕ) (c : Coordinator) (before o
             (λ (other : n ≢ number_of w i k).
             let old : IsOperation w n x = sym (ended.other_operations n other) ∙ is in
             let mine : OperationBooks setting w n x = books.operations n x old in
-            let seqs : (nodes x.brick.0).seq ≡ (w.nodes x.brick.0).seq = (ended.keeps x.brick.0).seq in
+            let seqs : (w.nodes x.brick.0).seq ≤ (nodes x.brick.0).seq = (ended.keeps x.brick.0).seq in
             operation_kept setting w later n x mine (omega arith) refl (ended.keeps x.brick.0).boot (omega arith) (other_life n other)
             (λ present e was. (e, ended.other_calls x.brick.0 x.seq (λ at seq. other (number_at setting w n x mine present i k at seq)) ∙ was)))
             (cases_eq n (number_of w i k));
@@ -192,7 +193,7 @@ module _ (setting : Setting) (w : World) (i k : ℕ) (c : Coordinator) (before o
             (λ (mine : (j ≡ i) × (l ≡ k)).
             subst (λ (x : ℕ). (nodes x).calls l ≡ None) (sym mine.0) (subst (λ (y : ℕ). (nodes i).calls y ≡ None) (sym mine.1) ended.call_is))
             (λ (other : j ≡ i → l ≡ k → ⊥).
-            let seqs : (nodes j).seq ≡ (w.nodes j).seq = (ended.keeps j).seq in
+            let seqs : (w.nodes j).seq ≤ (nodes j).seq = (ended.keeps j).seq in
             ended.other_calls j l other ∙ books.fresh_calls j l (omega arith))
             (cases_call i k j l);
         lives = λ n life is. ⊎_elim
@@ -215,12 +216,16 @@ module _ (setting : Setting) (w : World) (brick : BrickId) (during : Option ℕ)
     boot = (w.nodes i).boot;
     seq = (w.nodes i).seq;
     known = (w.nodes i).known;
+    round = (w.nodes i).round;
     busy = 0;
     live = (w.nodes i).live;
+    live_in = (w.nodes i).live_in;
     learnt = (w.nodes i).learnt;
-    accepted = (w.nodes i).accepted;
+    ballots = (w.nodes i).ballots;
     replicas = (w.nodes i).replicas;
     calls = no_calls;
+    proposal = None;
+    job = None;
   }
 
   -- the world once it has stopped
@@ -231,7 +236,7 @@ module _ (setting : Setting) (w : World) (brick : BrickId) (during : Option ℕ)
   pub stopped_keeps : (j : ℕ) → KeepsNumbers (w.nodes j) (shut.nodes j)
   unfolding stopped
   stopped_keeps j = put_each (λ (x : ℕ) (y : Node). KeepsNumbers (w.nodes x) y) w.nodes i node
-      (record { boot = refl; seq = refl; learnt = refl; accepted = refl; parts = λ g e s. inl refl; known = omega arith })
+      (record { boot = refl; seq = omega arith; known = omega arith })
       (λ x other. keeps_all (w.nodes x)) j
 
   -- this brick has no call left, and others keep theirs
@@ -254,14 +259,14 @@ module _ (setting : Setting) (w : World) (brick : BrickId) (during : Option ℕ)
   -- an operation of another brick
   other_stays : (n : ℕ) (o : Operation) → OperationBooks setting w n o → o.brick.0 ≢ i → OperationBooks setting shut n o
   other_stays n o mine other =
-      let seqs : (shut.nodes o.brick.0).seq ≡ (w.nodes o.brick.0).seq = (stopped_keeps o.brick.0).seq in
+      let seqs : (w.nodes o.brick.0).seq ≤ (shut.nodes o.brick.0).seq = (stopped_keeps o.brick.0).seq in
       operation_kept setting w shut n o mine (omega arith) refl (stopped_keeps o.brick.0).boot (omega arith) (life_stays n o mine (λ open'. other))
       (λ boot c call. (c, unstopped_calls o.brick.0 o.seq other ∙ call))
 
   -- an operation that is not open
   shut_stays : (n : ℕ) (o : Operation) → OperationBooks setting w n o → (IsOpen (life_of w.marks n) → ⊥) → OperationBooks setting shut n o
   shut_stays n o mine ended' =
-      let seqs : (shut.nodes o.brick.0).seq ≡ (w.nodes o.brick.0).seq = (stopped_keeps o.brick.0).seq in
+      let seqs : (w.nodes o.brick.0).seq ≤ (shut.nodes o.brick.0).seq = (stopped_keeps o.brick.0).seq in
       let boots : (shut.nodes o.brick.0).boot ≡ (w.nodes o.brick.0).boot = (stopped_keeps o.brick.0).boot in
       operation_stays setting w shut n o mine (omega arith) refl (omega arith)
       (λ present. (let least : o.seq ≤ (w.nodes o.brick.0).seq = mine.called.1 (present ∙ boots) in omega arith))
@@ -272,7 +277,7 @@ module _ (setting : Setting) (w : World) (brick : BrickId) (during : Option ℕ)
   interrupted_books : (n : ℕ) (o : Operation) → OperationBooks setting w n o → o.brick.0 ≡ i → IsOpen (life_of w.marks n)
       → OperationBooks setting shut n o
   interrupted_books n o mine at open' =
-      let seqs : (shut.nodes o.brick.0).seq ≡ (w.nodes o.brick.0).seq = (stopped_keeps o.brick.0).seq in
+      let seqs : (w.nodes o.brick.0).seq ≤ (shut.nodes o.brick.0).seq = (stopped_keeps o.brick.0).seq in
       let boots : (shut.nodes o.brick.0).boot ≡ (w.nodes o.brick.0).boot = (stopped_keeps o.brick.0).boot in
       let unended : IsUnended mine.life.ending = subst (λ (l : Option Life). IsOpen l) mine.life_is open' in
       record {
@@ -339,7 +344,7 @@ module _ (setting : Setting) (w : World) (brick : BrickId) (during : Option ℕ)
         fresh_calls = λ j k lt. ⊎_elim
             (λ (mine : j ≡ i). ap (λ (x : ℕ). (shut.nodes x).calls k) mine ∙ stopped_calls k)
             (λ (other : j ≢ i).
-            let seqs : (shut.nodes j).seq ≡ (w.nodes j).seq = (stopped_keeps j).seq in
+            let seqs : (w.nodes j).seq ≤ (shut.nodes j).seq = (stopped_keeps j).seq in
             unstopped_calls j k other ∙ books.fresh_calls j k (omega arith))
             (cases_eq j i);
         lives = λ n life is. (let old = lived_before_crash w.marks (length w.marks) n brick life is in books.lives n old.0 old.1);

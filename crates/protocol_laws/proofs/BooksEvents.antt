@@ -1,6 +1,6 @@
 -- Every event keeps the books.
 use Rattle.std.specs.Option.{option_map}
-use Rattle.protocol.specs.Views.{kept_by}
+use Rattle.protocol.specs.Views.{kept_by, view_told}
 use Rattle.std.proofs.Common.{◌≡◌, ◌≢◌, ℕ, ◌+◌, ◌-◌, ◌<◌, ◌≤◌, ◌⊎◌, inl, inr, ◌^◌, Bool, true, false, not, ◌&&◌, cond, is_some, Option, Some, None, refl, sym, ap, ◌∙◌, subst, arith, List, [], ◌++◌, ⊎_elim}
 use Rattle.std.specs.Prelude.{nat_lt, max}
 use Rattle.std.proofs.lemmas.Option.{same_Some}
@@ -16,21 +16,29 @@ use Rattle.messages.specs.declared.packets.Message.{Message}
 use Rattle.messages.specs.declared.packets.Packet.{Packet}
 use Rattle.messages.specs.declared.requests.Request.{Request}
 use Rattle.messages.specs.declared.replies.Reply.{Reply}
-use Rattle.fab_base.specs.Layouts.{Group, group_of}
+use Rattle.fab_base.specs.Layouts.{Layout, Group, group_of}
+use Rattle.fab_base.specs.declared.identities.GroupId.{GroupId}
+use Rattle.fab_base.specs.declared.member_lists.View.{View}
+use Rattle.protocol.specs.Ballots.{Voted}
+use Rattle.protocol.specs.declared.tellings.Report.{Report}
 use Rattle.protocol.specs.Settings.{Setting}
 use Rattle.protocol.specs.Replicas.{handle}
 use Rattle.protocol.specs.declared.phases.Phase.{Phase}
 use Rattle.protocol.specs.declared.phases.Phase.TheVariants.{Looks, LooksAt, Orders, OrdersAt, Recovers, Descends, Modifies, Bases, Stores}
 use Rattle.protocol.specs.declared.phases.Counted.{Counted}
 use Rattle.protocol.specs.Coordinators.{Coordinator, Next, Ignores, Waits, Sends, Makes, Ends, most_rounds, with_reply, once_full, counted_at, counts_at, on_reply}
-use Rattle.protocol.specs.Nodes.{Node, NodeStep, put, no_step, has_block, has_length, refusal_in, refusal_of, began, invoked, with_replica, replica_at, full_at, reply_packets, requested, absorbed, ticked, may_open, has_later_time, next_time, new_stamp, fresh_stamp, known_after, with_call, with_known, carried_out, phase_packets, collect_packets, sending, replied_at, replied, received, group_at}
-use Rattle.protocol.specs.Worlds.{World, world_found, Operation, Found, Before, After, Found, Before, After, Event, is_answer, first_world, is_brick, is_up, may_begin, number_of, may_start, world_found, world_began, world_stepped, with_made, with_seen, with_answer, with_content, replies_with, run, with_held}
+use Rattle.protocol.specs.Nodes.{Node, NodeStep, put, no_step, has_block, has_length, refusal_in, refusal_of, began, invoked, with_replica, replica_at, full_at, reply_packets, requested, ticked, may_open, has_later_time, next_time, new_stamp, fresh_stamp, known_after, with_call, with_known, carried_out, phase_packets, collect_packets, sending, replied_at, heard, received, group_at, vote_at, with_round, proposed, node_taught_by, node_learnt, view_counted, lists_fit}
+use Rattle.protocol.specs.Worlds.{World, world_found, Operation, Found, Before, After, Found, Before, After, Event, is_answer, first_world, is_brick, is_up, may_begin, number_of, may_start, world_found, world_began, world_stepped, with_made, with_seen, with_answer, with_content, replies_with, voiced, run, with_held, choices_after, Choices}
 use Rattle.protocol_laws.specs.Laws.{WasSent}
 use Rattle.protocol.proofs.Served.{request_each}
-use Rattle.protocol_laws.proofs.Left.{IsLeft, Leaves, always_leaves, found_down}
+use Rattle.protocol_laws.proofs.Left.{IsLeft, kept_of, Leaves, always_leaves, found_down}
 use Rattle.protocol_laws.proofs.Books.{Replies, version_after, Books, CallBooks, IsCall, IsUnmade, MadeInPhase, InRound, IsMade}
 use Rattle.protocol_laws.proofs.MarkNumbers.{own_number, own_seen}
-use Rattle.protocol_laws.proofs.BooksKept.{KeepsNumbers, keeps_all, keeps_known, keeps_with_call, keeps_replica}
+use Rattle.protocol_laws.proofs.BooksKept.{KeepsNumbers, KeepsCalls, keeps_all, keeps_itself, keeps_known, keeps_with_call}
+use Rattle.protocol_laws.proofs.Votes.{with_vote}
+use Rattle.protocol_laws.proofs.Proposing.{ballot_each, proposed_each}
+use Rattle.protocol_laws.proofs.Teaching.{told_each, learnt_each}
+use Rattle.protocol_laws.proofs.Hearing.{kept_world, taught_by, hearing_each}
 use Rattle.protocol_laws.proofs.BooksQuiet.{books_quiet, books_started}
 use Rattle.protocol_laws.proofs.BooksTurns.{IsBookedStamp, books_turned}
 use Rattle.protocol_laws.proofs.BooksEnds.{ended_world, books_ended, books_stopped}
@@ -38,7 +46,7 @@ use Rattle.protocol_laws.proofs.BooksBegins.{books_began}
 use Rattle.protocol_laws.proofs.Outcomes.{SameOperation, IsRound, ReordersFits, RecoversFits, SendsFits, EndFits, NextFits, once_full_fits, IsLook, IsMaking, RebuildsIn, RebuildsFits, MakesIn, unmade_again, unmade_recovers}
 use Rattle.protocol.proofs.Puts.{put_other}
 use Rattle.protocol.proofs.Tables.{put_each, put_same}
-use Rattle.protocol.proofs.Events.{EventCases, always_where, world_handled}
+use Rattle.protocol.proofs.Events.{EventCases, always_where, world_counting, world_handled}
 
 -- a brick that keeps its numbers, among those that stay
 pub keeps_put : (w : World) (i : ℕ) (node : Node) → KeepsNumbers (w.nodes i) node → (j : ℕ) → KeepsNumbers (w.nodes j) (put w.nodes i node j)
@@ -51,13 +59,26 @@ module _ (setting : Setting) (w : World) where
   abbrev pub stepped : Replies → BrickId → NodeStep → World
   stepped replies brick step = world_stepped setting (record w { replies = replies }) brick step
 
-  -- a step that tells nothing and keeps a brick's calls and numbers keeps the books
+  -- a step that tells nothing and keeps a brick's calls and numbers keeps the books, whatever it reports
+  pub books_silent : (replies : Replies) (brick : BrickId) (node : Node) (packets : List Packet) (reports : List Report) → Books setting w
+      → KeepsCalls (w.nodes brick.0) node
+      → Books setting (stepped replies brick (record { node = node; packets = packets; told = []; answers = []; reports = reports }))
+  books_silent replies brick node packets reports books keeps =
+      books_quiet setting w (put w.nodes brick.0 node) (with_held w.held brick.0 node) w.clocks (w.packets ++ packets) replies w.reached _ books
+      (keeps_put w brick.0 node keeps.0)
+      (λ j l. put_each (λ (x : ℕ) (y : Node). y.calls l ≡ (w.nodes x).calls l) w.nodes brick.0 node (keeps.1 l) (λ x other. refl) j)
+
   books_nothing : (replies : Replies) (brick : BrickId) (node : Node) (packets : List Packet) → Books setting w
       → KeepsNumbers (w.nodes brick.0) node → ((l : ℕ) → node.calls l ≡ (w.nodes brick.0).calls l)
       → Books setting (stepped replies brick (sending node packets))
-  books_nothing replies brick node packets books keeps calls =
-      books_quiet setting w (put w.nodes brick.0 node) (with_held w.held brick.0 node) w.clocks (w.packets ++ packets) replies w.reached books (keeps_put w brick.0 node keeps)
-      (λ j l. put_each (λ (x : ℕ) (y : Node). y.calls l ≡ (w.nodes x).calls l) w.nodes brick.0 node (calls l) (λ x other. refl) j)
+  books_nothing replies brick node packets books keeps calls = books_silent replies brick node packets [] books (keeps, calls)
+
+  -- the world in which a brick keeps what it is now
+  pub books_kept : (me : BrickId) (node : Node) → Books setting w → KeepsCalls (w.nodes me.0) node → Books setting (kept_world w me node)
+  books_kept me node books keeps =
+      books_quiet setting w (put w.nodes me.0 node) (with_held w.held me.0 node) w.clocks w.packets w.replies w.reached _ books
+      (keeps_put w me.0 node keeps.0)
+      (λ j l. put_each (λ (x : ℕ) (y : Node). y.calls l ≡ (w.nodes x).calls l) w.nodes me.0 node (keeps.1 l) (λ x other. refl) j)
 
   -- a brick that changes nothing
   books_no_step : (replies : Replies) (brick : BrickId) → Books setting w
@@ -77,10 +98,24 @@ module _ (setting : Setting) (w : World) where
   books_requested replies me from call request books =
       request_each (λ (step : NodeStep). Books setting (stepped replies me step)) setting me from (w.nodes me.0) call request
       (books_no_step replies me books)
-      (λ group seat here at view.
+      (λ moved is. books_nothing replies me (w.nodes me.0) (reply_packets me from call (Some moved)) books (keeps_all (w.nodes me.0)) (λ l. refl))
+      (λ group seat here served.
       let reaction = handle setting.code group.m (full_at setting.layout.records (w.nodes me.0).live) seat (replica_at (w.nodes me.0) call) request in
       books_nothing replies me (with_replica (w.nodes me.0) call reaction) (reply_packets me from call reaction.reply) books
-      (keeps_replica (w.nodes me.0) call reaction view) (λ l. refl))
+      (record { boot = refl; seq = omega arith; known = omega arith }) (λ l. refl))
+      (λ group ballot asked here.
+      let vote : Voted = vote_at (w.nodes me.0) call ballot asked in
+      books_nothing replies me (with_vote (w.nodes me.0) call vote) (reply_packets me from call (Some vote.reply)) books
+      (record { boot = refl; seq = omega arith; known = omega arith }) (λ l. refl))
+
+  -- a brick begins a proposal
+  books_proposed : (me : BrickId) (group : GroupId) (members : List BrickId) → Books setting w
+      → Books setting (stepped w.replies me (proposed setting me (w.nodes me.0) group members))
+  books_proposed me group members books =
+      proposed_each (λ (step : NodeStep). Books setting (stepped w.replies me step)) setting me (w.nodes me.0) group members
+      (λ seq round proposal packets reports more are.
+      books_silent w.replies me (record (w.nodes me.0) { seq = seq; round = round; proposal = proposal }) packets reports books
+      (record { boot = refl; seq = more; known = omega arith }, λ l. refl))
 
 -- what an operation made is of its stamp and on its base, whatever else its coordinator holds
 made_same : (c d : Coordinator) (o : Operation) (p q : Phase) → d.stamp ≡ c.stamp → d.base ≡ c.base → q ≡ p → MadeInPhase c o p → MadeInPhase d o q
@@ -247,6 +282,7 @@ module _ (setting : Setting) (w : World) (replies : Replies) (me : BrickId) (now
   abbrev then' : Coordinator
   then' = record {
     group = c.group;
+    prior = c.prior;
     ask = c.ask;
     stamp = c.stamp;
     round = c.round;
@@ -350,6 +386,7 @@ module _ (setting : Setting) (w : World) (replies : Replies) (me : BrickId) (now
     base = mine.operation.base;
     answered = is_answer answer;
     mark = mine.operation.mark;
+    closed = mine.operation.closed;
     view = mine.operation.view;
     floor = mine.operation.floor;
   }
@@ -358,12 +395,15 @@ module _ (setting : Setting) (w : World) (replies : Replies) (me : BrickId) (now
   books_ends : (answer : Answer) (seen stored : Option Stamp) → EndFits c.phase answer seen → (mark : ℕ) → mark ≡ n → (operations : ℕ → Option Operation)
       → operations n ≡ Some (ended answer seen) → ((m : ℕ) → m ≢ n → operations m ≡ w.operations m)
       → Books setting (ended_world w (put w.nodes i (with_call node known (node.busy - 1) k None))
-      (with_held w.held i (with_call node known (node.busy - 1) k None)) (w.packets ++ collect_packets me c stored) operations replies mark answer)
+      (with_held w.held i (with_call node known (node.busy - 1) k None)) (w.packets ++ collect_packets me c stored) operations replies
+      (choices_after w.choices me (with_call node known (node.busy - 1) k None) []) mark answer)
   books_ends answer seen stored fits mark own operations is_ended others =
       subst (λ (m : ℕ). Books setting (ended_world w (put w.nodes i (with_call node known (node.busy - 1) k None))
-      (with_held w.held i (with_call node known (node.busy - 1) k None)) (w.packets ++ collect_packets me c stored) operations replies m answer)) (sym own)
+      (with_held w.held i (with_call node known (node.busy - 1) k None)) (w.packets ++ collect_packets me c stored) operations replies
+      (choices_after w.choices me (with_call node known (node.busy - 1) k None) []) m answer)) (sym own)
       (books_ended setting w i k c mine.operation (ended answer seen) answer (put w.nodes i (with_call node known (node.busy - 1) k None))
-      (with_held w.held i (with_call node known (node.busy - 1) k None)) (w.packets ++ collect_packets me c stored) operations replies books
+      (with_held w.held i (with_call node known (node.busy - 1) k None)) (w.packets ++ collect_packets me c stored) operations replies
+      (choices_after w.choices me (with_call node known (node.busy - 1) k None) []) books
       (record {
         was = is_call;
         operation_was = mine.operation_is;
@@ -388,7 +428,7 @@ module _ (setting : Setting) (w : World) (replies : Replies) (me : BrickId) (now
   books_carried_out Ignores fits = absurd fits
   books_carried_out (Waits d) fits =
       books_turned setting w i k c d mine.operation mine.operation (put w.nodes i (with_call node known node.busy k (Some d))) (with_held w.held i (with_call node known node.busy k (Some d))) (w.packets ++ [])
-      w.operations w.contents replies books
+      w.operations w.contents replies _ books
       (record {
         was = is_call;
         operation_was = mine.operation_is;
@@ -407,7 +447,7 @@ module _ (setting : Setting) (w : World) (replies : Replies) (me : BrickId) (now
   books_carried_out (Sends d) fits =
       let time : ℕ = max known d.stamp.time in
       books_turned setting w i k c d mine.operation mine.operation (put w.nodes i (with_call node time node.busy k (Some d))) (with_held w.held i (with_call node time node.busy k (Some d)))
-      (w.packets ++ phase_packets setting me d) w.operations w.contents replies books
+      (w.packets ++ phase_packets setting me d) w.operations w.contents replies _ books
       (record {
         was = is_call;
         operation_was = mine.operation_is;
@@ -435,12 +475,13 @@ module _ (setting : Setting) (w : World) (replies : Replies) (me : BrickId) (now
         base = d.base;
         answered = mine.operation.answered;
         mark = mine.operation.mark;
+        closed = mine.operation.closed;
         view = mine.operation.view;
         floor = mine.operation.floor;
       } in
       books_turned setting w i k c d mine.operation o (put w.nodes i (with_call node known node.busy k (Some d))) (with_held w.held i (with_call node known node.busy k (Some d)))
       (w.packets ++ phase_packets setting me d) (put w.operations n (with_made d.stamp d.base (w.operations n)))
-      (with_content setting.layout.block w.contents d.stamp d.base (w.operations n)) replies books
+      (with_content setting.layout.block w.contents d.stamp d.base (w.operations n)) replies _ books
       (record {
         was = is_call;
         operation_was = mine.operation_is;
@@ -496,38 +537,70 @@ module _ (setting : Setting) (w : World) where
       → Books setting (stepped setting w replies me (replied_at setting me now from (w.nodes me.0) call reply found))
   unfolding on_reply
   books_replied_at replies me now from call reply None books is =
-      books_known setting w replies me (known_after (w.nodes me.0).known reply) books (known_grows (w.nodes me.0).known reply)
+      let known : ℕ = known_after (w.nodes me.0).known reply in
+      ballot_each (λ (step : NodeStep). Books setting (stepped setting w replies me step)) setting.layout me from (with_known (w.nodes me.0) known) call reply
+      (w.nodes me.0).proposal (λ seq round proposal packets reports more are.
+      books_silent setting w replies me (record (w.nodes me.0) { known = known; seq = seq; round = round; proposal = proposal }) packets reports books
+      (record { boot = refl; seq = more; known = known_grows (w.nodes me.0).known reply }, λ l. refl))
   books_replied_at replies me now from call reply (Some c) books is =
       let seq : c.call.seq ≡ call.seq = (books.calls me.0 call.seq c is).call_seq in
       books_counted_at replies me now from reply c (counts_at setting.layout.block c from.0 call reply) books
       (subst (λ (l : ℕ). IsCall w me.0 l c) (sym seq) is)
 
-  books_replied : (replies : Replies) (me : BrickId) (now : ℕ) (from : BrickId) (call : Call) (reply : Reply)
-      → Books setting w → Books setting (stepped setting w replies me (replied setting me now from (w.nodes me.0) call reply))
-  unfolding replied
-  books_replied replies me now from call reply books =
-      books_replied_at replies me now from call reply ((w.nodes me.0).calls call.seq) books refl
+-- a brick that is taught a view keeps its numbers and calls
+pub taught_keeps : (block g : ℕ) (node : Node) (view : Option View) → KeepsCalls node (node_taught_by block g node view)
+taught_keeps block g node view =
+    told_each (λ (n : Node). KeepsCalls node n) block g node view (keeps_itself node)
+    (λ v later. (record { boot = refl; seq = omega arith; known = omega arith }, λ l. refl))
+
+pub learnt_keeps : (layout : Layout) (node : Node) (group : GroupId) (view : View) → KeepsCalls node (node_learnt layout node group view)
+learnt_keeps layout node group view =
+    learnt_each (λ (n : Node). KeepsCalls node n) layout node group view (keeps_itself node)
+    (λ later. (record { boot = refl; seq = omega arith; known = omega arith }, λ l. refl))
+
+-- so does one that hears what a reply teaches
+pub hearing_keeps : (setting : Setting) (w : World) (me from : BrickId) (call : Call) (reply : Reply)
+    → KeepsCalls (w.nodes me.0) (taught_by setting w me from call reply)
+hearing_keeps setting w me from call reply =
+    told_each (λ (n : Node). KeepsCalls (w.nodes me.0) n) setting.layout.block call.group.0 (with_round (w.nodes me.0) reply)
+    (view_counted setting.layout from (w.nodes me.0) call reply) (record { boot = refl; seq = omega arith; known = omega arith }, λ l. refl)
+    (λ v later. (record { boot = refl; seq = omega arith; known = omega arith }, λ l. refl))
+
+module _ (setting : Setting) (w : World) where
+  books_heard : (me : BrickId) (now : ℕ) (from : BrickId) (call : Call) (reply : Reply)
+      → Books setting w → Books setting (stepped setting w w.replies me (heard setting me now from (w.nodes me.0) call reply))
+  books_heard me now from call reply books =
+      hearing_each (Books setting) setting w me now from call reply
+      (books_silent setting w w.replies me (with_known (with_round (w.nodes me.0) reply) (known_after (w.nodes me.0).known reply)) [] [] books
+      (record { boot = refl; seq = omega arith; known = known_grows (w.nodes me.0).known reply }, λ l. refl))
+      (let node : Node = taught_by setting w me from call reply in
+      let keeps = hearing_keeps setting w me from call reply in
+      let x : World = kept_world w me node in
+      books_replied_at setting x x.replies me now from call reply ((w.nodes me.0).calls call.seq) (books_kept setting w me node books keeps)
+      (ap (λ (n : Node). n.calls call.seq) (put_same w.nodes me.0 node) ∙ keeps.1 call.seq))
 
   -- a message
-  books_received : (replies : Replies) (me : BrickId) (now : ℕ) (from to : BrickId) (message : Message)
+  books_received : (me : BrickId) (now : ℕ) (from to : BrickId) (message : Message)
       → Books setting w
-      → Books setting (stepped setting w replies me (received setting me now (w.nodes me.0) (record { from = from; to = to; message = message })))
+      → Books setting (stepped setting w w.replies me (received setting me now (w.nodes me.0) (record { from = from; to = to; message = message })))
   unfolding received
-  books_received replies me now from to (Message.Request call request) books = books_requested setting w replies me from call request books
-  books_received replies me now from to (Message.Reply call reply) books = books_replied replies me now from call reply books
-  books_received replies me now from to message books = books_no_step setting w replies me books
+  books_received me now from to (Message.Request call request) books = books_requested setting w w.replies me from call request books
+  books_received me now from to (Message.Reply call reply) books = books_heard me now from call reply books
+  books_received me now from to (Message.Learn group view) books =
+      books_silent setting w w.replies me (node_learnt setting.layout (w.nodes me.0) group view) [] [] books (learnt_keeps setting.layout (w.nodes me.0) group view)
+  books_received me now from to message books = books_no_step setting w w.replies me books
 
-  -- the books do not change with the replies that count, or the messages that were delivered
-  pub books_beside : (replies : Replies) (reached : ℕ → Bool) → Books setting w
-      → Books setting (record w { replies = replies; reached = reached })
-  books_beside replies reached books =
-      books_quiet setting w w.nodes w.held w.clocks w.packets replies reached books (λ i. keeps_all (w.nodes i)) (λ i k. refl)
+  -- the books do not change with the replies that count, the messages that were delivered, or the choices
+  pub books_beside : (replies : Replies) (reached : ℕ → Bool) (choices : Choices) → Books setting w
+      → Books setting (record w { replies = replies; reached = reached; choices = choices })
+  books_beside replies reached choices books =
+      books_quiet setting w w.nodes w.held w.clocks w.packets replies reached choices books (λ i. keeps_all (w.nodes i)) (λ i k. refl)
 
 -- a message is handled
 books_handled : (setting : Setting) (w : World) (number : ℕ) (packet : Packet) → Books setting w → Books setting (world_handled setting w number packet)
 books_handled setting w number packet books =
-    books_received setting (record w { reached = put w.reached number true }) (replies_with setting w packet) packet.to (w.clocks packet.to.0)
-    packet.from packet.to packet.message (books_beside setting w w.replies (put w.reached number true) books)
+    books_received setting (world_counting setting w number packet) packet.to (w.clocks packet.to.0) packet.from packet.to packet.message
+    (books_beside setting w (replies_with setting w packet) (put w.reached number true) (voiced setting w packet) books)
 
 -- where no reason to refuse is found, the group is there, and the ask fits it
 cond_none : (b : Bool) (r : Refusal) (rest : Option Refusal) → cond b (Some r) rest ≡ None → (b ≡ false) × (rest ≡ None)
@@ -592,24 +665,23 @@ books_invoked setting w brick now ask books may =
     (begin_up setting w brick ask may) fits.length_fits)
 
 -- what a request leaves of a brick keeps its numbers and calls
-abbrev pub KeepsCalls : Node → Node → Type 0
-KeepsCalls node later = KeepsNumbers node later × ((l : ℕ) → later.calls l ≡ node.calls l)
-
-keeps_itself : (node : Node) → KeepsCalls node node
-keeps_itself node = (keeps_all node, λ l. refl)
-
 pub requested_keeps : (setting : Setting) (me from : BrickId) (node : Node) (call : Call) (request : Request)
     → KeepsCalls node (requested setting me from node call request).node
 requested_keeps setting me from node call request =
-    request_each (λ (step : NodeStep). KeepsCalls node step.node) setting me from node call request (keeps_itself node)
-    (λ group seat here at view. (keeps_replica node call (handle setting.code group.m (full_at setting.layout.records node.live) seat (replica_at node call) request) view, λ l. refl))
+    request_each (λ (step : NodeStep). KeepsCalls node step.node) setting me from node call request (keeps_itself node) (λ moved is. keeps_itself node)
+    (λ group seat here served. (record { boot = refl; seq = omega arith; known = omega arith }, λ l. refl))
+    (λ group ballot asked here. (record { boot = refl; seq = omega arith; known = omega arith }, λ l. refl))
 
--- so does a message whose handling was the last thing that it did
-pub absorbed_keeps : (setting : Setting) (me : BrickId) (node : Node) (from to : BrickId) (message : Message)
-    → KeepsCalls node (absorbed setting me node (record { from = from; to = to; message = message }))
-unfolding absorbed
-absorbed_keeps setting me node from to (Message.Request call request) = requested_keeps setting me from node call request
-absorbed_keeps setting me node from to message = keeps_itself node
+-- so does what it keeps of a message
+pub kept_keeps : (setting : Setting) (me : BrickId) (node : Node) (from to : BrickId) (message : Message)
+    → KeepsCalls node (kept_of setting me node (record { from = from; to = to; message = message }))
+unfolding kept_of
+kept_keeps setting me node from to (Message.Request call request) = requested_keeps setting me from node call request
+kept_keeps setting me node from to (Message.Reply call reply) =
+    cond_both (lists_fit setting.layout call reply) (node_taught_by setting.layout.block call.group.0 node (view_told reply)) node
+    (λ (n : Node). KeepsCalls node n) (λ fit. taught_keeps setting.layout.block call.group.0 node (view_told reply)) (λ isnt. keeps_itself node)
+kept_keeps setting me node from to (Message.Learn group view) = learnt_keeps setting.layout node group view
+kept_keeps setting me node from to message = keeps_itself node
 
 module _ (setting : Setting) (w : World) where
   -- so does what the store of a stopped brick may hold
@@ -617,9 +689,9 @@ module _ (setting : Setting) (w : World) where
   left_keeps i node = ⊎_elim
       (λ (same : node ≡ w.nodes i). subst (λ (z : Node). KeepsCalls (w.nodes i) z) (sym same) (keeps_itself (w.nodes i)))
       (λ (handled : (packet : Packet) × (packet.to ≡ record { 0 = i }) × WasSent w packet
-      × (node ≡ absorbed setting (record { 0 = i }) (w.nodes i) packet)).
+      × (node ≡ kept_of setting (record { 0 = i }) (w.nodes i) packet)).
       subst (λ (z : Node). KeepsCalls (w.nodes i) z) (sym handled.3)
-      (absorbed_keeps setting (record { 0 = i }) (w.nodes i) handled.0.from handled.0.to handled.0.message))
+      (kept_keeps setting (record { 0 = i }) (w.nodes i) handled.0.from handled.0.to handled.0.message))
 
   -- a brick that starts keeps what its store is found to hold, with the calls and numbers that it had
   pub found_keeps : (brick : BrickId) (found : Found) → w.up brick.0 ≡ false → Leaves setting w → (i : ℕ)
@@ -635,7 +707,7 @@ module _ (setting : Setting) (w : World) where
   books_found brick Before down leaves books = books
   books_found brick After down leaves books =
       let keeps : (i : ℕ) → KeepsCalls (w.nodes i) ((world_found w brick After).nodes i) = found_keeps brick After down leaves in
-      books_quiet setting w (put w.nodes brick.0 (w.after brick.0)) (with_held w.held brick.0 (w.after brick.0)) w.clocks w.packets w.replies w.reached books (λ i. (keeps i).0) (λ i. (keeps i).1)
+      books_quiet setting w (put w.nodes brick.0 (w.after brick.0)) (with_held w.held brick.0 (w.after brick.0)) w.clocks w.packets w.replies w.reached _ books (λ i. (keeps i).0) (λ i. (keeps i).1)
 
   -- a brick may start that is down, and its store is opened at least once
   pub start_fits : (brick : BrickId) (openings : ℕ) → may_start setting.layout w brick openings ≡ true
@@ -651,11 +723,12 @@ module _ (setting : Setting) (w : World) where
   books_cases : Leaves setting w → Books setting w → EventCases setting w (Books setting)
   books_cases leaves books = record {
     begins = λ brick ask may. books_invoked setting w brick (w.clocks brick.0) ask books may;
+    proposes = λ brick group members may. books_proposed setting w brick group members books;
     handles = λ number packet at up. books_handled setting w number packet books;
     sets = λ brick time is.
-        books_quiet setting w w.nodes w.held (put w.clocks brick.0 time) w.packets w.replies w.reached books (λ i. keeps_all (w.nodes i)) (λ i k. refl);
+        books_quiet setting w w.nodes w.held (put w.clocks brick.0 time) w.packets w.replies w.reached _ books (λ i. keeps_all (w.nodes i)) (λ i k. refl);
     ticks = λ brick up.
-        books_quiet setting w w.nodes w.held w.clocks (w.packets ++ ticked setting brick (w.nodes brick.0)) w.replies w.reached books
+        books_quiet setting w w.nodes w.held w.clocks (w.packets ++ ticked setting brick (w.nodes brick.0)) w.replies w.reached _ books
         (λ i. keeps_all (w.nodes i)) (λ i k. refl);
     stops = λ brick during up. books_stopped setting w brick during books;
     starts = λ brick openings found may.

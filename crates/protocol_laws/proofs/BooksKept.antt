@@ -5,13 +5,10 @@ use Rattle.std.proofs.lemmas.Bool.{cases_eq}
 use Rattle.reg_model.specs.Marks.{Life, life_of, IsOpen}
 use Rattle.protocol.specs.Settings.{Setting}
 use Rattle.protocol.specs.Coordinators.{Coordinator}
-use Rattle.protocol.specs.Nodes.{Node, view_at, with_known, with_call, with_replica}
+use Rattle.protocol.specs.Nodes.{Node, with_known, with_call}
 use Rattle.protocol.specs.Worlds.{World, Operation, number_of}
 use Rattle.protocol_laws.proofs.Books.{OperationBooks, CallBooks, IsOperation, IsCall}
 use Rattle.reg_model.proofs.GrowingLives.{Stays, LifeStays, EndingStays-answered, EndingStays-answered_before, EndingStays-open, EndingStays-open_before}
-use Rattle.protocol.proofs.Served.{parts_each}
-use Rattle.messages.specs.declared.calls.Call.{Call}
-use Rattle.protocol.specs.Replicas.{Reaction}
 
 -- the books of an operation that no step makes, or ends, at a brick whose boots do not fall
 pub operation_stays : (setting : Setting) (w later : World) (n : ℕ) (o : Operation) → OperationBooks setting w n o
@@ -127,35 +124,26 @@ cases_call i k j l = ⊎_elim
     (λ (other : j ≢ i). inr (λ e f. other e))
     (cases_eq j i)
 
--- a brick whose boot, call numbers and views stay, of whose parts only those of the views that it has learnt change, and that knows no less
+-- a brick whose boot stays, whose call numbers do not fall, and that knows no less
 pub record KeepsNumbers (node later : Node) : Type 0 where
   pub boot : later.boot ≡ node.boot
-  pub seq : later.seq ≡ node.seq
-  pub learnt : later.learnt ≡ node.learnt
-  pub accepted : later.accepted ≡ node.accepted
-  pub parts : (g e s : ℕ) → (later.replicas g e s ≡ node.replicas g e s) ⊎ (e ≡ view_at node g)
+  pub seq : node.seq ≤ later.seq
   pub known : node.known ≤ later.known
 
 -- so does one that stays as it is, that learns a time, or one of whose calls goes on
 pub keeps_all : (node : Node) → KeepsNumbers node node
-keeps_all node = record { boot = refl; seq = refl; learnt = refl; accepted = refl; parts = λ g e s. inl refl; known = omega arith }
+keeps_all node = record { boot = refl; seq = omega arith; known = omega arith }
 
 pub keeps_known : (node : Node) (known : ℕ) → node.known ≤ known → KeepsNumbers node (with_known node known)
-keeps_known node known grows = record { boot = refl; seq = refl; learnt = refl; accepted = refl; parts = λ g e s. inl refl; known = grows }
+keeps_known node known grows = record { boot = refl; seq = omega arith; known = grows }
 
 pub keeps_with_call : (node : Node) (known busy seq : ℕ) (call : Option Coordinator) → node.known ≤ known
     → KeepsNumbers node (with_call node known busy seq call)
-keeps_with_call node known busy seq call grows =
-    record { boot = refl; seq = refl; learnt = refl; accepted = refl; parts = λ g e s. inl refl; known = grows }
+keeps_with_call node known busy seq call grows = record { boot = refl; seq = omega arith; known = grows }
 
--- a part that changes is of the view that its brick has learnt
-pub keeps_replica : (node : Node) (call : Call) (reaction : Reaction) → call.view.0 ≡ view_at node call.group.0
-    → KeepsNumbers node (with_replica node call reaction)
-keeps_replica node call reaction view = record {
-  boot = refl;
-  seq = refl;
-  learnt = refl;
-  accepted = refl;
-  parts = parts_each (λ g e s r. (r ≡ node.replicas g e s) ⊎ (e ≡ view_at node g)) node call reaction (inr view) (λ g e s. inl refl);
-  known = omega arith;
-}
+-- its numbers and its calls
+abbrev pub KeepsCalls : Node → Node → Type 0
+KeepsCalls node later = KeepsNumbers node later × ((l : ℕ) → later.calls l ≡ node.calls l)
+
+pub keeps_itself : (node : Node) → KeepsCalls node node
+keeps_itself node = (keeps_all node, λ l. refl)

@@ -12,7 +12,7 @@ use Rattle.protocol.specs.Settings.{Setting}
 use Rattle.protocol.specs.declared.phases.Counted.{Counted}
 use Rattle.protocol.specs.Coordinators.{Coordinator}
 use Rattle.protocol.specs.Nodes.{Node, put, no_calls, restarted}
-use Rattle.protocol.specs.Worlds.{World, Operation, number_of, known_in, world_started}
+use Rattle.protocol.specs.Worlds.{World, Operation, number_of, known_in, world_started, Choices}
 use Rattle.protocol_laws.proofs.Books.{Books, OperationBooks, CallBooks, IsCall}
 use Rattle.protocol_laws.proofs.BooksKept.{KeepsNumbers, operation_stays, operation_kept, call_kept}
 use Rattle.reg_model.proofs.GrowingLives.{Stays-refl}
@@ -20,8 +20,8 @@ use Rattle.protocol.proofs.Puts.{put_other}
 use Rattle.protocol.proofs.Tables.{put_same}
 
 -- the world with other bricks, clocks, packets and counted replies, of which other packets were delivered
-abbrev pub quiet_world : World → (ℕ → Node) → (ℕ → ℕ → ℕ → Stamp → Bool) → (ℕ → ℕ) → List Packet → (ℕ → ℕ → List Counted) → (ℕ → Bool) → World
-quiet_world w nodes held clocks packets replies reached =
+abbrev pub quiet_world : World → (ℕ → Node) → (ℕ → ℕ → ℕ → Stamp → Bool) → (ℕ → ℕ) → List Packet → (ℕ → ℕ → List Counted) → (ℕ → Bool) → Choices → World
+quiet_world w nodes held clocks packets replies reached choices =
     record {
       nodes = nodes;
       after = w.after;
@@ -33,6 +33,7 @@ quiet_world w nodes held clocks packets replies reached =
       begun = w.begun;
       operations = w.operations;
       numbers = w.numbers;
+      choices = choices;
       past = w.past;
       contents = w.contents;
       held = held;
@@ -42,11 +43,11 @@ quiet_world w nodes held clocks packets replies reached =
 
 -- bricks that keep their calls and numbers keep the books
 pub books_quiet : (setting : Setting) (w : World) (nodes : ℕ → Node) (held : ℕ → ℕ → ℕ → Stamp → Bool) (clocks : ℕ → ℕ) (packets : List Packet) (replies : ℕ → ℕ → List Counted)
-    (reached : ℕ → Bool) → Books setting w
+    (reached : ℕ → Bool) (choices : Choices) → Books setting w
     → ((i : ℕ) → KeepsNumbers (w.nodes i) (nodes i)) → ((i k : ℕ) → (nodes i).calls k ≡ (w.nodes i).calls k)
-    → Books setting (quiet_world w nodes held clocks packets replies reached)
-books_quiet setting w nodes held clocks packets replies reached books keeps calls =
-    let later : World = quiet_world w nodes held clocks packets replies reached in
+    → Books setting (quiet_world w nodes held clocks packets replies reached choices)
+books_quiet setting w nodes held clocks packets replies reached choices books keeps calls =
+    let later : World = quiet_world w nodes held clocks packets replies reached choices in
     record {
       well_formed = books.well_formed;
       places = books.places;
@@ -54,14 +55,14 @@ books_quiet setting w nodes held clocks packets replies reached books keeps call
       boots = λ i. (let e : (nodes i).boot ≡ (w.nodes i).boot = (keeps i).boot in omega (arith, books.boots i));
       all_begun = books.all_begun;
       operations = λ n o is. (let mine : OperationBooks setting w n o = books.operations n o is in
-          let seqs : (nodes o.brick.0).seq ≡ (w.nodes o.brick.0).seq = (keeps o.brick.0).seq in
+          let seqs : (w.nodes o.brick.0).seq ≤ (nodes o.brick.0).seq = (keeps o.brick.0).seq in
           operation_kept setting w later n o mine (omega arith) refl (keeps o.brick.0).boot (omega arith) (Stays-refl (life_of w.marks n))
           (λ boot c call. (c, calls o.brick.0 o.seq ∙ call)));
       calls = λ i k c is. call_kept setting w later i k c (books.calls i k c (sym (calls i k) ∙ is)) refl (keeps i).boot
           (ap (λ (b : ℕ). w.numbers i b k) (keeps i).boot) refl (keeps i).known
           (Stays-refl (life_of w.marks (number_of w i k)))
           (λ o at. ((books.operations (number_of w i k) o at).life, (books.operations (number_of w i k) o at).life_is));
-      fresh_calls = λ i k lt. (let seqs : (nodes i).seq ≡ (w.nodes i).seq = (keeps i).seq in
+      fresh_calls = λ i k lt. (let seqs : (w.nodes i).seq ≤ (nodes i).seq = (keeps i).seq in
           calls i k ∙ books.fresh_calls i k (omega arith));
       lives = books.lives;
     }
@@ -78,12 +79,16 @@ module _ (setting : Setting) (w : World) (brick : BrickId) (openings : ℕ) (boo
     boot = (w.nodes i).boot + openings;
     seq = 0;
     known = 0;
+    round = 0;
     busy = 0;
     live = (w.nodes i).live;
+    live_in = (w.nodes i).live_in;
     learnt = (w.nodes i).learnt;
-    accepted = (w.nodes i).accepted;
+    ballots = (w.nodes i).ballots;
     replicas = (w.nodes i).replicas;
     calls = no_calls;
+    proposal = None;
+    job = None;
   }
 
   -- the world once it has started

@@ -10,7 +10,7 @@ use Rattle.protocol.specs.Settings.{Setting}
 use Rattle.protocol.specs.declared.phases.Counted.{Counted}
 use Rattle.protocol.specs.Coordinators.{Coordinator, most_rounds}
 use Rattle.protocol.specs.Nodes.{Node}
-use Rattle.protocol.specs.Worlds.{World, Operation, own_mark, number_of}
+use Rattle.protocol.specs.Worlds.{World, Operation, own_mark, number_of, Choices}
 use Rattle.protocol_laws.proofs.Books.{Books, OperationBooks, CallBooks, IsOperation, IsCall, MadeInPhase, InRound}
 use Rattle.protocol_laws.proofs.MarkNumbers.{own_by}
 use Rattle.protocol_laws.proofs.BooksKept.{KeepsNumbers, operation_kept, call_kept, number_at, calls_apart, cases_call}
@@ -53,8 +53,8 @@ pub record Turned (w : World) (i k : ℕ) (c d : Coordinator) (before o : Operat
   pub other_operations : (m : ℕ) → m ≢ number_of w i k → operations m ≡ w.operations m
 
 -- the world with these bricks, packets, operations, contents and counted replies
-abbrev pub turned_world : World → (ℕ → Node) → (ℕ → ℕ → ℕ → Stamp → Bool) → List Packet → (ℕ → Option Operation) → (ℕ → ℕ → Stamp → List ℕ) → (ℕ → ℕ → List Counted) → World
-turned_world w nodes held packets operations contents replies =
+abbrev pub turned_world : World → (ℕ → Node) → (ℕ → ℕ → ℕ → Stamp → Bool) → List Packet → (ℕ → Option Operation) → (ℕ → ℕ → Stamp → List ℕ) → (ℕ → ℕ → List Counted) → Choices → World
+turned_world w nodes held packets operations contents replies choices =
     record {
       nodes = nodes;
       after = w.after;
@@ -66,6 +66,7 @@ turned_world w nodes held packets operations contents replies =
       begun = w.begun;
       operations = operations;
       numbers = w.numbers;
+      choices = choices;
       past = w.past;
       contents = contents;
       held = held;
@@ -74,11 +75,11 @@ turned_world w nodes held packets operations contents replies =
     }
 
 module _ (setting : Setting) (w : World) (i k : ℕ) (c d : Coordinator) (before o : Operation) (nodes : ℕ → Node) (held : ℕ → ℕ → ℕ → Stamp → Bool) (packets : List Packet)
-    (operations : ℕ → Option Operation) (contents : ℕ → ℕ → Stamp → List ℕ) (replies : ℕ → ℕ → List Counted) (books : Books setting w)
+    (operations : ℕ → Option Operation) (contents : ℕ → ℕ → Stamp → List ℕ) (replies : ℕ → ℕ → List Counted) (choices : Choices) (books : Books setting w)
     (turned : Turned w i k c d before o nodes operations) where
   -- the world after the turn
   abbrev later : World
-  later = turned_world w nodes held packets operations contents replies
+  later = turned_world w nodes held packets operations contents replies choices
 
   call : CallBooks setting w i k c
   call = books.calls i k c turned.was
@@ -149,7 +150,7 @@ module _ (setting : Setting) (w : World) (i k : ℕ) (c d : Coordinator) (before
             let now : (nodes o.brick.0).boot ≡ (w.nodes o.brick.0).boot = (turned.keeps o.brick.0).boot in
             (omega (arith, own.booted.0), omega (arith, own.booted.1)));
         called = (let old : (w.nodes before.brick.0).seq ≡ (w.nodes o.brick.0).seq = ap (λ b. (w.nodes b.0).seq) (sym brick) in
-            let now : (nodes o.brick.0).seq ≡ (w.nodes o.brick.0).seq = (turned.keeps o.brick.0).seq in (
+            let now : (w.nodes o.brick.0).seq ≤ (nodes o.brick.0).seq = (turned.keeps o.brick.0).seq in (
               omega (arith, own.called.0),
               λ present.
                   (let least : before.seq ≤ (w.nodes before.brick.0).seq = own.called.1 (sym boot ∙ present ∙ (turned.keeps o.brick.0).boot
@@ -197,7 +198,7 @@ module _ (setting : Setting) (w : World) (i k : ℕ) (c d : Coordinator) (before
         (λ (other : n ≢ number_of w i k).
         let old : IsOperation w n x = sym (turned.other_operations n other) ∙ is in
         let mine : OperationBooks setting w n x = books.operations n x old in
-        let seqs : (nodes x.brick.0).seq ≡ (w.nodes x.brick.0).seq = (turned.keeps x.brick.0).seq in
+        let seqs : (w.nodes x.brick.0).seq ≤ (nodes x.brick.0).seq = (turned.keeps x.brick.0).seq in
         operation_kept setting w later n x mine (omega arith) refl (turned.keeps x.brick.0).boot (omega arith) (Stays-refl (life_of w.marks n))
         (λ present e was. (e, turned.other_calls x.brick.0 x.seq (λ at seq. other (number_at setting w n x mine present i k at seq)) ∙ was)))
         (cases_eq n (number_of w i k));
@@ -217,7 +218,7 @@ module _ (setting : Setting) (w : World) (i k : ℕ) (c d : Coordinator) (before
         (λ x at. ((books.operations (number_of w j l) x at).life, (books.operations (number_of w j l) x at).life_is)))
         (cases_call i k j l);
     fresh_calls = λ j l lt.
-        (let seqs : (nodes j).seq ≡ (w.nodes j).seq = (turned.keeps j).seq in
+        (let seqs : (w.nodes j).seq ≤ (nodes j).seq = (turned.keeps j).seq in
         let fresh : (w.nodes j).calls l ≡ None = books.fresh_calls j l (omega arith) in
         turned.other_calls j l (λ at seq. (let mine : (w.nodes i).calls k ≡ None =
         subst (λ (x : ℕ). (w.nodes x).calls k ≡ None) at (subst (λ (y : ℕ). (w.nodes j).calls y ≡ None) seq fresh) in

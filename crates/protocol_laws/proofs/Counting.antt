@@ -1,4 +1,5 @@
 -- The replies that count at a coordinator: how many seats they are, and what they tell together.
+use Rattle.protocol.specs.declared.phases.Mover.{Mover}
 use Rattle.std.proofs.Common.{◌≡◌, ℕ, zero, suc, ◌+◌, ◌<◌, ◌≤◌, nat_lt, ◌⊎◌, inl, inr, Bool, true, false, not, cond, ◌||◌, List, [], ◌∷◌, ◌++◌, length, map, Option, Some, None, refl, sym, ap, ◌∙◌, subst, ⊎_elim, arith}
 use Rattle.std.specs.Prelude.{slice_get, nat_eq, filter}
 use Rattle.std.specs.List.{IsDistinct, AllByRecursion}
@@ -9,6 +10,7 @@ use Rattle.fab_base.specs.Stamps.{stamp_below, stamp_same}
 use Rattle.fab_base.specs.declared.identities.BrickId.{BrickId}
 use Rattle.fab_base.proofs.StampOrder.{stamp_below_irrefl, stamp_below_asym, stamp_not_below_trans, stamp_same_refl, stamp_same_true}
 use Rattle.messages.specs.declared.requests.Version.{Version}
+use Rattle.messages.specs.declared.replies.Lineage.{Lineage}
 use Rattle.messages.specs.declared.replies.Reply.{Reply}
 use Rattle.quorum.specs.Quorums.{count, with_seat}
 use Rattle.quorum.proofs.Counts.{count_same, count_empty, count_monotone, count_with_seat}
@@ -18,7 +20,7 @@ use Rattle.protocol.specs.Settings.{Code, Piece, ArePiecesOf}
 use Rattle.protocol.specs.declared.phases.Counted.{Counted}
 use Rattle.protocol.specs.declared.phases.Refuser.{Refuser}
 use Rattle.protocol.specs.declared.phases.FullMember.{FullMember}
-use Rattle.protocol.specs.Coordinators.{has_seat, fast_version, fast_version_at, common_version_at, told_stamp, greater_stamp, greatest_found, tells, all_tell, told_by_all, finds, all_find, found_by_all, common_version, bytes_at, is_behind, some_behind, found_bytes, pieces_of, refuser_of, greater_refuser, greatest_refuser, full_member_of, lower_full, lowest_full}
+use Rattle.protocol.specs.Coordinators.{has_seat, fast_version, fast_version_at, common_version_at, told_stamp, greater_stamp, greatest_found, tells, all_tell, told_by_all, finds, all_find, found_by_all, common_version, bytes_at, is_behind, some_behind, found_bytes, pieces_of, refuser_of, greater_refuser, greatest_refuser, full_member_of, lower_full, lowest_full, mover_of, lower_mover, lowest_mover}
 use Rattle.protocol_laws.specs.Laws.{AtQuorum}
 use Rattle.protocol_laws.proofs.Said.{EachCounted, AreOnce}
 
@@ -432,6 +434,59 @@ full_counted P (x ∷ counted) f each is =
     ⊎_elim (λ (here : full_member_of x ≡ Some f). let told = full_reply x f here in (x, each.0, told.0, told.1))
     (λ (there : lowest_full counted ≡ Some f). full_counted P counted f each.1 there)
     (one_full (full_member_of x) (lowest_full counted) f is)
+
+-- of two members that moved on the lower is one of them
+pub mover_one : (a b : Mover) → (lower_mover (Some a) (Some b) ≡ Some a) ⊎ (lower_mover (Some a) (Some b) ≡ Some b)
+mover_one a b =
+    cond_both (nat_lt b.seat a.seat) (Some b) (Some a) (λ (z : Option Mover). (z ≡ Some a) ⊎ (z ≡ Some b)) (λ lower. inr refl) (λ isnt. inl refl)
+
+pub no_mover : (a b : Option Mover) → lower_mover a b ≡ None → (a ≡ None) × (b ≡ None)
+no_mover None b is = (refl, is)
+no_mover (Some a) None is = cc
+no_mover (Some a) (Some b) is =
+    ⊎_elim (λ (one : lower_mover (Some a) (Some b) ≡ Some a). let e : Some a ≡ None = sym one ∙ is in cc)
+    (λ (other : lower_mover (Some a) (Some b) ≡ Some b). let e : Some b ≡ None = sym other ∙ is in cc)
+    (mover_one a b)
+
+-- no reply tells that its member moved on where none is the lowest
+pub none_moved : (counted : List Counted) → lowest_mover counted ≡ None → EachCounted (λ x. mover_of x ≡ None) counted
+none_moved [] is = tt
+none_moved (x ∷ counted) is =
+    let both = no_mover (mover_of x) (lowest_mover counted) is in
+    (both.0, none_moved counted both.1)
+
+-- the lowest of the members that moved on is one of them
+one_mover : (a b : Option Mover) (m : Mover) → lower_mover a b ≡ Some m → (a ≡ Some m) ⊎ (b ≡ Some m)
+one_mover None b m is = inr is
+one_mover (Some a) None m is = inl is
+one_mover (Some a) (Some b) m is =
+    ⊎_elim (λ (one : lower_mover (Some a) (Some b) ≡ Some a). inl (sym one ∙ is))
+    (λ (other : lower_mover (Some a) (Some b) ≡ Some b). inr (sym other ∙ is))
+    (mover_one a b)
+
+-- its reply
+mover_reply : (x : Counted) (m : Mover) → mover_of x ≡ Some m → ((lineage : Option Lineage) × (x.reply ≡ Reply.Moved m.view lineage)) × (x.brick ≡ m.brick)
+mover_reply x m is = told x.reply refl is
+  where
+    told : (reply : Reply) → x.reply ≡ reply → mover_of (record { seat = x.seat; brick = x.brick; reply = reply }) ≡ Some m
+        → ((lineage : Option Lineage) × (x.reply ≡ Reply.Moved m.view lineage)) × (x.brick ≡ m.brick)
+    told (Reply.Moved view lineage) e is =
+        let same : record { seat = x.seat; brick = x.brick; view = view } ≡ m = cc in
+        ((lineage, e ∙ ap (λ (z : Mover). Reply.Moved z.view lineage) same), ap (λ (z : Mover). z.brick) same)
+    told reply e is = cc
+
+-- and that is one of those that count
+pub mover_counted : (P : Counted → Type 0) (counted : List Counted) (m : Mover) → EachCounted P counted → lowest_mover counted ≡ Some m
+    → (x : Counted) × P x × ((lineage : Option Lineage) × (x.reply ≡ Reply.Moved m.view lineage)) × (x.brick ≡ m.brick)
+mover_counted P [] m each is = cc
+mover_counted P (x ∷ counted) m each is =
+    ⊎_elim (λ (here : mover_of x ≡ Some m). let told = mover_reply x m here in (x, each.0, told.0, told.1))
+    (λ (there : lowest_mover counted ≡ Some m). mover_counted P counted m each.1 there)
+    (one_mover (mover_of x) (lowest_mover counted) m is)
+
+-- no reply tells that its member moved on, or that a store is full
+abbrev pub NoneStops : List Counted → Type 0
+NoneStops counted = (lowest_mover counted ≡ None) × (lowest_full counted ≡ None)
 
 -- a reply's bytes are its seat's block of the content
 abbrev pub IsPieceOf : Code → ℕ → ℕ → List ℕ → Counted → Type 0

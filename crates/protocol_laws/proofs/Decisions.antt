@@ -31,7 +31,7 @@ use Rattle.protocol.specs.Replicas.{stamp_max, is_wanted}
 use Rattle.protocol.specs.declared.phases.Counted.{Counted}
 use Rattle.protocol.specs.declared.phases.Phase.{Phase}
 use Rattle.protocol.specs.declared.phases.Phase.TheVariants.{Looks, LooksAt, Orders, OrdersAt, Recovers, Descends, Modifies, Bases, Stores}
-use Rattle.protocol.specs.Coordinators.{Coordinator, may_be_found, may_be_base, told_length, answers_phase, told_in, told_stamp, bytes_of, bytes_at, has_seat, is_behind, some_behind, refuser_of, greatest_refuser, full_member_of, lowest_full, fast_version, found_bytes, pieces_of}
+use Rattle.protocol.specs.Coordinators.{Coordinator, may_be_found, may_be_base, told_length, answers_phase, told_in, told_stamp, bytes_of, bytes_at, has_seat, is_behind, some_behind, refuser_of, greatest_refuser, full_member_of, mover_of, fast_version, found_bytes, pieces_of}
 use Rattle.protocol.specs.Worlds.{World, Operation, zero_content, number_of}
 use Rattle.fab_base.specs.Layouts.{brick_at}
 use Rattle.protocol_laws.specs.Laws.{AtQuorum, stamp_stored, IsGuarded, IsBlocked, top_in}
@@ -41,7 +41,7 @@ use Rattle.protocol_laws.proofs.Said.{Stamping, Said, IsBegun, IsMadeOrFirst, Fl
 use Rattle.fab_base.proofs.Seats.{seat_within, brick_at_seat}
 use Rattle.protocol_laws.proofs.Reactions.{max_right, max_most}
 use Rattle.protocol_laws.proofs.Stampings.{begun_once}
-use Rattle.protocol_laws.proofs.Counting.{each_then, each_both, at_quorum, TellsVersion, fast_each, none_refuses, none_full, IsPieceOf, are_pieces, pieces_length, none_behind, bytes_reply}
+use Rattle.protocol_laws.proofs.Counting.{each_then, each_both, at_quorum, TellsVersion, fast_each, none_refuses, none_full, IsPieceOf, are_pieces, pieces_length, none_behind, bytes_reply, NoneStops, none_moved}
 use Rattle.protocol.proofs.Blocks.{IsContent}
 
 -- zeros are bytes
@@ -85,9 +85,9 @@ found_at setting views w stamps j i call o order version is says =
           says.says.block;
     }
 
--- a reply that neither refuses what it was asked, nor tells that a store is full
+-- a reply that neither refuses what it was asked, nor tells that a store is full or that its member moved on
 abbrev pub Allows : Counted → Type 0
-Allows x = (refuser_of x ≡ None) × (full_member_of x ≡ None)
+Allows x = (refuser_of x ≡ None) × ((full_member_of x ≡ None) × (mover_of x ≡ None))
 
 -- a reply to an order that allows it
 order_answered : (block : ℕ) (t : Stamp) (x : Counted) → answers_phase block t x.seat Orders x.reply ≡ true → Allows x → x.reply ≡ Reply.Ordered
@@ -96,8 +96,9 @@ order_answered block t x answers allows = told x.reply refl answers allows
     told : (reply : Reply) → x.reply ≡ reply → answers_phase block t x.seat Orders reply ≡ true
         → Allows (record { seat = x.seat; brick = x.brick; reply = reply }) → x.reply ≡ Reply.Ordered
     told Reply.Ordered e answers allows = e
-    told (Reply.Later u) e answers (none, roomy) = cc
-    told (Reply.Full live) e answers (none, roomy) = cc
+    told (Reply.Later u) e answers (none, (roomy, stays)) = cc
+    told (Reply.Full live) e answers (none, (roomy, stays)) = cc
+    told (Reply.Moved view lineage) e answers (none, (roomy, stays)) = cc
     told reply e answers allows = absurd (false≢true answers)
 
 -- a reply to a write that allows it
@@ -107,8 +108,9 @@ write_answered block t x answers allows = told x.reply refl answers allows
     told : (reply : Reply) → x.reply ≡ reply → answers_phase block t x.seat Stores reply ≡ true
         → Allows (record { seat = x.seat; brick = x.brick; reply = reply }) → x.reply ≡ Reply.Stored
     told Reply.Stored e answers allows = e
-    told (Reply.Later u) e answers (none, roomy) = cc
-    told (Reply.Full live) e answers (none, roomy) = cc
+    told (Reply.Later u) e answers (none, (roomy, stays)) = cc
+    told (Reply.Full live) e answers (none, (roomy, stays)) = cc
+    told (Reply.Moved view lineage) e answers (none, (roomy, stays)) = cc
     told reply e answers allows = absurd (false≢true answers)
 
 -- and one to a modification, which is not behind
@@ -120,8 +122,9 @@ modify_answered block j t base x answers allows level = told x.reply refl answer
         → Allows (record { seat = x.seat; brick = x.brick; reply = reply }) → is_behind reply ≡ false → x.reply ≡ Reply.Stored
     told Reply.Stored e answers allows level = e
     told (Reply.Behind newest) e answers allows level = absurd (false≢true (sym level))
-    told (Reply.Later u) e answers (none, roomy) level = cc
-    told (Reply.Full live) e answers (none, roomy) level = cc
+    told (Reply.Later u) e answers (none, (roomy, stays)) level = cc
+    told (Reply.Full live) e answers (none, (roomy, stays)) level = cc
+    told (Reply.Moved view lineage) e answers (none, (roomy, stays)) level = cc
     told reply e answers allows level = absurd (false≢true answers)
 
 -- a reply to a phase that looks for a version, which allows it: what was found is looked for
@@ -169,17 +172,21 @@ found_by block t phase look x looks answers allows = told phase x.reply look ref
     told : (p : Phase) (reply : Reply) (l : Look) → x.reply ≡ reply → look_of p t ≡ Some l → answers_phase block t x.seat p reply ≡ true
         → Allows (record { seat = x.seat; brick = x.brick; reply = reply }) → FoundBy l x
     told (OrdersAt j) (Reply.OrderedRead found) l e looks answers allows = below t l found e looks (under (told_length block j x.seat) t found answers)
-    told (OrdersAt j) (Reply.Later u) l e looks answers (none, roomy) = cc
-    told (OrdersAt j) (Reply.Full live) l e looks answers (none, roomy) = cc
+    told (OrdersAt j) (Reply.Later u) l e looks answers (none, (roomy, stays)) = cc
+    told (OrdersAt j) (Reply.Full live) l e looks answers (none, (roomy, stays)) = cc
+    told (OrdersAt j) (Reply.Moved view lineage) l e looks answers (none, (roomy, stays)) = cc
     told Recovers (Reply.OrderedRead found) l e looks answers allows = below t l found e looks (under block t found answers)
-    told Recovers (Reply.Later u) l e looks answers (none, roomy) = cc
-    told Recovers (Reply.Full live) l e looks answers (none, roomy) = cc
+    told Recovers (Reply.Later u) l e looks answers (none, (roomy, stays)) = cc
+    told Recovers (Reply.Full live) l e looks answers (none, (roomy, stays)) = cc
+    told Recovers (Reply.Moved view lineage) l e looks answers (none, (roomy, stays)) = cc
     told (Descends bound) (Reply.OrderedRead found) l e looks answers allows = below bound l found e looks (under block bound found answers)
-    told (Descends bound) (Reply.Later u) l e looks answers (none, roomy) = cc
-    told (Descends bound) (Reply.Full live) l e looks answers (none, roomy) = cc
+    told (Descends bound) (Reply.Later u) l e looks answers (none, (roomy, stays)) = cc
+    told (Descends bound) (Reply.Full live) l e looks answers (none, (roomy, stays)) = cc
+    told (Descends bound) (Reply.Moved view lineage) l e looks answers (none, (roomy, stays)) = cc
     told (Bases base) (Reply.OrderedRead found) l e looks answers allows = at base l found e looks (same_base base found answers)
-    told (Bases base) (Reply.Later u) l e looks answers (none, roomy) = cc
-    told (Bases base) (Reply.Full live) l e looks answers (none, roomy) = cc
+    told (Bases base) (Reply.Later u) l e looks answers (none, (roomy, stays)) = cc
+    told (Bases base) (Reply.Full live) l e looks answers (none, (roomy, stays)) = cc
+    told (Bases base) (Reply.Moved view lineage) l e looks answers (none, (roomy, stays)) = cc
     told Looks reply l e looks answers allows = cc
     told (LooksAt j) reply l e looks answers allows = cc
     told Orders reply l e looks answers allows = cc
@@ -365,10 +372,11 @@ module _ (setting : Setting) (views : Views) (sound : IsSound setting) (w : Worl
       once many
 
   -- each counted reply, where none refuses and no store is full
-  each_allows : greatest_refuser counted ≡ None → lowest_full counted ≡ None → EachCounted (λ x. CountedSays setting views w me.0 c x × Allows x) counted
+  each_allows : greatest_refuser counted ≡ None → NoneStops counted → EachCounted (λ x. CountedSays setting views w me.0 c x × Allows x) counted
   each_allows none roomy =
       each_both (CountedSays setting views w me.0 c) Allows counted each
-      (each_both (λ x. refuser_of x ≡ None) (λ x. full_member_of x ≡ None) counted (none_refuses counted none) (none_full counted roomy))
+      (each_both (λ x. refuser_of x ≡ None) (λ x. (full_member_of x ≡ None) × (mover_of x ≡ None)) counted (none_refuses counted none)
+      (each_both (λ x. full_member_of x ≡ None) (λ x. mover_of x ≡ None) counted (none_full counted roomy.1) (none_moved counted roomy.0)))
 
   -- an order that was answered
   ordered_seat : c.phase ≡ Orders → (x : Counted) → CountedSays setting views w me.0 c x → Allows x → PromisesAt x
@@ -383,7 +391,7 @@ module _ (setting : Setting) (views : Views) (sound : IsSound setting) (w : Worl
       told.promised told.floor
 
   -- an order that a quorum answered
-  pub all_ordered : c.phase ≡ Orders → greatest_refuser counted ≡ None → lowest_full counted ≡ None → EachCounted PromisesAt counted
+  pub all_ordered : c.phase ≡ Orders → greatest_refuser counted ≡ None → NoneStops counted → EachCounted PromisesAt counted
   all_ordered orders none roomy =
       each_then (λ x. CountedSays setting views w me.0 c x × Allows x) PromisesAt counted (λ x h. ordered_seat orders x h.0 h.1) (each_allows none roomy)
 
@@ -420,7 +428,7 @@ module _ (setting : Setting) (views : Views) (sound : IsSound setting) (w : Worl
       counted (λ x h. stored_seat x h.0 h.1) stored)
       once many
 
-  pub stored_stands : c.phase ≡ Stores → greatest_refuser counted ≡ None → lowest_full counted ≡ None
+  pub stored_stands : c.phase ≡ Stores → greatest_refuser counted ≡ None → NoneStops counted
       → AtQuorum group (λ seat. held_at seat c.stamp)
   stored_stands stores none roomy =
       all_stored (each_then (λ x. CountedSays setting views w me.0 c x × Allows x) (λ x. CountedSays setting views w me.0 c x × (x.reply ≡ Reply.Stored)) counted
@@ -432,7 +440,7 @@ module _ (setting : Setting) (views : Views) (sound : IsSound setting) (w : Worl
       (each_allows none roomy))
 
   -- so does one that a quorum modified, none of it being behind
-  pub modified_stands : (base : Stamp) (j : ℕ) → c.phase ≡ Modifies base j → greatest_refuser counted ≡ None → lowest_full counted ≡ None
+  pub modified_stands : (base : Stamp) (j : ℕ) → c.phase ≡ Modifies base j → greatest_refuser counted ≡ None → NoneStops counted
       → some_behind counted ≡ false → AtQuorum group (λ seat. held_at seat c.stamp)
   modified_stands base j modifies none roomy level =
       all_stored (each_then (λ x. (CountedSays setting views w me.0 c x × Allows x) × (is_behind x.reply ≡ false))
@@ -578,7 +586,7 @@ module _ (setting : Setting) (views : Views) (sound : IsSound setting) (w : Worl
       }
 
   -- such a phase that a quorum answered
-  pub all_read : (look : Look) → look_of c.phase c.stamp ≡ Some look → greatest_refuser counted ≡ None → lowest_full counted ≡ None
+  pub all_read : (look : Look) → look_of c.phase c.stamp ≡ Some look → greatest_refuser counted ≡ None → NoneStops counted
       → EachCounted (ReadsAt look) counted
   all_read look looks none roomy =
       each_then (λ x. CountedSays setting views w me.0 c x × Allows x) (ReadsAt look) counted (λ x h. read_seat look looks x h.0 h.1)

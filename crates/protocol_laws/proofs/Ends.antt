@@ -18,7 +18,7 @@ use Rattle.protocol.specs.Happenings.{writes}
 use Rattle.protocol.specs.Settings.{Setting}
 use Rattle.protocol.specs.Coordinators.{Coordinator}
 use Rattle.protocol.specs.Nodes.{Node, NodeStep, put, with_call, seen_told, collect_packets}
-use Rattle.protocol.specs.Worlds.{World, Operation, number_of, world_stepped, with_seen, with_answer, is_answer, with_held}
+use Rattle.protocol.specs.Worlds.{World, Operation, number_of, world_stepped, with_seen, with_answer, is_answer, with_held, choices_after}
 use Rattle.protocol_laws.proofs.MarkNumbers.{own_number, own_seen}
 use Rattle.protocol_laws.proofs.Books.{version_after, Books, CallBooks, IsCall, IsOperation}
 use Rattle.protocol_laws.proofs.Said.{Stamping, Said, Stands, WritesWhole, ReadsBack, PacketSays, HasVersion, OperationSays, CallSays, EndShows, IsCalled}
@@ -64,6 +64,7 @@ module _ (setting : Setting) (views : Views) (w : World) (stamps : Stamping) (me
         base = o.base;
         answered = is_answer answer;
         mark = o.mark;
+        closed = o.closed;
         view = o.view;
         floor = o.floor;
       }
@@ -88,6 +89,7 @@ module _ (setting : Setting) (views : Views) (w : World) (stamps : Stamping) (me
         packets = collect_packets me c stored;
         told = seen_told c.call.seq saw;
         answers = record { seq = c.call.seq; answer = answer } ∷ [];
+        reports = [];
       }
 
   -- the world with these operations, and an End of this number
@@ -104,6 +106,7 @@ module _ (setting : Setting) (views : Views) (w : World) (stamps : Stamping) (me
         begun = w.begun;
         operations = operations;
         numbers = w.numbers;
+        choices = choices_after w.choices me node [];
         past = w.past;
         contents = w.contents;
         held = with_held w.held me.0 node;

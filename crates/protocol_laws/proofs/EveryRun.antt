@@ -13,7 +13,8 @@ use Rattle.protocol_laws.proofs.Numbers.{IsNumbered, always_numbered}
 use Rattle.protocol_laws.proofs.QuorumFacts.{QuorumFacts, facts}
 use Rattle.protocol_laws.proofs.Said.{Stamping, Said}
 use Rattle.protocol_laws.proofs.SaidAlways.{always_said}
-use Rattle.protocol_laws.proofs.ViewLaws.{follows_its_views, one_content, writes_guarded, bases_newest, collects_stand, drops_older}
+use Rattle.view_laws.proofs.Followed.{every_run_follows}
+use Rattle.protocol_laws.proofs.ViewLaws.{one_content, writes_guarded, bases_newest, collects_stand, drops_older}
 use Rattle.protocol_laws.proofs.Tallies.{Tallied}
 use Rattle.protocol_laws.proofs.TalliesEvents.{tallied}
 use Rattle.reg_model.proofs.StripeLives.{well_formed_stripe, numbers_from_one}
@@ -65,4 +66,4 @@ every_run setting views events sound follows =
 pub every_views_run : (setting : Setting) (events : List Event) → IsSound setting
     → (let w = run setting events (first_world setting.layout) in Laws setting (views_in setting.layout w.packets) w)
 every_views_run setting events sound =
-    every_run setting (views_in setting.layout (run setting events (first_world setting.layout)).packets) events sound (follows_its_views setting events sound)
+    every_run setting (views_in setting.layout (run setting events (first_world setting.layout)).packets) events sound (every_run_follows setting events sound)

@@ -1,7 +1,7 @@
 -- A request to store a version is sent while a quorum takes nothing below it, and while its operation is open: an event that sends one lowers and raises no
 -- brick, and sends it for a call that is open.
-use Rattle.std.proofs.Common.{◌≡◌, ℕ, not, List, [], ◌∷◌, ◌++◌, length, Option, Some, None, refl, sym, ap, ◌∙◌, subst, arith}
-use Rattle.std.specs.Prelude.{slice_get}
+use Rattle.std.proofs.Common.{◌≡◌, ℕ, Bool, true, false, ⊎_elim, not, List, [], ◌∷◌, ◌++◌, length, Option, Some, None, refl, sym, ap, ◌∙◌, subst, arith}
+use Rattle.std.specs.Prelude.{slice_get, nat_lt, if◌then◌else◌}
 use Rattle.fab_base.specs.declared.identities.BrickId.{BrickId}
 use Rattle.fab_base.specs.declared.asks.Ask.{Ask}
 use Rattle.fab_base.specs.declared.asks.Op.{Op}
@@ -16,13 +16,25 @@ use Rattle.messages.specs.declared.packets.Packet.{Packet}
 use Rattle.messages.specs.declared.replies.Reply.{Reply}
 use Rattle.reg_model.specs.Marks.{Life, life_of, IsOpen}
 use Rattle.protocol.specs.Settings.{Setting, Code, IsSound}
-use Rattle.protocol.specs.Views.{Views}
+use Rattle.protocol.specs.Views.{Views, view_told}
+use Rattle.protocol.specs.declared.phases.Counted.{Counted}
+use Rattle.protocol.specs.declared.phases.Mover.{Mover}
+use Rattle.protocol.specs.Proposals.{Proposal}
+use Rattle.quorum.specs.Quorums.{quorum_of}
+use Rattle.fab_base.specs.declared.identities.GroupId.{GroupId}
+use Rattle.fab_base.specs.declared.identities.ViewNo.{ViewNo}
+use Rattle.fab_base.specs.declared.member_lists.View.{View}
+use Rattle.messages.specs.declared.replies.Lineage.{Lineage}
+use Rattle.std.proofs.lemmas.Bool.{cond_both}
+use Rattle.protocol_laws.proofs.Counting.{mover_one}
+use Rattle.protocol_laws.proofs.Proposing.{AreOfViews, of_views_each, resent_of_views, ballot_each, proposed_each}
+use Rattle.protocol_laws.proofs.Teaching.{heard_each, replied_rests}
 use Rattle.protocol.specs.Replicas.{handle}
-use Rattle.protocol.specs.Coordinators.{Coordinator, Next, Ignores, Waits, Sends, Makes, Ends, with_reply, once_full, counted_at, counts_at, on_reply, request_of}
-use Rattle.protocol.specs.Nodes.{Node, NodeStep, put, top_at, first_phase, phase_packets, new_coordinator, began, invoked, replica_at, full_at, known_after, fresh_stamp, carried_out, group_at, replied_at, replied, received, ticked}
-use Rattle.protocol.specs.Worlds.{World, Event, first_world, world_began, world_stopped, happens, run, world_ticked, world_started, world_found, After}
+use Rattle.protocol.specs.Coordinators.{mover_of, lower_mover, lowest_mover, aborted_moved, decided, Coordinator, Next, Ignores, Waits, Sends, Makes, Ends, with_reply, once_full, counted_at, counts_at, on_reply, request_of}
+use Rattle.protocol.specs.Nodes.{Node, NodeStep, put, top_at, first_phase, phase_packets, new_coordinator, began, invoked, replica_at, full_at, known_after, fresh_stamp, carried_out, group_at, replied_at, heard, received, ticked, with_round, with_known, node_taught, node_taught_by, view_counted, counts_here, vote_at, replied_ballot, proposed, ballot_resent}
+use Rattle.protocol.specs.Worlds.{World, Event, first_world, world_began, world_stopped, happens, run, world_ticked, world_stepped, world_started, world_found, After}
 use Rattle.protocol.proofs.Events.{EventCases, step_on, world_handled, happens_each, started_each, run-append}
-use Rattle.protocol.proofs.Packets.{OfEach, each_none, each_member, each_collect, each_reply, each_ticked}
+use Rattle.protocol.proofs.Packets.{OfEach, each_none, each_both, each_member, each_collect, each_reply, each_ticked}
 use Rattle.protocol.proofs.Served.{request_each}
 use Rattle.protocol.proofs.Tables.{put_each}
 use Rattle.protocol_laws.specs.Laws.{top_in, stamp_stored, IsGuarded, RunFollows, WritesWereGuarded}
@@ -84,6 +96,47 @@ next_same fresh c (Sends d) fits = (fits.same.boot, fits.same.seq)
 next_same fresh c (Makes d) fits = (fits.same.boot, fits.same.seq)
 next_same fresh c (Ends answer seen stored) fits = tt
 
+-- what a coordinator decides begins no phase
+abbrev BeginsNone : Next → Type 0
+BeginsNone (Sends d) = ⊥
+BeginsNone (Makes d) = ⊥
+BeginsNone next = Unit {0}
+
+-- a member that tells of a later view is the lowest of those that do, or one is
+some_lower : (a b : Option Mover) (m : Mover) → b ≡ Some m → (n : Mover) × (lower_mover a b ≡ Some n)
+some_lower None b m is = (m, is)
+some_lower (Some a) None m is = absurd (let never : None ≡ Some m = is in cc)
+some_lower (Some a) (Some b) m is = ⊎_elim
+    (λ (one : lower_mover (Some a) (Some b) ≡ Some a). (a, one)) (λ (other : lower_mover (Some a) (Some b) ≡ Some b). (b, other)) (mover_one a b)
+
+some_mover : (counted : List Counted) (x : Counted) (m : Mover) → mover_of x ≡ Some m → (n : Mover) × (lowest_mover (counted ++ (x ∷ [])) ≡ Some n)
+some_mover [] x m is = (m, ap (λ (z : Option Mover). lower_mover z None) is)
+some_mover (y ∷ counted) x m is =
+    let rest = some_mover counted x m is in some_lower (mover_of y) (lowest_mover (counted ++ (x ∷ []))) rest.0 rest.1
+
+-- so a quorum of replies of which one tells of a later view aborts the operation
+decided_moved : (block : ℕ) (code : Code) (fresh : Option Stamp) (d : Coordinator) (m : Mover) → lowest_mover d.counted ≡ Some m
+    → decided block code fresh d ≡ aborted_moved m
+unfolding decided
+decided_moved block code fresh d m is = rw is
+
+-- and begins no phase
+moved_ends : (block : ℕ) (code : Code) (fresh : Option Stamp) (c : Coordinator) (from : BrickId) (view : ViewNo) (lineage : Option Lineage) (seat : Option ℕ)
+    → BeginsNone (counted_at block code fresh c from (Reply.Moved view lineage) seat)
+moved_ends block code fresh c from view lineage None = tt
+moved_ends block code fresh c from view lineage (Some seat) =
+    let d : Coordinator = with_reply c seat from (Reply.Moved view lineage) in
+    let one : Counted = record { seat = seat; brick = from; reply = Reply.Moved view lineage } in
+    let lowest = some_mover c.counted one (record { seat = seat; brick = from; view = view }) refl in
+    cond_both (nat_lt (length d.counted) (quorum_of d.group)) (Waits d) (decided block code fresh d) BeginsNone (λ few. tt)
+    (λ full. subst BeginsNone (sym (decided_moved block code fresh d lowest.0 lowest.1)) tt)
+
+-- what is of views stores nothing
+ballots_store : (w next : World) (packets : List Packet) → AreOfViews packets → OfEach (StoresOpen w next) packets
+ballots_store w next packets =
+    of_views_each (StoresOpen w next) (λ from to group view. tt) (λ from to call ballot t stores. absurd (let never : None ≡ Some t = stores in cc))
+    (λ from to call ballot members t stores. absurd (let never : None ≡ Some t = stores in cc)) packets
+
 module _ (setting : Setting) (w next : World) (me : BrickId) (books : Books setting w) where
   abbrev P : Packet → Type 0
   P = StoresOpen w next
@@ -110,41 +163,98 @@ module _ (setting : Setting) (w next : World) (me : BrickId) (books : Books sett
             (subst (λ (k : ℕ). IsOpen (life_of w.marks (w.numbers me.0 c.call.boot k))) (sym same.1) open'),
       )) 0 d.group.members
 
-  carried_stores : (known : ℕ) (c : Coordinator) (decision : Next) → NextIsSame c decision
+  carried_stores : (node : Node) (known : ℕ) (c : Coordinator) (decision : Next) → KeepsPlaces (w.nodes me.0) node → NextIsSame c decision
       → IsOpen (life_of w.marks (w.numbers me.0 c.call.boot c.call.seq))
-      → next.nodes ≡ put w.nodes me.0 (carried_out setting me (w.nodes me.0) known c decision).node
-      → OfEach P (carried_out setting me (w.nodes me.0) known c decision).packets
-  carried_stores known c Ignores same open' nodes = each_none P
-  carried_stores known c (Waits d) same open' nodes = each_none P
-  carried_stores known c (Sends d) same open' nodes =
-      phase_stores c d (tops_put w next me.0 (carried_out setting me (w.nodes me.0) known c (Sends d)).node nodes (refl, refl, refl)) open' same
-  carried_stores known c (Makes d) same open' nodes =
-      phase_stores c d (tops_put w next me.0 (carried_out setting me (w.nodes me.0) known c (Makes d)).node nodes (refl, refl, refl)) open' same
-  carried_stores known c (Ends answer seen stored) same open' nodes =
+      → next.nodes ≡ put w.nodes me.0 (carried_out setting me node known c decision).node
+      → OfEach P (carried_out setting me node known c decision).packets
+  carried_stores node known c Ignores places same open' nodes = each_none P
+  carried_stores node known c (Waits d) places same open' nodes = each_none P
+  carried_stores node known c (Sends d) places same open' nodes =
+      phase_stores c d (tops_put w next me.0 (carried_out setting me node known c (Sends d)).node nodes places) open' same
+  carried_stores node known c (Makes d) places same open' nodes =
+      phase_stores c d (tops_put w next me.0 (carried_out setting me node known c (Makes d)).node nodes places) open' same
+  carried_stores node known c (Ends answer seen stored) places same open' nodes =
       each_collect P me c stored (λ t to u stores. absurd (let never : None ≡ Some u = stores in cc))
 
-  replied_stores : (now : ℕ) (from : BrickId) (call : Call) (reply : Reply)
-      → next.nodes ≡ put w.nodes me.0 (replied setting me now from (w.nodes me.0) call reply).node
-      → OfEach P (replied setting me now from (w.nodes me.0) call reply).packets
-  unfolding replied on_reply
-  replied_stores now from call reply = at_call ((w.nodes me.0).calls call.seq) refl
+  -- what begins no phase stores nothing
+  carried_none : (node : Node) (known : ℕ) (c : Coordinator) (decision : Next) → BeginsNone decision → OfEach P (carried_out setting me node known c decision).packets
+  carried_none node known c Ignores none = each_none P
+  carried_none node known c (Waits d) none = each_none P
+  carried_none node known c (Sends d) none = absurd none
+  carried_none node known c (Makes d) none = absurd none
+  carried_none node known c (Ends answer seen stored) none =
+      each_collect P me c stored (λ t to u stores. absurd (let never : None ≡ Some u = stores in cc))
+
+  -- nor does a proposal
+  voted_stores : (node : Node) (from : BrickId) (call : Call) (reply : Reply) (proposal : Option Proposal)
+      → OfEach P (replied_ballot setting.layout me from node call reply proposal).packets
+  voted_stores node from call reply proposal =
+      ballot_each (λ (step : NodeStep). OfEach P step.packets) setting.layout me from node call reply proposal
+      (λ seq round asked packets reports more are. ballots_store w next packets are)
+
+  proposed_stores : (group : GroupId) (members : List BrickId) → OfEach P (proposed setting me (w.nodes me.0) group members).packets
+  proposed_stores group members =
+      proposed_each (λ (step : NodeStep). OfEach P step.packets) setting me (w.nodes me.0) group members
+      (λ seq round asked packets reports more are. ballots_store w next packets are)
+
+  -- a reply to an open operation, or to a proposal
+  replied_stores : (node : Node) (now : ℕ) (from : BrickId) (call : Call) (reply : Reply) (found : Option Coordinator) → KeepsPlaces (w.nodes me.0) node
+      → (w.nodes me.0).calls call.seq ≡ found → next.nodes ≡ put w.nodes me.0 (replied_at setting me now from node call reply found).node
+      → OfEach P (replied_at setting me now from node call reply found).packets
+  unfolding on_reply
+  replied_stores node now from call reply None places is nodes = voted_stores (with_known node (known_after node.known reply)) from call reply node.proposal
+  replied_stores node now from call reply (Some c) places is nodes =
+      let known : ℕ = known_after node.known reply in
+      carried_stores node known c _ places
+      (decides (fresh_stamp me c.call.view now node.boot known) (counts_at setting.layout.block c from.0 call reply))
+      (call_open setting w books me.0 call.seq c is) nodes
     where
-      decides : (c : Coordinator) (fresh : Option Stamp) (seat : Option ℕ)
+      decides : (fresh : Option Stamp) (seat : Option ℕ)
           → NextIsSame c (counted_at setting.layout.block setting.code fresh c from reply seat)
-      decides c fresh None = tt
-      decides c fresh (Some seat) =
+      decides fresh None = tt
+      decides fresh (Some seat) =
           next_same fresh (with_reply c seat from reply) (once_full setting.layout.block setting.code fresh (with_reply c seat from reply))
           (once_full_fits setting.layout.block setting.code fresh (with_reply c seat from reply))
 
-      at_call : (z : Option Coordinator) → (w.nodes me.0).calls call.seq ≡ z
-          → next.nodes ≡ put w.nodes me.0 (replied_at setting me now from (w.nodes me.0) call reply z).node
-          → OfEach P (replied_at setting me now from (w.nodes me.0) call reply z).packets
-      at_call None is nodes = each_none P
-      at_call (Some c) is nodes =
-          let known : ℕ = known_after (w.nodes me.0).known reply in
-          carried_stores known c _
-          (decides c (fresh_stamp me c.call.view now (w.nodes me.0).boot known) (counts_at setting.layout.block c from.0 call reply))
-          (call_open setting w books me.0 call.seq c is) nodes
+  -- one that tells of a later view has nothing stored
+  moved_stores : (node : Node) (now : ℕ) (from : BrickId) (call : Call) (view : ViewNo) (lineage : Option Lineage) (found : Option Coordinator)
+      → OfEach P (replied_at setting me now from node call (Reply.Moved view lineage) found).packets
+  unfolding on_reply
+  moved_stores node now from call view lineage None = voted_stores (with_known node node.known) from call (Reply.Moved view lineage) node.proposal
+  moved_stores node now from call view lineage (Some c) =
+      carried_none node node.known c _
+      (moved_ends setting.layout.block setting.code (fresh_stamp me c.call.view now node.boot node.known) c from view lineage
+      (counts_at setting.layout.block c from.0 call (Reply.Moved view lineage)))
+
+  -- so has one that teaches a view
+  teaching_stores : (node : Node) (now : ℕ) (from : BrickId) (call : Call) (reply : Reply) (found : Option Coordinator) (view : View) → view_told reply ≡ Some view
+      → OfEach P (replied_at setting me now from node call reply found).packets
+  teaching_stores node now from call (Reply.Moved number lineage) found view told = moved_stores node now from call number lineage found
+  teaching_stores node now from call reply found view told = absurd (let never : None ≡ Some view = told in cc)
+
+  heard_stores : (now : ℕ) (from : BrickId) (call : Call) (reply : Reply)
+      → next.nodes ≡ put w.nodes me.0 (heard setting me now from (w.nodes me.0) call reply).node
+      → OfEach P (heard setting me now from (w.nodes me.0) call reply).packets
+  heard_stores now from call reply =
+      heard_each (λ (step : NodeStep). next.nodes ≡ put w.nodes me.0 step.node → OfEach P step.packets) setting me now from (w.nodes me.0) call reply
+      (λ nodes. each_none P) (λ fit. by (view_counted setting.layout from (w.nodes me.0) call reply) (told (counts_here setting.layout from call reply (w.nodes me.0).proposal found)))
+    where
+      found : Option Coordinator
+      found = (w.nodes me.0).calls call.seq
+
+      -- a view that counts is told
+      told : (counts : Bool) (view : View) → (if counts then view_told reply else None) ≡ Some view → view_told reply ≡ Some view
+      told true view is = is
+      told false view is = absurd (let never : None ≡ Some view = is in cc)
+
+      by : (z : Option View) → ((view : View) → z ≡ Some view → view_told reply ≡ Some view)
+          → (let node : Node = node_taught_by setting.layout.block call.group.0 (with_round (w.nodes me.0) reply) z in
+          next.nodes ≡ put w.nodes me.0 (replied_at setting me now from node call reply found).node → OfEach P (replied_at setting me now from node call reply found).packets)
+      by None is nodes =
+          (let rests = replied_rests setting me from now call.group.0 call reply (with_round (w.nodes me.0) reply) found in
+          replied_stores (with_round (w.nodes me.0) reply) now from call reply found (refl, refl, refl) refl nodes)
+      by (Some view) is nodes =
+          teaching_stores (node_taught setting.layout.block call.group.0 (with_round (w.nodes me.0) reply) view) now from call reply found view (is view refl)
 
   received_stores : (now : ℕ) (from to : BrickId) (message : Message)
       → next.nodes ≡ put w.nodes me.0 (received setting me now (w.nodes me.0) (record { from = from; to = to; message = message })).node
@@ -152,10 +262,13 @@ module _ (setting : Setting) (w next : World) (me : BrickId) (books : Books sett
   unfolding received
   received_stores now from to (Message.Request call request) nodes =
       request_each (λ (step : NodeStep). OfEach P step.packets) setting me from (w.nodes me.0) call request (each_none P)
-      (λ group seat here at view.
+      (λ moved is. each_reply P me from call (Some moved) (λ r at. tt))
+      (λ group seat here served.
       each_reply P me from call
       (handle setting.code group.m (full_at setting.layout.records (w.nodes me.0).live) seat (replica_at (w.nodes me.0) call) request).reply (λ r is. tt))
-  received_stores now from to (Message.Reply call reply) nodes = replied_stores now from call reply nodes
+      (λ group ballot asked here. each_reply P me from call (Some (vote_at (w.nodes me.0) call ballot asked).reply) (λ r is. tt))
+  received_stores now from to (Message.Reply call reply) nodes = heard_stores now from call reply nodes
+  received_stores now from to (Message.Learn group view) nodes = each_none P
   received_stores now from to message nodes = each_none P
 
 -- where nothing is sent
@@ -173,6 +286,12 @@ stores_cases setting w books = record {
         each = invoked_stores setting w (world_began w brick ask (invoked setting brick (w.clocks brick.0) (w.nodes brick.0) ask)) brick books
             (w.clocks brick.0) ask;
       };
+  proposes = λ brick group members may.
+      record {
+        more = (proposed setting brick (w.nodes brick.0) group members).packets;
+        packets = refl;
+        each = proposed_stores setting w (world_stepped setting w brick (proposed setting brick (w.nodes brick.0) group members)) brick books group members;
+      };
   handles = λ number packet at up.
       record {
         more = (step_on setting w packet).packets;
@@ -185,8 +304,10 @@ stores_cases setting w books = record {
       record {
         more = ticked setting brick (w.nodes brick.0);
         packets = refl;
-        each = each_ticked (StoresOpen w (world_ticked setting w brick)) setting brick (w.nodes brick.0).calls (w.nodes brick.0).seq
-            (λ k c is seat to t stores. ((λ g s i. refl), call_open setting w books brick.0 k c is));
+        each = each_both (StoresOpen w (world_ticked setting w brick)) _ (ballot_resent brick (w.nodes brick.0).proposal)
+            (each_ticked (StoresOpen w (world_ticked setting w brick)) setting brick (w.nodes brick.0).calls (w.nodes brick.0).seq
+            (λ k c is seat to t stores. ((λ g s i. refl), call_open setting w books brick.0 k c is)) (λ k c is later from to. tt))
+            (ballots_store w (world_ticked setting w brick) _ (resent_of_views brick (w.nodes brick.0).proposal));
       };
   stops = λ brick during up. none_sent w (world_stopped setting w brick during) refl;
   starts = λ brick openings found may.

@@ -17,9 +17,9 @@ pub mod Entries
 pub mod EveryRun
 pub mod Falls
 pub mod FirstViews
-pub mod FirstWorlds
 pub mod Growth
 pub mod Guards
+pub mod Hearing
 pub mod Left
 pub mod Logs
 pub mod MarkNumbers
@@ -28,6 +28,7 @@ pub mod Numbers
 pub mod Operated
 pub mod Outcomes
 pub mod OwnStamps
+pub mod Proposing
 pub mod QuorumFacts
 pub mod Reactions
 pub mod Recoveries
@@ -35,6 +36,7 @@ pub mod Replies
 pub mod Requests
 pub mod Said
 pub mod SaidAlways
+pub mod SaidQuiet
 pub mod Sendings
 pub mod Sends
 pub mod Sorting
@@ -46,6 +48,8 @@ pub mod Tallies
 pub mod TalliesCounts
 pub mod TalliesEvents
 pub mod TalliesKept
+pub mod Teaching
+pub mod Votes
 pub mod Tops
 pub mod ViewLaws
 pub mod Walks

@@ -1,7 +1,7 @@
 -- What a member told was true of it when it told it.
-use Rattle.std.proofs.Common.{nat_lt, ◌≡◌, ℕ, true, List, Option, Some, None, refl, sym, ap, ◌∙◌, subst, false}
-use Rattle.std.specs.Prelude.{nat_eq}
-use Rattle.std.proofs.lemmas.Bool.{cond_both}
+use Rattle.std.proofs.Common.{nat_lt, ◌≡◌, ◌≤◌, ⊎_elim, arith, not, Bool, ℕ, true, List, [], Option, Some, None, refl, sym, ap, ◌∙◌, subst, false}
+use Rattle.std.specs.Prelude.{nat_eq, if◌then◌else◌}
+use Rattle.std.proofs.lemmas.Bool.{cond_both, cases_Bool, or_parts, ltb-false}
 use Rattle.std.proofs.lemmas.Option.{same_Some}
 use Rattle.fab_base.specs.declared.identities.BrickId.{BrickId}
 use Rattle.fab_base.specs.declared.asks.Ask.{Ask}
@@ -12,19 +12,25 @@ use Rattle.messages.specs.declared.packets.Message.{Message}
 use Rattle.messages.specs.declared.packets.Packet.{Packet}
 use Rattle.messages.specs.declared.requests.Request.{Request}
 use Rattle.messages.specs.declared.replies.Reply.{Reply}
-use Rattle.fab_base.specs.Layouts.{Group}
+use Rattle.fab_base.specs.Layouts.{Layout, Group}
+use Rattle.fab_base.specs.declared.stamps.Ballot.{Ballot}
+use Rattle.fab_base.specs.declared.identities.GroupId.{GroupId}
+use Rattle.protocol.specs.Ballots.{Voted}
 use Rattle.protocol.specs.Settings.{Setting, Code}
 use Rattle.protocol_laws.proofs.Reactions.{modified_each}
 use Rattle.protocol.specs.Replicas.{Replica, Reaction, top_of, is_held, is_wanted, told_version, stays, unless_full, promised, stored, looked_up, handle, ignored}
 use Rattle.protocol.specs.Coordinators.{Coordinator, Next, Ignores, Waits, Sends, Makes, Ends, request_of, on_reply}
-use Rattle.protocol.specs.Nodes.{view_at, Node, replica_at, full_at, reply_packets, ticked, began, invoked, requested, known_after, fresh_stamp, carried_out, group_at, replied_at, replied, received, phase_packets, new_coordinator, view_floor}
+use Rattle.protocol.specs.Nodes.{view_at, Node, replica_at, full_at, reply_packets, ticked, began, invoked, requested, known_after, fresh_stamp, carried_out, group_at, replied_at, heard, received, with_round, node_taught_by, view_counted, moved_at, is_void, requested_in, requested_as, no_step, vote_at, with_known, proposed, ballot_resent, NodeStep, phase_packets, new_coordinator, view_floor}
 use Rattle.protocol.specs.Worlds.{World, Event, first_world, world_stopped, happens, run}
 use Rattle.protocol_laws.specs.Laws.{RefusalIsTrue, RefusalsWereTrue, stamp_asked}
-use Rattle.protocol.proofs.Served.{request_each, served_open}
+use Rattle.protocol.proofs.Served.{request_each}
+use Rattle.protocol_laws.proofs.Votes.{vote_each, moved_each, outbid_promised}
+use Rattle.protocol_laws.proofs.Proposing.{AreOfViews, of_views_each, resent_of_views, ballot_each, proposed_each}
+use Rattle.protocol_laws.proofs.Teaching.{heard_each}
 use Rattle.protocol.proofs.Events.{EventCases, step_on, happens_each, started_each}
-use Rattle.protocol.proofs.Packets.{OfEach, each_none, each_member, each_collect, each_reply, each_ticked}
+use Rattle.protocol.proofs.Packets.{OfEach, each_none, each_one, each_both, each_member, each_collect, each_reply, each_ticked}
 use Rattle.protocol_laws.proofs.Tops.{top_is_part}
-use Rattle.protocol_laws.proofs.StampViews.{StampViews, NodeViews, RequestIsOf, MessageIsOf, asks_above, always_views}
+use Rattle.protocol_laws.proofs.StampViews.{StampViews, NodeViews, RequestIsOf, MessageIsOf, asks_above, free_for, always_views}
 use Rattle.protocol_laws.proofs.Left.{packet_was_sent}
 use Rattle.protocol_laws.proofs.Sendings.{Adds, adds_none, SentAt, sent_at}
 
@@ -45,6 +51,9 @@ abbrev SaysTrue : Option ℕ → Replica → Request → Option Reply → Type 0
 SaysTrue full replica request None = Unit {0}
 SaysTrue full replica request (Some (Reply.Later x)) = (top_of replica ≡ x) × ((t : Stamp) × (stamp_asked request ≡ Some t) × (stamp_below t x ≡ true))
 SaysTrue full replica request (Some (Reply.Full live)) = full ≡ Some live
+SaysTrue full replica request (Some (Reply.Moved view lineage)) = ⊥
+SaysTrue full replica request (Some (Reply.Outbid ballot)) = ⊥
+SaysTrue full replica request (Some Reply.NotSynced) = ⊥
 SaysTrue full replica request (Some reply) = Unit {0}
 
 unless_full_true : (full whole : Option ℕ) (replica : Replica) (request : Request) (reaction : Reaction) → whole ≡ full → SaysTrue whole replica request reaction.reply
@@ -86,6 +95,15 @@ full_live records node live is =
     cond_both (nat_eq node.live records) (Some node.live) None (λ (z : Option ℕ). z ≡ Some live → node.live ≡ live)
     (λ same e. same_Some node.live live e) (λ other e. cc) is
 
+-- a request that is not void is of no later view than its brick has learnt
+unvoid_view : (layout : Layout) (me : BrickId) (node : Node) (call : Call) (request : Request) (group : Group) → is_void layout me node call request group ≡ false
+    → call.view.0 ≤ view_at node call.group.0
+unvoid_view layout me node call request group isnt =
+    let stripe = or_parts (not (nat_lt call.stripe.0 group.stripes)) _ isnt in
+    let view = or_parts (nat_eq call.view.0 0) _ stripe.1 in
+    let known = or_parts (nat_lt (view_at node call.group.0) call.view.0) _ view.1 in
+    ltb-false (view_at node call.group.0) call.view.0 known.0
+
 module _ (setting : Setting) (w : World) where
   replies_true : (me to : BrickId) (call : Call) (request : Request) (reply : Option Reply)
       → ((t : Stamp) → stamp_asked request ≡ Some t → stamp_below t (view_floor (w.nodes me.0) call.group.0) ≡ false)
@@ -105,17 +123,56 @@ module _ (setting : Setting) (w : World) where
           top_is_part (w.nodes me.0) call.group.0 call.stripe.0 is.1.0 (above is.1.0 is.1.1) (ap (λ (z : Stamp). stamp_below is.1.0 z) part ∙ is.1.2)
           ∙ part
       said (Reply.Full live) is = full_live setting.layout.records (w.nodes me.0) live is
+      said (Reply.Moved number lineage) is = absurd is
+      said (Reply.Outbid ballot) is = absurd is
+      said Reply.NotSynced is = absurd is
       said r is = tt
+
+  -- what a member tells that serves the view of a call no more
+  moved_true : (me from : BrickId) (call : Call) (moved : Reply) → call.view.0 ≤ view_at (w.nodes me.0) call.group.0 → moved_at (w.nodes me.0) call ≡ Some moved
+      → IsTrue w (record { from = me; to = from; message = Message.Reply call moved })
+  moved_true me from call moved known =
+      moved_each (λ (r : Reply). IsTrue w (record { from = me; to = from; message = Message.Reply call r })) (w.nodes me.0) call moved (λ later. (later, refl))
+      (λ most has. (refl, omega (arith, most, known), has))
+
+  -- and one that votes
+  vote_true : (me from : BrickId) (call : Call) (ballot : Ballot) (asked : Option (List BrickId)) → call.view.0 ≤ view_at (w.nodes me.0) call.group.0
+      → IsTrue w (record { from = me; to = from; message = Message.Reply call (vote_at (w.nodes me.0) call ballot asked).reply })
+  vote_true me from call ballot asked known =
+      vote_each (λ (v : Voted). IsTrue w (record { from = me; to = from; message = Message.Reply call v.reply })) call.view.0
+      ((w.nodes me.0).learnt call.group.0) ((w.nodes me.0).ballots call.group.0) ballot asked (λ later. (later, refl))
+      (λ most not. (omega (arith, most, known), not))
+      (λ greater most is. (omega (arith, most, known), outbid_promised ((w.nodes me.0).ballots call.group.0) ballot greater is)) tt (λ list is. tt)
 
   -- what a step on a message sends
   requested_true : (me from : BrickId) (call : Call) (request : Request) → NodeViews setting.layout (w.nodes me.0)
       → RequestIsOf call request → AreTrue w (requested setting me from (w.nodes me.0) call request).packets
-  requested_true me from call request has asks =
-      request_each (λ step. AreTrue w step.packets) setting me from (w.nodes me.0) call request (each_none (IsTrue w))
-      (λ group seat here at view. replies_true me from call request
-      (handle setting.code group.m (full_at setting.layout.records (w.nodes me.0).live) seat (replica_at (w.nodes me.0) call) request).reply
-      (asks_above setting.layout (w.nodes me.0) call request has asks view (served_open setting me (w.nodes me.0) call request group seat at)) view
-      (handle_true setting.code group.m (full_at setting.layout.records (w.nodes me.0).live) seat (replica_at (w.nodes me.0) call) request))
+  unfolding requested
+  requested_true me from call request has asks = in_group (group_at setting.layout (w.nodes me.0) call.group.0) refl
+    where
+      node : Node
+      node = w.nodes me.0
+
+      -- a request that is not void
+      handled : call.view.0 ≤ view_at node call.group.0 → AreTrue w (requested setting me from node call request).packets
+      handled known =
+          request_each (λ step. AreTrue w step.packets) setting me from node call request (each_none (IsTrue w))
+          (λ moved is. each_one (IsTrue w) _ [] (moved_true me from call moved known is) (each_none (IsTrue w)))
+          (λ group seat here served. replies_true me from call request
+          (handle setting.code group.m (full_at setting.layout.records node.live) seat (replica_at node call) request).reply
+          (asks_above setting.layout node call request has asks served.view (free_for node call request served.free)) served.view
+          (handle_true setting.code group.m (full_at setting.layout.records node.live) seat (replica_at node call) request))
+          (λ group ballot asked here. each_one (IsTrue w) _ [] (vote_true me from call ballot asked known) (each_none (IsTrue w)))
+
+      in_group : (z : Option Group) → group_at setting.layout node call.group.0 ≡ z → AreTrue w (requested_in setting me from node call request z).packets
+      in_group None here = each_none (IsTrue w)
+      in_group (Some group) here = ⊎_elim
+          (λ (void : is_void setting.layout me node call request group ≡ true).
+          subst (λ (b : Bool). AreTrue w (if b then no_step node else requested_as setting group me from node call request).packets) (sym void) (each_none (IsTrue w)))
+          (λ (isnt : is_void setting.layout me node call request group ≡ false).
+          subst (λ (z : Option Group). AreTrue w (requested_in setting me from node call request z).packets) here
+          (handled (unvoid_view setting.layout me node call request group isnt)))
+          (cases_Bool (is_void setting.layout me node call request group))
 
   carried_true : (me : BrickId) (node : Node) (known : ℕ) (c : Coordinator) (next : Next)
       → AreTrue w (carried_out setting me node known c next).packets
@@ -125,24 +182,39 @@ module _ (setting : Setting) (w : World) where
   carried_true me node known c (Makes d) = phase_true setting w me d
   carried_true me node known c (Ends answer seen held) = each_collect (IsTrue w) me c held (λ t to. tt)
 
-  replied_true : (me : BrickId) (now : ℕ) (from : BrickId) (call : Call) (reply : Reply)
-      → AreTrue w (replied setting me now from (w.nodes me.0) call reply).packets
-  unfolding replied
-  replied_true me now from call reply = at_call ((w.nodes me.0).calls call.seq)
-    where
-      at_call : (z : Option Coordinator) → AreTrue w (replied_at setting me now from (w.nodes me.0) call reply z).packets
-      at_call None = each_none (IsTrue w)
-      at_call (Some c) =
-          carried_true me (w.nodes me.0) (known_after (w.nodes me.0).known reply) c
-          (on_reply setting.layout.block setting.code
-          (fresh_stamp me c.call.view now (w.nodes me.0).boot (known_after (w.nodes me.0).known reply)) c from call reply)
+  -- what is of views refuses nothing
+  ballots_true : (packets : List Packet) → AreOfViews packets → AreTrue w packets
+  ballots_true packets =
+      of_views_each (IsTrue w) (λ from to group view. tt) (λ from to call ballot. tt) (λ from to call ballot members. tt) packets
+
+  replied_true : (me : BrickId) (now : ℕ) (from : BrickId) (node : Node) (call : Call) (reply : Reply) (found : Option Coordinator)
+      → AreTrue w (replied_at setting me now from node call reply found).packets
+  replied_true me now from node call reply None =
+      ballot_each (λ (step : NodeStep). AreTrue w step.packets) setting.layout me from (with_known node (known_after node.known reply)) call reply node.proposal
+      (λ seq round proposal packets reports more are. ballots_true packets are)
+  replied_true me now from node call reply (Some c) =
+      carried_true me node (known_after node.known reply) c
+      (on_reply setting.layout.block setting.code (fresh_stamp me c.call.view now node.boot (known_after node.known reply)) c from call reply)
+
+  heard_true : (me : BrickId) (now : ℕ) (from : BrickId) (call : Call) (reply : Reply) → AreTrue w (heard setting me now from (w.nodes me.0) call reply).packets
+  heard_true me now from call reply =
+      heard_each (λ (step : NodeStep). AreTrue w step.packets) setting me now from (w.nodes me.0) call reply (each_none (IsTrue w))
+      (λ fit. replied_true me now from
+      (node_taught_by setting.layout.block call.group.0 (with_round (w.nodes me.0) reply) (view_counted setting.layout from (w.nodes me.0) call reply)) call reply
+      ((w.nodes me.0).calls call.seq))
 
   received_true : (now : ℕ) (from to : BrickId) (message : Message) → NodeViews setting.layout (w.nodes to.0)
       → MessageIsOf message → AreTrue w (received setting to now (w.nodes to.0) (record { from = from; to = to; message = message })).packets
   unfolding received
   received_true now from to (Message.Request call request) has is = requested_true to from call request has is
-  received_true now from to (Message.Reply call reply) has is = replied_true to now from call reply
+  received_true now from to (Message.Reply call reply) has is = heard_true to now from call reply
+  received_true now from to (Message.Learn group view) has is = each_none (IsTrue w)
   received_true now from to message has is = each_none (IsTrue w)
+
+  proposed_true : (me : BrickId) (group : GroupId) (members : List BrickId) → AreTrue w (proposed setting me (w.nodes me.0) group members).packets
+  proposed_true me group members =
+      proposed_each (λ (step : NodeStep). AreTrue w step.packets) setting me (w.nodes me.0) group members
+      (λ seq round proposal packets reports more are. ballots_true packets are)
 
   invoked_true : (me : BrickId) (now : ℕ) (ask : Ask) → AreTrue w (invoked setting me now (w.nodes me.0) ask).packets
   unfolding invoked
@@ -166,6 +238,12 @@ adds_cases setting w views = record {
         packets = refl;
         each = invoked_true setting w brick (w.clocks brick.0) ask;
       };
+  proposes = λ brick group members may.
+      record {
+        more = (proposed setting brick (w.nodes brick.0) group members).packets;
+        packets = refl;
+        each = proposed_true setting w brick group members;
+      };
   handles = λ number packet at up.
       record {
         more = (step_on setting w packet).packets;
@@ -178,7 +256,9 @@ adds_cases setting w views = record {
       record {
         more = ticked setting brick (w.nodes brick.0);
         packets = refl;
-        each = each_ticked (IsTrue w) setting brick (w.nodes brick.0).calls (w.nodes brick.0).seq (λ k c is seat to. tt);
+        each = each_both (IsTrue w) _ (ballot_resent brick (w.nodes brick.0).proposal)
+            (each_ticked (IsTrue w) setting brick (w.nodes brick.0).calls (w.nodes brick.0).seq (λ k c is seat to. tt) (λ k c is later from to. tt))
+            (ballots_true setting w _ (resent_of_views brick (w.nodes brick.0).proposal));
       };
   stops = λ brick during up. adds_none (IsTrue w) w (world_stopped setting w brick during) refl;
   starts = λ brick openings found may. started_each (AddsTrue w) w brick openings (adds_none (IsTrue w) w _ refl) (adds_none (IsTrue w) w _ refl) found;

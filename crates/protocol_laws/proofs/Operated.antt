@@ -1,6 +1,6 @@
 -- One operation changes, with messages and marks beside it.
 use Rattle.fab_base.specs.declared.asks.Ask.{Ask}
-use Rattle.std.proofs.Common.{◌≡◌, ◌≢◌, ℕ, ◌≤◌, ◌⊎◌, inl, inr, List, ◌++◌, length, Some, refl, sym, ap, ◌∙◌, subst, ⊎_elim, arith}
+use Rattle.std.proofs.Common.{◌≡◌, ◌≢◌, ℕ, ◌≤◌, ◌⊎◌, inl, inr, List, ◌++◌, length, Some, refl, sym, ap, ◌∙◌, subst, ⊎_elim, arith, []}
 use Rattle.std.specs.Prelude.{slice_get}
 use Rattle.fab_base.specs.declared.identities.BrickId.{BrickId}
 use Rattle.fab_base.specs.declared.stamps.Stamp.{Stamp}
@@ -15,7 +15,7 @@ use Rattle.protocol.specs.Settings.{Setting}
 use Rattle.protocol.specs.Replicas.{top_of, Replica}
 use Rattle.protocol.specs.Coordinators.{Coordinator}
 use Rattle.protocol.specs.Nodes.{Node, put}
-use Rattle.protocol.specs.Worlds.{World, Operation, with_held}
+use Rattle.protocol.specs.Worlds.{World, Operation, with_held, choices_after}
 use Rattle.protocol_laws.proofs.Books.{Books, IsOperation}
 use Rattle.protocol_laws.proofs.Said.{Stamping, Said, StampsSay, IsMadeOrFirst, PacketSays, OperationSays, CallSays, EndShows, IsInOrder, FloorsAbove}
 use Rattle.protocol_laws.proofs.Blocking.{LogsFit}
@@ -39,6 +39,7 @@ operated w me node more marks n p contents =
       begun = w.begun;
       operations = put w.operations n (Some p);
       numbers = w.numbers;
+      choices = choices_after w.choices me node [];
       past = w.past;
       contents = contents;
       held = with_held w.held me.0 node;
@@ -142,7 +143,7 @@ said_operated setting views w stamps later me node more marks n o p contents boo
       stamps_say = owes.stamps_say;
       tops = λ g e s i. inl (ap (λ (r : Replica). top_of r) (part_same w after me.0 node refl keeps.places.2 g e s i));
       logs = λ g e s i k version is. inl (k, ap (λ (r : Replica). slice_get r.log k) (sym (part_same w after me.0 node refl keeps.places.2 g e s i)) ∙ is);
-      lowest = λ g e s i x log is. inl (log, ap (λ (r : Replica). r.log) (sym (part_same w after me.0 node refl keeps.places.2 g e s i)) ∙ is);
+      lowest = λ g e s i x log within is. inl (log, ap (λ (r : Replica). r.log) (sym (part_same w after me.0 node refl keeps.places.2 g e s i)) ∙ is);
       packets = λ k packet is. ⊎_elim
           (λ (old : slice_get w.packets k ≡ Some packet). inl old)
           (λ (new : (j : ℕ) × (slice_get more j ≡ Some packet)). inr (owes.packets new.0 packet new.1))

@@ -1,4 +1,7 @@
 -- What a coordinator decides once a reply counts, by its phase.
+use Rattle.fab_base.specs.declared.identities.ViewNo.{ViewNo}
+use Rattle.protocol.specs.declared.phases.Mover.{Mover}
+use Rattle.protocol_laws.proofs.Counting.{NoneStops}
 use Rattle.std.proofs.Common.{◌≡◌, ℕ, ◌+◌, ◌<◌, ◌≤◌, ◌⊎◌, inl, inr, true, false, List, [], length, Option, Some, None, is_some, refl, arith, subst, ⊎_elim}
 use Rattle.std.specs.Prelude.{nat_lt}
 use Rattle.std.proofs.lemmas.Bool.{cond_both, false≢true, ltb-true, ltb-false}
@@ -18,7 +21,7 @@ use Rattle.protocol.specs.declared.phases.Phase.TheVariants.{Looks, LooksAt, Ord
 use Rattle.protocol.specs.declared.phases.Counted.{Counted}
 use Rattle.protocol.specs.declared.phases.Refuser.{Refuser}
 use Rattle.protocol.specs.declared.phases.FullMember.{FullMember}
-use Rattle.protocol.specs.Coordinators.{Coordinator, Next, Ignores, Waits, Sends, Makes, Ends, next_phase, in_phase, restoring, reordering, forgetting, most_rounds, aborted_by, unless_told_full, ordered_again, once_ordered, unless_refused, answered_fast, read_back, answer_with, pieces_at, greatest_refuser, lowest_full, greatest_found, fast_version, decided, once_full, answered_fast_at, modified_if, once_modified, rebuilt, some_behind, bytes_at, block_written, fast_version_at, common_version_at}
+use Rattle.protocol.specs.Coordinators.{Coordinator, Next, Ignores, Waits, Sends, Makes, Ends, next_phase, in_phase, restoring, reordering, forgetting, most_rounds, aborted_by, unless_told_full, unless_told_moved, lowest_mover, ordered_again, once_ordered, unless_refused, answered_fast, read_back, answer_with, pieces_at, greatest_refuser, lowest_full, greatest_found, fast_version, decided, once_full, answered_fast_at, modified_if, once_modified, rebuilt, some_behind, bytes_at, block_written, fast_version_at, common_version_at}
 use Rattle.protocol.specs.Worlds.{is_answer}
 
 -- the coordinator of the same operation, under the same call
@@ -39,7 +42,7 @@ pub record WaitsFits (c d : Coordinator) : Type 0 where
   pub base : d.base ≡ c.base
   pub call : d.call ≡ c.call
   pub phase : d.phase ≡ c.phase
-  pub counted : (d.counted ≡ c.counted) ⊎ ((d.counted ≡ []) × (greatest_refuser c.counted ≡ None) × (lowest_full c.counted ≡ None))
+  pub counted : (d.counted ≡ c.counted) ⊎ ((d.counted ≡ []) × (greatest_refuser c.counted ≡ None) × (NoneStops c.counted))
 
 -- a phase that is a round of ordering
 abbrev pub IsRound : Phase → Type 0
@@ -175,12 +178,18 @@ pub record FullFits (c : Coordinator) (brick : BrickId) (live : ℕ) : Type 0 wh
   pub seat : ℕ
   pub told : lowest_full c.counted ≡ Some (record { seat = seat; brick = brick; live = live })
 
+-- the abort tells of the member of the lowest seat that told a later view
+pub record MovedFits (c : Coordinator) (brick : BrickId) (view : ViewNo) : Type 0 where
+  pub seat : ℕ
+  pub told : lowest_mover c.counted ≡ Some (record { seat = seat; brick = brick; view = view })
+
 -- what an answer tells is so
 abbrev pub AnswerFits : Option Stamp → Coordinator → Answer → Type 0
 AnswerFits fresh c (Data bytes) = Unit {0}
 AnswerFits fresh c Done = Unit {0}
 AnswerFits fresh c (Aborted (Cause.Later brick x)) = AbortFits fresh c brick x
 AnswerFits fresh c (Aborted (Cause.Full brick live)) = FullFits c brick live
+AnswerFits fresh c (Aborted (Cause.Moved brick view)) = MovedFits c brick view
 AnswerFits fresh c (Aborted cause) = ⊥
 
 -- what is decided fits the coordinator
@@ -192,14 +201,14 @@ NextFits fresh c (Makes d) = MakesFits c d
 NextFits fresh c (Ends answer seen stored) = EndFits c.phase answer seen × AnswerFits fresh c answer
 
 -- a coordinator of these parts
-abbrev at : Group → Ask → Stamp → ℕ → Option Stamp → List ℕ → Call → Phase → List Counted → Coordinator
-at group ask stamp round base content call phase counted =
-    record { group = group; ask = ask; stamp = stamp; round = round; base = base; content = content; call = call; phase = phase; counted = counted }
+abbrev at : Group → List BrickId → Ask → Stamp → ℕ → Option Stamp → List ℕ → Call → Phase → List Counted → Coordinator
+at group prior ask stamp round base content call phase counted =
+    record { group = group; prior = prior; ask = ask; stamp = stamp; round = round; base = base; content = content; call = call; phase = phase; counted = counted }
 
-module _ (group : Group) (ask : Ask) (stamp : Stamp) (round : ℕ) (base : Option Stamp) (content : List ℕ) (call : Call) (counted : List Counted) where
+module _ (group : Group) (prior : List BrickId) (ask : Ask) (stamp : Stamp) (round : ℕ) (base : Option Stamp) (content : List ℕ) (call : Call) (counted : List Counted) where
   -- the coordinator in a phase
   abbrev within : Phase → Coordinator
-  within phase = at group ask stamp round base content call phase counted
+  within phase = at group prior ask stamp round base content call phase counted
 
   waits_fits : (phase : Phase) → WaitsFits (within phase) (within phase)
   waits_fits phase = record {
@@ -212,7 +221,7 @@ module _ (group : Group) (ask : Ask) (stamp : Stamp) (round : ℕ) (base : Optio
     counted = inl refl;
   }
 
-  forgets_fits : (phase : Phase) → greatest_refuser counted ≡ None → lowest_full counted ≡ None
+  forgets_fits : (phase : Phase) → greatest_refuser counted ≡ None → NoneStops counted
       → WaitsFits (within phase) (forgetting (within phase))
   forgets_fits phase none roomy = record {
     same = record { ask = refl; members = refl; boot = refl; seq = refl; group = refl; view = refl; stripe = refl };
@@ -305,7 +314,7 @@ module _ (group : Group) (ask : Ask) (stamp : Stamp) (round : ℕ) (base : Optio
       (λ all. (tt, tt))
 
   -- and stores what it made of that
-  rebuilt_fits : (block : ℕ) (code : Code) (fresh : Option Stamp) (v : Stamp) → greatest_refuser counted ≡ None → lowest_full counted ≡ None
+  rebuilt_fits : (block : ℕ) (code : Code) (fresh : Option Stamp) (v : Stamp) → greatest_refuser counted ≡ None → NoneStops counted
       → NextFits fresh (within (Bases v)) (rebuilt block code (within (Bases v)) v)
   rebuilt_fits block code fresh v none roomy =
       cond_both (nat_lt (length (pieces_at v counted)) group.m) (Waits (forgetting (within (Bases v))))
@@ -320,7 +329,7 @@ module _ (group : Group) (ask : Ask) (stamp : Stamp) (round : ℕ) (base : Optio
       })
 
   read_back_fits : (block : ℕ) (code : Code) (fresh : Option Stamp) (phase : Phase) (v : Option Stamp) → (IsMaking phase → ⊥)
-      → greatest_refuser counted ≡ None → lowest_full counted ≡ None → NextFits fresh (within phase) (read_back block code (within phase) v)
+      → greatest_refuser counted ≡ None → NoneStops counted → NextFits fresh (within phase) (read_back block code (within phase) v)
   read_back_fits block code fresh phase None unmade none roomy = forgets_fits phase none roomy
   read_back_fits block code fresh phase (Some v) unmade none roomy =
       cond_both (nat_lt (length (pieces_at v counted)) group.m) (Sends (in_phase (within phase) (Descends v)))
@@ -335,11 +344,13 @@ module _ (group : Group) (ask : Ask) (stamp : Stamp) (round : ℕ) (base : Optio
   aborts_fits fresh phase r refused last =
       (abort_ends phase (Cause.Later r.brick r.stamp), record { seat = r.seat; refused = refused; last = last })
 
-  -- a member whose store is full aborts any phase
-  unless_told_fits : (fresh : Option Stamp) (phase : Phase) (next : Next) (f : Option FullMember) → lowest_full counted ≡ f
-      → (lowest_full counted ≡ None → NextFits fresh (within phase) next) → NextFits fresh (within phase) (unless_told_full f next)
-  unless_told_fits fresh phase next None none fits = fits none
-  unless_told_fits fresh phase next (Some f) told fits = (abort_ends phase (Cause.Full f.brick f.live), record { seat = f.seat; told = told })
+  -- a member that moved on aborts any phase, and so does one whose store is full
+  unless_told_fits : (fresh : Option Stamp) (phase : Phase) (next : Next) (m : Option Mover) (f : Option FullMember) → lowest_mover counted ≡ m
+      → lowest_full counted ≡ f → (NoneStops counted → NextFits fresh (within phase) next)
+      → NextFits fresh (within phase) (unless_told_moved m (unless_told_full f next))
+  unless_told_fits fresh phase next None None stays roomy fits = fits (stays, roomy)
+  unless_told_fits fresh phase next None (Some f) stays told fits = (abort_ends phase (Cause.Full f.brick f.live), record { seat = f.seat; told = told })
+  unless_told_fits fresh phase next (Some m) f told roomy fits = (abort_ends phase (Cause.Moved m.brick m.view), record { seat = m.seat; told = told })
 
   again_fits : (fresh : Option Stamp) (phase : Phase) (r : Refuser) → IsRound phase
       → ((f : Option Stamp) → NoRoundFits f (within phase) → LastFits f (within phase) phase)
@@ -375,13 +386,13 @@ module _ (group : Group) (ask : Ask) (stamp : Stamp) (round : ℕ) (base : Optio
   ordered_at_fits code fresh j None refused = modified_fits code fresh j (common_version_at j counted)
   ordered_at_fits code fresh j (Some r) refused = again_fits fresh (OrdersAt j) r tt (λ f none. none) (λ is. is) refused
 
-  recovered_fits : (block : ℕ) (code : Code) (fresh : Option Stamp) (r : Option Refuser) → greatest_refuser counted ≡ r → lowest_full counted ≡ None
+  recovered_fits : (block : ℕ) (code : Code) (fresh : Option Stamp) (r : Option Refuser) → greatest_refuser counted ≡ r → NoneStops counted
       → NextFits fresh (within Recovers) (once_ordered fresh (within Recovers) r (read_back block code (within Recovers) (greatest_found counted)))
   recovered_fits block code fresh None refused roomy = read_back_fits block code fresh Recovers (greatest_found counted) (λ is. is) refused roomy
   recovered_fits block code fresh (Some r) refused roomy = again_fits fresh Recovers r tt (λ f none. none) (λ is. is) refused
 
   descended_fits : (block : ℕ) (code : Code) (fresh : Option Stamp) (bound : Stamp) (r : Option Refuser) → greatest_refuser counted ≡ r
-      → lowest_full counted ≡ None
+      → NoneStops counted
       → NextFits fresh (within (Descends bound)) (unless_refused r (read_back block code (within (Descends bound)) (greatest_found counted)))
   descended_fits block code fresh bound None refused roomy =
       read_back_fits block code fresh (Descends bound) (greatest_found counted) (λ is. is) refused roomy
@@ -393,7 +404,7 @@ module _ (group : Group) (ask : Ask) (stamp : Stamp) (round : ℕ) (base : Optio
   modifies_fits fresh v j (Some r) refused = aborts_fits fresh (Modifies v j) r refused tt
 
   bases_fits : (block : ℕ) (code : Code) (fresh : Option Stamp) (v : Stamp) (r : Option Refuser) → greatest_refuser counted ≡ r
-      → lowest_full counted ≡ None → NextFits fresh (within (Bases v)) (unless_refused r (rebuilt block code (within (Bases v)) v))
+      → NoneStops counted → NextFits fresh (within (Bases v)) (unless_refused r (rebuilt block code (within (Bases v)) v))
   bases_fits block code fresh v None refused roomy = rebuilt_fits block code fresh v refused roomy
   bases_fits block code fresh v (Some r) refused roomy = aborts_fits fresh (Bases v) r refused tt
 
@@ -408,26 +419,26 @@ module _ (group : Group) (ask : Ask) (stamp : Stamp) (round : ℕ) (base : Optio
 
   decided_fits : (block : ℕ) (code : Code) (fresh : Option Stamp) (phase : Phase) → NextFits fresh (within phase) (decided block code fresh (within phase))
   unfolding decided
-  decided_fits block code fresh Looks = unless_told_fits fresh Looks _ (lowest_full counted) refl (λ roomy. answered_fast_fits code fresh (fast_version counted))
-  decided_fits block code fresh Orders = unless_told_fits fresh Orders _ (lowest_full counted) refl (λ roomy. ordered_fits fresh (greatest_refuser counted) refl)
+  decided_fits block code fresh Looks = unless_told_fits fresh Looks _ (lowest_mover counted) (lowest_full counted) refl refl (λ roomy. answered_fast_fits code fresh (fast_version counted))
+  decided_fits block code fresh Orders = unless_told_fits fresh Orders _ (lowest_mover counted) (lowest_full counted) refl refl (λ roomy. ordered_fits fresh (greatest_refuser counted) refl)
   decided_fits block code fresh (LooksAt j) =
-      unless_told_fits fresh (LooksAt j) _ (lowest_full counted) refl (λ roomy. answered_fast_at_fits fresh j (fast_version_at j counted))
+      unless_told_fits fresh (LooksAt j) _ (lowest_mover counted) (lowest_full counted) refl refl (λ roomy. answered_fast_at_fits fresh j (fast_version_at j counted))
   decided_fits block code fresh (OrdersAt j) =
-      unless_told_fits fresh (OrdersAt j) _ (lowest_full counted) refl (λ roomy. ordered_at_fits code fresh j (greatest_refuser counted) refl)
+      unless_told_fits fresh (OrdersAt j) _ (lowest_mover counted) (lowest_full counted) refl refl (λ roomy. ordered_at_fits code fresh j (greatest_refuser counted) refl)
   decided_fits block code fresh Recovers =
-      unless_told_fits fresh Recovers _ (lowest_full counted) refl (recovered_fits block code fresh (greatest_refuser counted) refl)
+      unless_told_fits fresh Recovers _ (lowest_mover counted) (lowest_full counted) refl refl (recovered_fits block code fresh (greatest_refuser counted) refl)
   decided_fits block code fresh (Descends bound) =
-      unless_told_fits fresh (Descends bound) _ (lowest_full counted) refl (descended_fits block code fresh bound (greatest_refuser counted) refl)
+      unless_told_fits fresh (Descends bound) _ (lowest_mover counted) (lowest_full counted) refl refl (descended_fits block code fresh bound (greatest_refuser counted) refl)
   decided_fits block code fresh (Modifies u j) =
-      unless_told_fits fresh (Modifies u j) _ (lowest_full counted) refl (λ roomy. modifies_fits fresh u j (greatest_refuser counted) refl)
+      unless_told_fits fresh (Modifies u j) _ (lowest_mover counted) (lowest_full counted) refl refl (λ roomy. modifies_fits fresh u j (greatest_refuser counted) refl)
   decided_fits block code fresh (Bases u) =
-      unless_told_fits fresh (Bases u) _ (lowest_full counted) refl (bases_fits block code fresh u (greatest_refuser counted) refl)
+      unless_told_fits fresh (Bases u) _ (lowest_mover counted) (lowest_full counted) refl refl (bases_fits block code fresh u (greatest_refuser counted) refl)
   decided_fits block code fresh Stores =
-      unless_told_fits fresh Stores _ (lowest_full counted) refl (λ roomy. stored_fits fresh (Some stamp) (read_of block ask.op content) (greatest_refuser counted) refl)
+      unless_told_fits fresh Stores _ (lowest_mover counted) (lowest_full counted) refl refl (λ roomy. stored_fits fresh (Some stamp) (read_of block ask.op content) (greatest_refuser counted) refl)
 
 -- what a coordinator decides, with a quorum of replies or without, fits it
 pub once_full_fits : (block : ℕ) (code : Code) (fresh : Option Stamp) (c : Coordinator) → NextFits fresh c (once_full block code fresh c)
 once_full_fits block code fresh c =
     cond_both (nat_lt (length c.counted) (quorum_of c.group)) _ _ (λ (next : Next). NextFits fresh c next)
-    (λ few. waits_fits c.group c.ask c.stamp c.round c.base c.content c.call c.counted c.phase)
-    (λ enough. decided_fits c.group c.ask c.stamp c.round c.base c.content c.call c.counted block code fresh c.phase)
+    (λ few. waits_fits c.group c.prior c.ask c.stamp c.round c.base c.content c.call c.counted c.phase)
+    (λ enough. decided_fits c.group c.prior c.ask c.stamp c.round c.base c.content c.call c.counted block code fresh c.phase)

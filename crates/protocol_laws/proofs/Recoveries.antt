@@ -27,7 +27,7 @@ use Rattle.messages.specs.declared.requests.Want.{Want}
 use Rattle.messages.specs.declared.requests.Want.TheVariants.{All}
 use Rattle.protocol.specs.declared.phases.Phase.{Phase}
 use Rattle.protocol.specs.declared.phases.Phase.TheVariants.{Descends, Bases}
-use Rattle.protocol.specs.Coordinators.{Coordinator, told_in, told_stamp, finds, bytes_of, pieces_at, greater_stamp, greatest_found, greatest_refuser, lowest_full}
+use Rattle.protocol.specs.Coordinators.{Coordinator, told_in, told_stamp, finds, bytes_of, pieces_at, greater_stamp, greatest_found, greatest_refuser}
 use Rattle.protocol.specs.Worlds.{World, Operation}
 use Rattle.fab_base.specs.Layouts.{brick_at}
 use Rattle.protocol_laws.specs.Laws.{AtQuorum, IsBlocked, top_in}
@@ -35,7 +35,7 @@ use Rattle.protocol_laws.proofs.Books.{Books, CallBooks, IsCall}
 use Rattle.protocol_laws.proofs.Logs.{IsWithin, below_above}
 use Rattle.protocol_laws.proofs.Blocking.{twice_quorum, passes_by, passes, blocked_by, blocked_never_stands}
 use Rattle.protocol_laws.proofs.Said.{Stamping, Said, IsMadeOrFirst, IsStampOf, CallSays, CountedSays, EachCounted, AreOnce, look_of, want_of, is_looked, MadeOn, base_in}
-use Rattle.protocol_laws.proofs.Counting.{each_then, each_both, each_filter, once_filter, at_seats, TellsAtMost, found_most, found_one, finds_told, told_finds, IsPieceOf, are_pieces, pieces_length}
+use Rattle.protocol_laws.proofs.Counting.{each_then, each_both, each_filter, once_filter, at_seats, TellsAtMost, found_most, found_one, finds_told, told_finds, IsPieceOf, are_pieces, pieces_length, NoneStops}
 use Rattle.protocol_laws.proofs.Stampings.{not_first, above_first}
 use Rattle.protocol_laws.proofs.Decisions.{quorum_enough, ReadsAt, told_version_is, content_formed, all_read, bound_cases}
 use Rattle.protocol.proofs.Blocks.{IsContent}
@@ -358,7 +358,7 @@ module _ (setting : Setting) (views : Views) (sound : IsSound setting) (w : Worl
     (books : Books setting w) (said : Said setting views w stamps) (is : IsCall w me.0 c.call.seq c)
     (counted : List Counted) (each : EachCounted (CountedSays setting views w me.0 c) counted) (once : AreOnce counted)
     (many : quorum_of c.group ≤ length counted) (base : Stamp) (reads : c.phase ≡ Bases base)
-    (none : greatest_refuser counted ≡ None) (roomy : lowest_full counted ≡ None) where
+    (none : greatest_refuser counted ≡ None) (roomy : NoneStops counted) where
   abbrev its_books : CallBooks setting w me.0 c.call.seq c
   its_books = books.calls me.0 c.call.seq c is
 

@@ -1,4 +1,5 @@
 -- A coordinator takes a reply: what it then decides keeps the invariant.
+use Rattle.protocol.specs.declared.phases.Mover.{Mover}
 use Rattle.protocol.specs.declared.phases.Counted.{Counted}
 use Rattle.protocol_laws.proofs.Tops.{view_between}
 use Rattle.protocol_laws.proofs.OwnStamps.{call_by, own_in, m_is}
@@ -30,7 +31,7 @@ use Rattle.protocol.specs.declared.phases.Refuser.{Refuser}
 use Rattle.protocol.specs.declared.phases.FullMember.{FullMember}
 use Rattle.protocol.specs.declared.phases.Phase.{Phase}
 use Rattle.protocol.specs.declared.phases.Phase.TheVariants.{Looks, LooksAt, Orders, OrdersAt, Recovers, Descends, Modifies, Bases, Stores}
-use Rattle.protocol.specs.Coordinators.{Coordinator, Next, Waits, Sends, Makes, Ends, answers_phase, has_seat, counts_at, fast_version, pieces_of, pieces_at, greatest_found, greatest_refuser, lowest_full, in_phase, restoring, reordering, most_rounds, aborted_by, unless_told_full, unless_refused, ordered_again, once_ordered, answered_fast, read_back, answer_with, decided, with_reply, once_full, counted_at, on_reply, request_of, fast_version_at, common_version, common_version_at, bytes_at, block_written, some_behind, answered_fast_at, modifying, modified_if, once_modified, rebuilt, forgetting}
+use Rattle.protocol.specs.Coordinators.{Coordinator, Next, Waits, Sends, Makes, Ends, answers_phase, has_seat, counts_at, fast_version, pieces_of, pieces_at, greatest_found, greatest_refuser, lowest_full, in_phase, restoring, reordering, most_rounds, aborted_by, unless_told_full, unless_told_moved, lowest_mover, unless_refused, ordered_again, once_ordered, answered_fast, read_back, answer_with, decided, with_reply, once_full, counted_at, on_reply, request_of, fast_version_at, common_version, common_version_at, bytes_at, block_written, some_behind, answered_fast_at, modifying, modified_if, once_modified, rebuilt, forgetting}
 use Rattle.protocol.specs.Nodes.{Node, has_block, has_length, given_content, with_known, with_call, carried_out}
 use Rattle.protocol.specs.Worlds.{World, Operation, number_of, world_stepped, content_on, is_answer}
 use Rattle.protocol.specs.Happenings.{writes}
@@ -40,7 +41,7 @@ use Rattle.protocol_laws.proofs.Books.{Books, OperationBooks, CallBooks, IsUnmad
 use Rattle.protocol_laws.proofs.Said.{Stamping, Said, IsSaid, AreBlocked, IsMadeOrFirst, IsStampOf, EachCounted, AreOnce, FitsPhase, FloorsAtMost, HasVersion, CountedSays, CallSays, DescendsFrom, MadeOn, look_of, want_of, base_in}
 use Rattle.protocol.proofs.Tables.{put_each, put_same}
 use Rattle.protocol.proofs.CountsAt.{CountsAt, counts_facts}
-use Rattle.protocol_laws.proofs.Counting.{each_then, each_more, once_more, fast_at, common_at, common_each, common_greatest}
+use Rattle.protocol_laws.proofs.Counting.{each_then, each_more, once_more, fast_at, common_at, common_each, common_greatest, NoneStops}
 use Rattle.protocol.proofs.Blocks.{formed_after, IsContent}
 use Rattle.protocol_laws.proofs.Stampings.{ComesFrom, ages_within, stamp_stays, stamps_same, later_unknown, not_first, above_first}
 use Rattle.protocol_laws.proofs.Growth.{Grows, stays_call}
@@ -63,58 +64,62 @@ said_known setting views w stamps me known books said more =
       stamps_other = λ i b k other p. refl;
       tops = λ g e s. inl refl;
       logs = λ g e s k version is. inl (k, is);
-      lowest = λ g e s x log is. inl (log, is);
+      lowest = λ g e s x log within is. inl (log, is);
       calls = λ k c is. inl (is, λ p. refl);
       packets = λ k packet is. cc;
     })
 
+-- what a quorum of replies decides that a member may stop, by having moved on or by a full store
+abbrev unless_stopped : Coordinator → Next → Next
+unless_stopped c next = unless_told_moved (lowest_mover c.counted) (unless_told_full (lowest_full c.counted) next)
+
 -- what a quorum of replies decides, by phase
 decided_looks : (block : ℕ) (code : Code) (fresh : Option Stamp) (c : Coordinator) → c.phase ≡ Looks
-    → decided block code fresh c ≡ unless_told_full (lowest_full c.counted) (answered_fast code c (fast_version c.counted))
+    → decided block code fresh c ≡ unless_stopped c (answered_fast code c (fast_version c.counted))
 unfolding decided
 decided_looks block code fresh c is = rw is
 
 decided_orders : (block : ℕ) (code : Code) (fresh : Option Stamp) (c : Coordinator) → c.phase ≡ Orders
-    → decided block code fresh c ≡ unless_told_full (lowest_full c.counted)
+    → decided block code fresh c ≡ unless_stopped c
     (once_ordered fresh c (greatest_refuser c.counted) (Makes (in_phase c Stores)))
 unfolding decided
 decided_orders block code fresh c is = rw is
 
 decided_looks_at : (block : ℕ) (code : Code) (fresh : Option Stamp) (j : ℕ) (c : Coordinator) → c.phase ≡ LooksAt j
-    → decided block code fresh c ≡ unless_told_full (lowest_full c.counted) (answered_fast_at c j (fast_version_at j c.counted))
+    → decided block code fresh c ≡ unless_stopped c (answered_fast_at c j (fast_version_at j c.counted))
 unfolding decided
 decided_looks_at block code fresh j c is = rw is
 
 decided_orders_at : (block : ℕ) (code : Code) (fresh : Option Stamp) (j : ℕ) (c : Coordinator) → c.phase ≡ OrdersAt j
-    → decided block code fresh c ≡ unless_told_full (lowest_full c.counted)
+    → decided block code fresh c ≡ unless_stopped c
     (once_ordered fresh c (greatest_refuser c.counted) (modified_if code c j (common_version_at j c.counted)))
 unfolding decided
 decided_orders_at block code fresh j c is = rw is
 
 decided_recovers : (block : ℕ) (code : Code) (fresh : Option Stamp) (c : Coordinator) → c.phase ≡ Recovers
-    → decided block code fresh c ≡ unless_told_full (lowest_full c.counted)
+    → decided block code fresh c ≡ unless_stopped c
     (once_ordered fresh c (greatest_refuser c.counted) (read_back block code c (greatest_found c.counted)))
 unfolding decided
 decided_recovers block code fresh c is = rw is
 
 decided_descends : (block : ℕ) (code : Code) (fresh : Option Stamp) (bound : Stamp) (c : Coordinator) → c.phase ≡ Descends bound
-    → decided block code fresh c ≡ unless_told_full (lowest_full c.counted)
+    → decided block code fresh c ≡ unless_stopped c
     (unless_refused (greatest_refuser c.counted) (read_back block code c (greatest_found c.counted)))
 unfolding decided
 decided_descends block code fresh bound c is = rw is
 
 decided_modifies : (block : ℕ) (code : Code) (fresh : Option Stamp) (base : Stamp) (j : ℕ) (c : Coordinator) → c.phase ≡ Modifies base j
-    → decided block code fresh c ≡ unless_told_full (lowest_full c.counted) (unless_refused (greatest_refuser c.counted) (once_modified c base))
+    → decided block code fresh c ≡ unless_stopped c (unless_refused (greatest_refuser c.counted) (once_modified c base))
 unfolding decided
 decided_modifies block code fresh base j c is = rw is
 
 decided_bases : (block : ℕ) (code : Code) (fresh : Option Stamp) (base : Stamp) (c : Coordinator) → c.phase ≡ Bases base
-    → decided block code fresh c ≡ unless_told_full (lowest_full c.counted) (unless_refused (greatest_refuser c.counted) (rebuilt block code c base))
+    → decided block code fresh c ≡ unless_stopped c (unless_refused (greatest_refuser c.counted) (rebuilt block code c base))
 unfolding decided
 decided_bases block code fresh base c is = rw is
 
 decided_stores : (block : ℕ) (code : Code) (fresh : Option Stamp) (c : Coordinator) → c.phase ≡ Stores
-    → decided block code fresh c ≡ unless_told_full (lowest_full c.counted)
+    → decided block code fresh c ≡ unless_stopped c
     (unless_refused (greatest_refuser c.counted) (Ends (answer_with (read_of block c.ask.op c.content)) None (Some c.stamp)))
 unfolding decided
 decided_stores block code fresh c is = rw is
@@ -156,7 +161,7 @@ module _ (setting : Setting) (views : Views) (sound : IsSound setting) (w : Worl
           stamps_other = λ i b k other p. refl;
           tops = λ g e s. inl refl;
           logs = λ g e s k version at. inl (k, at);
-          lowest = λ g e s x log at. inl (log, at);
+          lowest = λ g e s x log within at. inl (log, at);
           calls = λ k e.
               put_each (λ j x. x ≡ Some e
               → (((w.nodes me.0).calls j ≡ Some e) × KeepsStamps stamps stamps me.0 (w.nodes me.0).boot j)
@@ -379,7 +384,7 @@ module _ (setting : Setting) (views : Views) (sound : IsSound setting) (w : Worl
           (level c.phase c.ask.op t (λ bound is. never bound (sym same ∙ is))))
           (λ all. said_aborts (Cause.Later r.brick r.stamp))
 
-      orders_on : c.phase ≡ Orders → lowest_full d.counted ≡ None → (z : Option Refuser) → greatest_refuser d.counted ≡ z
+      orders_on : c.phase ≡ Orders → NoneStops d.counted → (z : Option Refuser) → greatest_refuser d.counted ≡ z
           → IsSaid setting views (after (once_ordered fresh d z (Makes (in_phase d Stores))))
       orders_on orders roomy None none =
           let all = all_ordered setting views sound w stamps me c books said is d.counted each once many orders none roomy in
@@ -409,7 +414,7 @@ module _ (setting : Setting) (views : Views) (sound : IsSound setting) (w : Worl
 
       -- a phase that looks below a bound, which no reply refused
       module _ (bound : Stamp) (looks : look_of c.phase c.stamp ≡ Some (Below bound)) (none : greatest_refuser d.counted ≡ None)
-          (roomy : lowest_full d.counted ≡ None) (not_whole : (bytes : List ℕ) → c.ask.op ≡ WriteStripe bytes → ⊥) (unmade : IsUnmade o) where
+          (roomy : NoneStops d.counted) (not_whole : (bytes : List ℕ) → c.ask.op ≡ WriteStripe bytes → ⊥) (unmade : IsUnmade o) where
         all : EachCounted (ReadsAt setting views sound w stamps me c books said is d.counted each once many (Below bound)) d.counted
         all = all_read setting views sound w stamps me c books said is d.counted each once many (Below bound) looks none roomy
 
@@ -521,7 +526,7 @@ module _ (setting : Setting) (views : Views) (sound : IsSound setting) (w : Worl
       reads_whole : (op : Op) → writes op ≡ false → (bytes : List ℕ) → op ≡ WriteStripe bytes → ⊥
       reads_whole op reads bytes is = false≢true (sym reads ∙ ap writes is)
 
-      recovers_on : c.phase ≡ Recovers → lowest_full d.counted ≡ None → (z : Option Refuser) → greatest_refuser d.counted ≡ z
+      recovers_on : c.phase ≡ Recovers → NoneStops d.counted → (z : Option Refuser) → greatest_refuser d.counted ≡ z
           → IsSaid setting views (after (once_ordered fresh d z (read_back setting.layout.block setting.code d (greatest_found d.counted))))
       recovers_on recovers roomy None none =
           reads_on c.stamp (ap (λ (p : Phase). look_of p c.stamp) recovers) none roomy
@@ -529,7 +534,7 @@ module _ (setting : Setting) (views : Views) (sound : IsSound setting) (w : Worl
           (subst (λ (p : Phase). MadeInPhase c o p) recovers its.made) (ap want_of recovers) (greatest_found d.counted) refl
       recovers_on recovers roomy (Some r) refused = again Recovers recovers (λ t. tt) (λ bound bad. cc) r fresh refl
 
-      lowers_on : (bound : Stamp) → c.phase ≡ Descends bound → lowest_full d.counted ≡ None → (z : Option Refuser)
+      lowers_on : (bound : Stamp) → c.phase ≡ Descends bound → NoneStops d.counted → (z : Option Refuser)
           → greatest_refuser d.counted ≡ z
           → IsSaid setting views (after (unless_refused z (read_back setting.layout.block setting.code d (greatest_found d.counted))))
       lowers_on bound descends roomy None none =
@@ -538,7 +543,7 @@ module _ (setting : Setting) (views : Views) (sound : IsSound setting) (w : Worl
       lowers_on bound descends roomy (Some r) refused = said_aborts (Cause.Later r.brick r.stamp)
 
       -- the write of a block modifies the version that all found, or looks for the greatest below its own stamp
-      orders_at_on : (j : ℕ) → c.phase ≡ OrdersAt j → lowest_full d.counted ≡ None → (z : Option Refuser) → greatest_refuser d.counted ≡ z
+      orders_at_on : (j : ℕ) → c.phase ≡ OrdersAt j → NoneStops d.counted → (z : Option Refuser) → greatest_refuser d.counted ≡ z
           → IsSaid setting views (after (once_ordered fresh d z (modified_if setting.code d j (common_version_at j d.counted))))
       orders_at_on j orders roomy (Some r) refused = again (OrdersAt j) orders (λ t. tt) (λ bound bad. cc) r fresh refl
       orders_at_on j orders roomy None none = goes (common_version_at j d.counted) refl
@@ -651,7 +656,7 @@ module _ (setting : Setting) (views : Views) (sound : IsSound setting) (w : Worl
             (λ t is. (made.1, made.0 ∙ is, is_one)),
       )
 
-      stores_on : c.phase ≡ Stores → lowest_full d.counted ≡ None → (z : Option Refuser) → greatest_refuser d.counted ≡ z
+      stores_on : c.phase ≡ Stores → NoneStops d.counted → (z : Option Refuser) → greatest_refuser d.counted ≡ z
           → IsSaid setting views (after (unless_refused z (Ends (answer_with (read_of setting.layout.block c.ask.op c.content)) None (Some c.stamp))))
       stores_on stores roomy None none =
           let made : IsMade c o = subst (λ (p : Phase). MadeInPhase c o p) stores its.made in
@@ -662,7 +667,7 @@ module _ (setting : Setting) (views : Views) (sound : IsSound setting) (w : Worl
       stores_on stores roomy (Some r) refused = said_aborts (Cause.Later r.brick r.stamp)
 
       -- a change that a quorum made is done; where a member was behind, the base is read back
-      modifies_on : (base : Stamp) (j : ℕ) → c.phase ≡ Modifies base j → lowest_full d.counted ≡ None → (z : Option Refuser)
+      modifies_on : (base : Stamp) (j : ℕ) → c.phase ≡ Modifies base j → NoneStops d.counted → (z : Option Refuser)
           → greatest_refuser d.counted ≡ z → IsSaid setting views (after (unless_refused z (once_modified d base)))
       modifies_on base j modifies roomy (Some r) refused = said_aborts (Cause.Later r.brick r.stamp)
       modifies_on base j modifies roomy None none =
@@ -677,7 +682,7 @@ module _ (setting : Setting) (views : Views) (sound : IsSound setting) (w : Worl
           (ap writes (its_op ∙ writing.1)))
 
       -- a base that was read back is stored, with what the operation makes of it
-      bases_on : (base : Stamp) → c.phase ≡ Bases base → lowest_full d.counted ≡ None → (z : Option Refuser) → greatest_refuser d.counted ≡ z
+      bases_on : (base : Stamp) → c.phase ≡ Bases base → NoneStops d.counted → (z : Option Refuser) → greatest_refuser d.counted ≡ z
           → IsSaid setting views (after (unless_refused z (rebuilt setting.layout.block setting.code d base)))
       bases_on base reads roomy (Some r) refused = said_aborts (Cause.Later r.brick r.stamp)
       bases_on base reads roomy None none =
@@ -703,11 +708,12 @@ module _ (setting : Setting) (views : Views) (sound : IsSound setting) (w : Worl
           })
           (level Stores c.ask.op c.stamp (λ bound bad. cc)))
 
-      -- a member whose store is full aborts it, and else no reply tells so
-      unless_told : (next : Next) → (lowest_full d.counted ≡ None → IsSaid setting views (after next)) → (z : Option FullMember) → lowest_full d.counted ≡ z
-          → IsSaid setting views (after (unless_told_full z next))
-      unless_told next goes None none = goes none
-      unless_told next goes (Some f) told = said_aborts (Cause.Full f.brick f.live)
+      -- a member that moved on or whose store is full aborts it, and else no reply tells so
+      unless_told : (next : Next) → (NoneStops d.counted → IsSaid setting views (after next)) → (y : Option Mover) (z : Option FullMember)
+          → lowest_mover d.counted ≡ y → lowest_full d.counted ≡ z → IsSaid setting views (after (unless_told_moved y (unless_told_full z next)))
+      unless_told next goes None None stays roomy = goes (stays, roomy)
+      unless_told next goes None (Some f) stays told = said_aborts (Cause.Full f.brick f.live)
+      unless_told next goes (Some m) z told roomy = said_aborts (Cause.Moved m.brick m.view)
 
       -- what a quorum of replies decides keeps the invariant
       decides : IsSaid setting views (after (decided setting.layout.block setting.code fresh d))
@@ -716,31 +722,31 @@ module _ (setting : Setting) (views : Views) (sound : IsSound setting) (w : Worl
           by_phase : (p : Phase) → c.phase ≡ p → IsSaid setting views (after (decided setting.layout.block setting.code fresh d))
           by_phase Looks at =
               subst (λ (z : Next). IsSaid setting views (after z)) (sym (decided_looks setting.layout.block setting.code fresh d at))
-              (unless_told _ (λ roomy. looks_on at (fast_version d.counted) refl) (lowest_full d.counted) refl)
+              (unless_told _ (λ roomy. looks_on at (fast_version d.counted) refl) (lowest_mover d.counted) (lowest_full d.counted) refl refl)
           by_phase Orders at =
               subst (λ (z : Next). IsSaid setting views (after z)) (sym (decided_orders setting.layout.block setting.code fresh d at))
-              (unless_told _ (λ roomy. orders_on at roomy (greatest_refuser d.counted) refl) (lowest_full d.counted) refl)
+              (unless_told _ (λ roomy. orders_on at roomy (greatest_refuser d.counted) refl) (lowest_mover d.counted) (lowest_full d.counted) refl refl)
           by_phase (LooksAt j) at =
               subst (λ (z : Next). IsSaid setting views (after z)) (sym (decided_looks_at setting.layout.block setting.code fresh j d at))
-              (unless_told _ (λ roomy. looks_at_on j at (fast_version_at j d.counted) refl) (lowest_full d.counted) refl)
+              (unless_told _ (λ roomy. looks_at_on j at (fast_version_at j d.counted) refl) (lowest_mover d.counted) (lowest_full d.counted) refl refl)
           by_phase (OrdersAt j) at =
               subst (λ (z : Next). IsSaid setting views (after z)) (sym (decided_orders_at setting.layout.block setting.code fresh j d at))
-              (unless_told _ (λ roomy. orders_at_on j at roomy (greatest_refuser d.counted) refl) (lowest_full d.counted) refl)
+              (unless_told _ (λ roomy. orders_at_on j at roomy (greatest_refuser d.counted) refl) (lowest_mover d.counted) (lowest_full d.counted) refl refl)
           by_phase (Modifies base j) at =
               subst (λ (z : Next). IsSaid setting views (after z)) (sym (decided_modifies setting.layout.block setting.code fresh base j d at))
-              (unless_told _ (λ roomy. modifies_on base j at roomy (greatest_refuser d.counted) refl) (lowest_full d.counted) refl)
+              (unless_told _ (λ roomy. modifies_on base j at roomy (greatest_refuser d.counted) refl) (lowest_mover d.counted) (lowest_full d.counted) refl refl)
           by_phase (Bases base) at =
               subst (λ (z : Next). IsSaid setting views (after z)) (sym (decided_bases setting.layout.block setting.code fresh base d at))
-              (unless_told _ (λ roomy. bases_on base at roomy (greatest_refuser d.counted) refl) (lowest_full d.counted) refl)
+              (unless_told _ (λ roomy. bases_on base at roomy (greatest_refuser d.counted) refl) (lowest_mover d.counted) (lowest_full d.counted) refl refl)
           by_phase Recovers at =
               subst (λ (z : Next). IsSaid setting views (after z)) (sym (decided_recovers setting.layout.block setting.code fresh d at))
-              (unless_told _ (λ roomy. recovers_on at roomy (greatest_refuser d.counted) refl) (lowest_full d.counted) refl)
+              (unless_told _ (λ roomy. recovers_on at roomy (greatest_refuser d.counted) refl) (lowest_mover d.counted) (lowest_full d.counted) refl refl)
           by_phase (Descends bound) at =
               subst (λ (z : Next). IsSaid setting views (after z)) (sym (decided_descends setting.layout.block setting.code fresh bound d at))
-              (unless_told _ (λ roomy. lowers_on bound at roomy (greatest_refuser d.counted) refl) (lowest_full d.counted) refl)
+              (unless_told _ (λ roomy. lowers_on bound at roomy (greatest_refuser d.counted) refl) (lowest_mover d.counted) (lowest_full d.counted) refl refl)
           by_phase Stores at =
               subst (λ (z : Next). IsSaid setting views (after z)) (sym (decided_stores setting.layout.block setting.code fresh d at))
-              (unless_told _ (λ roomy. stores_on at roomy (greatest_refuser d.counted) refl) (lowest_full d.counted) refl)
+              (unless_told _ (λ roomy. stores_on at roomy (greatest_refuser d.counted) refl) (lowest_mover d.counted) (lowest_full d.counted) refl refl)
 
     -- a reply that counts keeps the invariant
     counts : IsSaid setting views (after (once_full setting.layout.block setting.code fresh d))

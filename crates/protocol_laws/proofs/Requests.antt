@@ -1,5 +1,5 @@
 -- A member handles a request: what its part of the stripe, and its reply, then say.
-use Rattle.std.proofs.Common.{◌≡◌, ℕ, ◌⊎◌, inl, inr, Bool, true, false, List, [], Option, Some, None, refl, sym, ap, ◌∙◌, subst, ⊎_elim, arith, ◌∷◌, ◌≤◌}
+use Rattle.std.proofs.Common.{◌≡◌, ℕ, ◌⊎◌, inl, inr, Bool, true, false, List, [], Option, Some, None, refl, sym, ap, ◌∙◌, subst, ⊎_elim, arith, ◌∷◌, ◌≤◌, ◌<◌}
 use Rattle.std.specs.Prelude.{slice_get, nat_eq}
 use Rattle.std.proofs.lemmas.Bool.{cond_both, eqb-true, or_left, false≢true, cases_Bool}
 use Rattle.std.proofs.lemmas.Option.{same_Some}
@@ -21,10 +21,10 @@ use Rattle.protocol.specs.Settings.{Setting, Code}
 use Rattle.protocol.specs.Replicas.{Replica, Reaction, newest_of, top_of, is_held, stamp_max, looked_up, modified_block, is_wanted}
 use Rattle.protocol.specs.declared.phases.Phase.{Phase}
 use Rattle.protocol.specs.declared.phases.Phase.TheVariants.{Orders, Modifies, Stores}
-use Rattle.protocol.specs.Nodes.{Node, put, with_replica, replica_at, full_at, reply_packets, view_at, view_floor, top_at}
+use Rattle.protocol.specs.Nodes.{Node, put, with_replica, replica_at, full_at, reply_packets, view_at, view_floor, top_at, has_accepted}
 use Rattle.protocol.specs.Worlds.{World, Operation}
-use Rattle.protocol_laws.specs.Laws.{WasSent, AskedAt, stamp_asked, stamp_stored, top_in, part_in}
-use Rattle.protocol.proofs.Served.{parts_each}
+use Rattle.protocol_laws.specs.Laws.{WasSent, AskedAt, stamp_asked, stamp_stored, top_in, part_in, first_kept_in}
+use Rattle.protocol.proofs.Served.{parts_each, IsCollect}
 use Rattle.protocol_laws.proofs.Books.{Books}
 use Rattle.protocol_laws.proofs.Blocking.{held_in, was_kept}
 use Rattle.protocol_laws.proofs.Said.{Stamping, Said, IsStamped, IsMadeOrFirst, IsKnown, IsCalled, VersionSays, ToldSays, MakerSays, WriteSays, ChangesBlock, ModifySays, OrderSays, OrderReadSays, ReadSays, want_of, RequestSays, is_looked, OrderedSays, OrderedReadSays, FoundSays, ReplySays, PacketSays, IsPassedOver, WasCollected, IsBottom}
@@ -34,24 +34,25 @@ use Rattle.protocol_laws.proofs.Reactions.{IsAfter, StoresBlock, IsTold, Reactio
 use Rattle.protocol_laws.proofs.Stampings.{ages_within, stamps_same}
 use Rattle.protocol_laws.proofs.Growth.{Grows, Continues, stays_version, stays_told, stays_called, stays_found, stays_collected}
 use Rattle.protocol_laws.proofs.Steps.{KeepsParts, quiet, quiet_grows, said_quiet, stamps_stay_by}
-use Rattle.protocol_laws.proofs.Tops.{top_rises, top_most, top_above, view_above, time_rises}
-use Rattle.protocol_laws.proofs.StampViews.{StampViews, NodeViews, RequestIsOf, asks_above, asked_view}
-use Rattle.protocol.specs.Views.{Views, view_of, group_in}
+use Rattle.protocol_laws.proofs.Tops.{top_rises, top_most, top_above, view_above, time_rises, kept_now}
+use Rattle.protocol_laws.proofs.StampViews.{StampViews, NodeViews, RequestIsOf, asks_above, asked_view, IsFreeFor, free_for}
+use Rattle.protocol.specs.Views.{Views, view_of, group_in, first_kept}
 
 -- A request to the part in the view that a brick has learnt, which asks for nothing below that, lowers no brick, adds nothing below what it had come
 -- to, and drops only what is below all that is left.
 pub parts_keep : (layout : Layout) (code : Code) (m seat : ℕ) (node : Node) (call : Call) (request : Request) (reaction : Reaction)
     → LogAscends (replica_at node call).log → IsAfter code m seat (replica_at node call) request reaction.replica
-    → NodeViews layout node → RequestIsOf call request → call.view.0 ≡ view_at node call.group.0 → node.accepted call.group.0 ≡ false
+    → NodeViews layout node → RequestIsOf call request → call.view.0 ≡ view_at node call.group.0 → IsFreeFor node call request
     → KeepsParts node (with_replica node call reaction)
 parts_keep layout code m seat node call request reaction rises after has asks view free = record {
   views = λ g. omega arith;
   tops = λ g s.
-      top_rises node (with_replica node call reaction).live (with_replica node call reaction).replicas g s
+      top_rises node (with_replica node call reaction).live (with_replica node call reaction).live_in (with_replica node call reaction).replicas g s
       (parts_each (λ h e r x. stamp_below (top_of x) (top_of (node.replicas h e r)) ≡ false) node call reaction
       (after_top code m seat (replica_at node call) request reaction.replica rises after)
       (λ h e r. stamp_below_irrefl (top_of (node.replicas h e r))) g (view_at node g) s);
-  orders = parts_each (λ g e s x. (node.replicas g e s).order.time ≤ x.order.time) node call reaction (⊎_elim
+  firsts = λ g. omega arith;
+  orders = λ g e s within. parts_each (λ g e s x. (node.replicas g e s).order.time ≤ x.order.time) node call reaction (⊎_elim
       (λ (same : reaction.replica.order ≡ (replica_at node call).order). omega (arith, ap (λ (z : Stamp). z.time) same))
       (λ (new : (stamp_asked request ≡ Some reaction.replica.order) × (stamp_below reaction.replica.order (top_of (replica_at node call)) ≡ false)).
       ⊎_elim
@@ -60,10 +61,14 @@ parts_keep layout code m seat node call request reaction rises after has asks vi
       time_rises reaction.replica.order (replica_at node call).order (asks reaction.replica.order new.0 ∙ sym of)
       (stamp_not_below_trans (replica_at node call).order (top_of (replica_at node call)) reaction.replica.order (top_order (replica_at node call)) new.1))
       (has.parts call.group.0 call.view.0 call.stripe.0).order)
-      (after_order code m seat (replica_at node call) request reaction.replica after)) (λ g e s. omega arith);
-  kept = λ g e s t. parts_each (λ h v r x. IsKept t (node.replicas h v r).log → IsKept t x.log) node call reaction
+      (after_order code m seat (replica_at node call) request reaction.replica after)) (λ g e s. omega arith) g e s;
+  kept = λ g e s t within. parts_each (λ h v r x. IsKept t (node.replicas h v r).log → IsKept t x.log) node call reaction
       (λ kept. after_kept code m seat (replica_at node call) request reaction.replica t rises after kept) (λ h v r kept. kept) g e s;
-  newer = λ g e s t. parts_each
+  again = λ g e s t. parts_each
+      (λ h v r x. v < first_kept (node.learnt h) → is_held t x.log ≡ true → (is_held t (node.replicas h v r).log ≡ true) ⊎ (t ≡ first_stamp)) node call reaction
+      (λ before held. absurd (let most = kept_now (node.learnt call.group.0) in omega (arith, before, view, most)))
+      (λ h v r before held. inl held) g e s;
+  newer = λ g e s t within. parts_each
       (λ h v r x. is_held t x.log ≡ true → (is_held t (node.replicas h v r).log ≡ true) ⊎ (stamp_below t (top_at node h r) ≡ false)) node call reaction
       (λ held. ⊎_elim
       (λ (was : is_held t (replica_at node call).log ≡ true). inl was)
@@ -94,7 +99,7 @@ within_lower (Some version) d c less within = stamp_not_below_trans d c version.
 module _ (setting : Setting) (views : Views) (w : World) (stamps : Stamping) (me from : BrickId) (call : Call) (request : Request) (books : Books setting w)
     (stamped : StampViews setting.layout w) (group : Group) (seat : ℕ)
     (group_is : group_in setting.layout views call.group.0 call.view.0 ≡ Some group) (seat_is : seat_in group.members me.0 ≡ Some seat)
-    (view : call.view.0 ≡ view_at (w.nodes me.0) call.group.0) (free : (w.nodes me.0).accepted call.group.0 ≡ false)
+    (view : call.view.0 ≡ view_at (w.nodes me.0) call.group.0) (free : (has_accepted (w.nodes me.0) call.group.0 ≡ false) ⊎ IsCollect request)
     (said : Said setting views w stamps) (sent : WasSent w (record { from = from; to = me; message = Message.Request call request })) where
   -- the member's part before the request
   abbrev before : Replica
@@ -108,9 +113,20 @@ module _ (setting : Setting) (views : Views) (w : World) (stamps : Stamping) (me
   kept_of : (k : ℕ) (version : Version) → slice_get before.log k ≡ Some version → view_of version.stamp ≡ call.view.0
   kept_of = ((stamped.nodes me.0).parts call.group.0 call.view.0 call.stripe.0).log
 
+  -- it has accepted no list to follow the view, where it is asked at a stamp, or for its newest version
+  free_at : IsFreeFor (w.nodes me.0) call request
+  free_at = free_for (w.nodes me.0) call request free
+
+  free_read : (want : Want) → request ≡ Request.Read want → has_accepted (w.nodes me.0) call.group.0 ≡ false
+  free_read want is = ⊎_elim
+      (λ (none : has_accepted (w.nodes me.0) call.group.0 ≡ false). none)
+      (λ (collects : IsCollect request). absurd (let never : Request.Read want ≡ Request.Collect collects.0 = sym is ∙ collects.1 in cc))
+      free
+
   -- what is of the view is not below what the member has learnt
-  over : (t : Stamp) → view_of t ≡ call.view.0 → stamp_below t (view_floor (w.nodes me.0) call.group.0) ≡ false
-  over t of = view_above (w.nodes me.0) call.group.0 t free (of ∙ view)
+  over : (t : Stamp) → has_accepted (w.nodes me.0) call.group.0 ≡ false → view_of t ≡ call.view.0
+      → stamp_below t (view_floor (w.nodes me.0) call.group.0) ≡ false
+  over t none of = view_above (w.nodes me.0) call.group.0 t none (of ∙ view)
 
   -- a brick that has learnt it comes no less far than its part of it
   above_part : (node : Node) → view_at node call.group.0 ≡ call.view.0
@@ -173,7 +189,16 @@ module _ (setting : Setting) (views : Views) (w : World) (stamps : Stamping) (me
     keeps : KeepsParts (w.nodes me.0) (with_replica (w.nodes me.0) call reaction)
     keeps =
         parts_keep setting.layout setting.code group.m seat (w.nodes me.0) call request reaction rises after (stamped.nodes me.0)
-        asked_as view free
+        asked_as view free_at
+
+    -- the versions of its view are kept
+    kept_before : first_kept ((w.nodes me.0).learnt call.group.0) ≤ call.view.0
+    kept_before = let most = kept_now ((w.nodes me.0).learnt call.group.0) in omega (arith, view, most)
+
+    kept_here : first_kept_in next call.group.0 me.0 ≤ call.view.0
+    kept_here =
+        subst (λ (z : Node). first_kept (z.learnt call.group.0) ≤ call.view.0) (sym (put_same w.nodes me.0 (with_replica (w.nodes me.0) call reaction)))
+        kept_before
 
     grows : Grows w next stamps stamps
     grows = quiet_grows w stamps stamps me (with_replica (w.nodes me.0) call reaction) more (stamps_same stamps) said.logged keeps
@@ -249,10 +274,10 @@ module _ (setting : Setting) (views : Views) (w : World) (stamps : Stamping) (me
         })))
         (after_lowest setting.code group.m seat before request part y x rest log rises after was is)
 
-    lowest : (g e s : ℕ) (x : Version) (log : List Version) → ((with_replica (w.nodes me.0) call reaction).replicas g e s).log ≡ x ∷ log
+    lowest : (g e s : ℕ) (x : Version) (log : List Version) → first_kept ((w.nodes me.0).learnt g) ≤ e → ((with_replica (w.nodes me.0) call reaction).replicas g e s).log ≡ x ∷ log
         → ((rest : List Version) × (((w.nodes me.0).replicas g e s).log ≡ x ∷ rest))
         ⊎ ((((w.nodes me.0).replicas g e s).log ≡ []) ⊎ WasCollected next g s x.stamp)
-    lowest g e s x log = parts_each
+    lowest g e s x log within = parts_each
         (λ h v r y. y.log ≡ x ∷ log → ((rest : List Version) × (((w.nodes me.0).replicas h v r).log ≡ x ∷ rest))
         ⊎ ((((w.nodes me.0).replicas h v r).log ≡ []) ⊎ WasCollected next h r x.stamp))
         (w.nodes me.0) call reaction (lowest_now before.log refl x log) (λ h v r is. inl (log, is)) g e s
@@ -329,7 +354,7 @@ module _ (setting : Setting) (views : Views) (w : World) (stamps : Stamping) (me
           floor = subst (λ (t : Stamp). stamp_below t (says.operation.floor me.0) ≡ false) top
               (floor_below says.operation says.called (top_of before)
               (stamp_not_below_trans (view_floor (w.nodes me.0) call.group.0) old.stamp (top_of before)
-              (over old.stamp (kept_of stands.0 old stands.1))
+              (over old.stamp (free_read told.0 told.1) (kept_of stands.0 old stands.1))
               (held_top before old.stamp rises (newest_held before.log old newest)))
               (stamp_below_irrefl (top_of before)));
           held = subst (λ (t : Stamp). w.held me.0 call.group.0 call.stripe.0 t ≡ true) (sym stamp)
@@ -340,10 +365,11 @@ module _ (setting : Setting) (views : Views) (w : World) (stamps : Stamping) (me
         }
 
     -- a promise is at or above the operation's floor at this member
-    promise_above : (t : Stamp) (o : Operation) → IsCalled w from.0 call o → (p : Operation) → Continues o p → view_of t ≡ call.view.0
+    promise_above : (t : Stamp) (o : Operation) → IsCalled w from.0 call o → (p : Operation) → Continues o p → stamp_asked request ≡ Some t
         → stamp_below t (top_of before) ≡ false → stamp_below t (p.floor me.0) ≡ false
-    promise_above t o called p on of above =
-        subst (λ (f : ℕ → Stamp). stamp_below t (f me.0) ≡ false) (sym on.floor) (floor_below o called t (over t of) above)
+    promise_above t o called p on asked above =
+        subst (λ (f : ℕ → Stamp). stamp_below t (f me.0) ≡ false) (sym on.floor)
+        (floor_below o called t (over t (free_at t asked) (asked_in t asked)) above)
 
     ordered_says : ReactionSays seat full before request part Reply.Ordered → OrderedSays next stamps me.0 from.0 call
     ordered_says told =
@@ -355,7 +381,7 @@ module _ (setting : Setting) (views : Views) (w : World) (stamps : Stamping) (me
           stamp = told.0;
           stamp_is = says.begun;
           promised = subst (λ (t : Stamp). stamp_below (top_in next call.group.0 call.stripe.0 me.0) t ≡ false) told.3 part_stands;
-          floor = promise_above told.0 says.operation says.called goes.0 goes.2 (asked_in told.0 (ap stamp_asked told.1)) told.2;
+          floor = promise_above told.0 says.operation says.called goes.0 goes.2 (ap stamp_asked told.1) told.2;
         }
 
     -- what is looked for in a log
@@ -395,7 +421,7 @@ module _ (setting : Setting) (views : Views) (w : World) (stamps : Stamping) (me
           most = stamp_not_below_trans x.stamp (top_of before) t (held_top before x.stamp rises here) above;
           collected = stays_collected w next grows.sent call.group.0 call.stripe.0 x.stamp collected;
         }))
-        (said.lowest call.group.0 call.view.0 call.stripe.0 me.0 x rest log_is))
+        (said.lowest call.group.0 call.view.0 call.stripe.0 me.0 x rest kept_before log_is))
         (cases_Bool (is_looked look x.stamp))
       where
         -- what is below a version that was kept was held before
@@ -434,14 +460,14 @@ module _ (setting : Setting) (views : Views) (w : World) (stamps : Stamping) (me
           below = says.below;
           view = asked_as told.0 asked;
           promised = subst (λ (t : Stamp). stamp_below (top_in next call.group.0 call.stripe.0 me.0) t ≡ false) top part_stands;
-          floor = promise_above told.0 says.operation says.called goes.0 goes.2 (asked_in told.0 asked) told.1.3;
+          floor = promise_above told.0 says.operation says.called goes.0 goes.2 asked told.1.3;
           newest = λ d of held looked. ⊎_elim
               (λ (there : is_held d before.log ≡ true).
               inl (found_within (is_wanted told.1.1 seat) found (looked_up look before.log) d told.1.5
               (subst (λ (z : Option Version). IsWithin z d) (sym kept) (newest_among (is_looked look) d before.log rises there looked))))
               (λ (under : IsUnder d before.log). dropped_passed (is_wanted told.1.1 seat) found look told.0 d told.1.5 told.1.3 of held before.log refl under)
               (subst (λ (r : Replica). IsKept d r.log) promise
-              (was_kept next grows.parts.logged call.group.0 call.view.0 call.stripe.0 me.0 d of held));
+              (was_kept next grows.parts.logged call.group.0 call.view.0 call.stripe.0 me.0 d kept_here of held));
           held = λ version is.
               let tells = found_told (is_wanted told.1.1 seat) found (looked_up look before.log) version told.1.5 is in
               let at = newest_stands_among (is_looked look) before.log tells.0 (sym kept ∙ tells.1) in

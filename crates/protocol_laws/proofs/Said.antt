@@ -37,7 +37,7 @@ use Rattle.protocol.specs.Nodes.{Node, given_content, view_at}
 use Rattle.protocol.specs.Worlds.{World, Operation, zero_content}
 use Rattle.protocol.specs.Happenings.{writes}
 use Rattle.fab_base.specs.Layouts.{brick_at}
-use Rattle.protocol_laws.specs.Laws.{WasSent, RequestSent, AskedAt, AtQuorum, IsModified, stamp_stored, IsGuarded, IsBlocked, top_in, part_in}
+use Rattle.protocol_laws.specs.Laws.{WasSent, RequestSent, AskedAt, AtQuorum, IsModified, stamp_stored, IsGuarded, IsBlocked, top_in, part_in, first_kept_in}
 use Rattle.protocol_laws.proofs.Books.{IsOperation, IsCall}
 use Rattle.protocol_laws.proofs.Blocking.{LogsFit}
 use Rattle.protocol_laws.proofs.Logs.{IsWithin}
@@ -455,7 +455,7 @@ pub record Said (setting : Setting) (views : Views) (w : World) (stamps : Stampi
   pub tops : (g e s i : ℕ) → IsKnown stamps (top_of (part_in w g e s i))
   pub first_held : (g s i : ℕ) → w.held i g s first_stamp ≡ true
   pub logs : (g e s i k : ℕ) (version : Version) → slice_get (part_in w g e s i).log k ≡ Some version → VersionSays setting views w g e s i version
-  pub lowest : (g e s i : ℕ) (x : Version) (log : List Version) → (part_in w g e s i).log ≡ x ∷ log
+  pub lowest : (g e s i : ℕ) (x : Version) (log : List Version) → first_kept_in w g i ≤ e → (part_in w g e s i).log ≡ x ∷ log
       → IsBottom w g e s i x.stamp ⊎ WasCollected w g s x.stamp
   pub held_made : (g s i : ℕ) (t : Stamp) → w.held i g s t ≡ true → IsMadeOrFirst w g s t
   pub packets : (k : ℕ) (packet : Packet) → slice_get w.packets k ≡ Some packet → PacketSays setting views w stamps packet

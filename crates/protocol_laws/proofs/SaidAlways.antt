@@ -1,16 +1,15 @@
 -- What is said is so in every world that a run reaches.
-use Rattle.std.specs.Option.{option_map}
 use Rattle.protocol_laws.proofs.Blocking.{first_fits}
 use Rattle.std.proofs.Common.{◌≡◌, ℕ, ◌<◌, ◌≤◌, ◌+◌, inl, true, false, List, [], ◌∷◌, ◌++◌, length, replicate, Option, Some, None, refl, sym, ap, ◌∙◌, subst, ⊎_elim, arith, ◌⊎◌, append_assoc}
 use Rattle.std.specs.Prelude.{slice_get, nat_eq}
-use Rattle.std.proofs.lemmas.List.{append-nil, length-append}
-use Rattle.std.proofs.lemmas.Bool.{cond-false, false≢true, or_left, or_cases, cond_both}
+use Rattle.std.proofs.lemmas.List.{length-append}
+use Rattle.std.proofs.lemmas.Bool.{false≢true, or_left, or_cases, cond_both}
 use Rattle.fab_base.specs.declared.identities.BrickId.{BrickId}
 use Rattle.fab_base.specs.declared.identities.ViewNo.{ViewNo}
 use Rattle.fab_base.specs.declared.stamps.Stamp.{Stamp}
 use Rattle.fab_base.specs.declared.asks.Ask.{Ask}
 use Rattle.fab_base.specs.Stamps.{stamp_below, stamp_same, first_stamp}
-use Rattle.fab_base.proofs.StampOrder.{stamp_below_irrefl, stamp_same_refl, stamp_same_true, stamp_below_first}
+use Rattle.fab_base.proofs.StampOrder.{stamp_same_refl, stamp_same_true, stamp_below_first}
 use Rattle.messages.specs.declared.calls.Call.{Call}
 use Rattle.messages.specs.declared.packets.Message.{Message}
 use Rattle.messages.specs.declared.packets.Packet.{Packet}
@@ -19,30 +18,41 @@ use Rattle.messages.specs.declared.requests.Version.{Version}
 use Rattle.messages.specs.declared.replies.Reply.{Reply}
 use Rattle.reg_model.specs.declared.marks.Mark.{Mark}
 use Rattle.reg_model.specs.declared.marks.Mark.TheVariants.{End, Crash}
-use Rattle.fab_base.specs.Layouts.{Group, group_of, seat_in, Layout}
+use Rattle.fab_base.specs.Layouts.{Group, group_of, Layout}
 use Rattle.protocol.specs.Settings.{Setting, IsSound}
 use Rattle.protocol.specs.Replicas.{Reaction, first_replica, top_of, handle, is_held, Replica}
 use Rattle.protocol.specs.Coordinators.{Coordinator}
-use Rattle.protocol.specs.Nodes.{Node, NodeStep, put, with_known, with_replica, replica_at, reacted, full_at, reply_packets, absorbed, ticked, stopped, restarted, new_stamp, fresh_stamp, no_step, began, invoked, requested, known_after, replied_at, replied, received, group_at, view_at, seat_served}
-use Rattle.protocol.specs.Worlds.{World, Found, Before, After, Event, replies_with, first_world, zero_content, world_ticked, left_after, packet_during, world_stopped, world_found, world_started, may_begin, world_began, world_stepped, run, with_held, reached_during, number_of}
+use Rattle.protocol.specs.Nodes.{Node, NodeStep, put, with_known, with_replica, replica_at, reacted, full_at, reply_packets, ticked, stopped, restarted, new_stamp, fresh_stamp, no_step, began, invoked, requested, known_after, replied_at, received, group_at, view_at, moved_at, vote_at, heard, with_round, proposed, node_taught_by, view_counted, lists_fit}
+use Rattle.protocol.specs.Worlds.{World, Found, Before, After, Event, replies_with, first_world, zero_content, world_ticked, left_after, packet_during, world_stopped, world_found, world_started, may_begin, world_began, world_stepped, run, reached_during, number_of, voiced}
 use Rattle.protocol_laws.specs.Laws.{WasSent, Follows, RunFollows}
 use Rattle.protocol_laws.proofs.Books.{Books, IsCall}
-use Rattle.protocol_laws.proofs.Left.{IsLeft, Leaves, always_leaves, packet_was_sent}
-use Rattle.protocol_laws.proofs.Said.{Stamping, Said, IsSaid, IsStampOf, VersionSays, WasCollected, IsMadeOrFirst, IsBottom}
-use Rattle.protocol_laws.proofs.BooksEvents.{known_grows, fresh_is, BeginFits, begin_fits, start_fits, books_found, books, books_beside, group_there, fits_at}
-use Rattle.protocol.proofs.Tables.{get_one, get_kept, get_grown}
+use Rattle.protocol_laws.proofs.Left.{IsLeft, kept_of, Leaves, always_leaves, packet_was_sent}
+use Rattle.protocol_laws.proofs.Said.{Stamping, Said, IsSaid, IsStampOf, VersionSays, PacketSays, WasCollected, IsMadeOrFirst, IsBottom}
+use Rattle.protocol_laws.proofs.BooksEvents.{known_grows, fresh_is, BeginFits, begin_fits, start_fits, books_found, books, books_beside, books_kept, hearing_keeps, group_there, fits_at}
+use Rattle.protocol.proofs.Tables.{put_same, get_one, get_kept, get_grown}
 use Rattle.reg_model.proofs.GrowingLives.{last_grows}
 use Rattle.protocol_laws.proofs.Stampings.{ages_within}
-use Rattle.protocol_laws.proofs.Reactions.{top_is, handle_after, handle_says, top_is_order}
+use Rattle.protocol_laws.proofs.Reactions.{handle_after, handle_says, top_is_order}
 use Rattle.protocol_laws.proofs.Steps.{quiet, said_beside, said_added, said_idle}
 use Rattle.protocol_laws.proofs.Requests.{said_after_request, reply_packets_say}
-use Rattle.protocol.proofs.Served.{request_each, served_seat, served_open}
+use Rattle.protocol.proofs.Served.{request_each, IsServed}
+use Rattle.protocol.proofs.Packets.{OfEach, each_none, each_one}
+use Rattle.protocol_laws.proofs.SaidQuiet.{first_top, zero_kept, said_placed, said_voted, said_reports, said_kept, said_taught, said_learnt}
+use Rattle.protocol_laws.proofs.Hearing.{kept_world, taught_by, hearing_each}
+use Rattle.protocol_laws.proofs.Votes.{vote_each, moved_each}
+use Rattle.protocol_laws.proofs.Proposing.{AreOfViews, of_views_each, ballot_each, proposed_each}
+use Rattle.protocol.specs.declared.tellings.Report.{Report}
+use Rattle.protocol_laws.proofs.BooksKept.{KeepsCalls, keeps_itself}
+use Rattle.protocol.specs.Ballots.{Voted}
+use Rattle.protocol.specs.Proposals.{Proposal}
+use Rattle.fab_base.specs.declared.identities.GroupId.{GroupId}
+use Rattle.fab_base.specs.declared.stamps.Ballot.{Ballot}
 use Rattle.protocol_laws.proofs.Sends.{ticked_was_sent}
 use Rattle.protocol_laws.proofs.Replies.{said_known, said_after_reply}
 use Rattle.protocol_laws.proofs.Begins.{said_began}
 use Rattle.protocol.proofs.Events.{EventCases, world_handled, world_counting, run_along}
 use Rattle.protocol_laws.proofs.StampViews.{StampViews, always_views}
-use Rattle.protocol.specs.Views.{Views, view_of, group_in, group_kept, kept_by}
+use Rattle.protocol.specs.Views.{Views, view_of, group_in, group_kept, view_told}
 
 -- the world after a brick's step
 abbrev stepped : Setting → World → BrickId → NodeStep → World
@@ -62,8 +72,7 @@ group_learnt layout views w i g follows = ap (λ (members : List BrickId). group
 module _ (setting : Setting) (views : Views) (w : World) (stamps : Stamping) (me from : BrickId) (call : Call) (request : Request) (books : Books setting w)
     (stamped : StampViews setting.layout w) (follows : Follows setting.layout views w) (said : Said setting views w stamps)
     (sent : WasSent w (record { from = from; to = me; message = Message.Request call request })) (group : Group) (seat : ℕ) (here : group_at setting.layout (w.nodes me.0) call.group.0 ≡ Some group)
-    (at : seat_served setting.layout me (w.nodes me.0) call request group ≡ Some seat)
-    (view : call.view.0 ≡ view_at (w.nodes me.0) call.group.0) where
+    (served : IsServed setting.layout me (w.nodes me.0) call request group seat) where
   abbrev full : Option ℕ
   full = full_at setting.layout.records (w.nodes me.0).live
 
@@ -74,24 +83,18 @@ module _ (setting : Setting) (views : Views) (w : World) (stamps : Stamping) (me
   replies = reply_packets me from call reaction.reply
 
   group_is : group_in setting.layout views call.group.0 call.view.0 ≡ Some group
-  group_is = ap (λ (e : ℕ). group_in setting.layout views call.group.0 e) view ∙ group_learnt setting.layout views w me.0 call.group.0 follows ∙ here
-
-  seat_is : seat_in group.members me.0 ≡ Some seat
-  seat_is = served_seat setting me (w.nodes me.0) call request group seat at
-
-  free : (w.nodes me.0).accepted call.group.0 ≡ false
-  free = served_open setting me (w.nodes me.0) call request group seat at
+  group_is = ap (λ (e : ℕ). group_in setting.layout views call.group.0 e) served.view ∙ group_learnt setting.layout views w me.0 call.group.0 follows ∙ here
 
   handled_said : Said setting views (stepped setting w me (reacted me from (w.nodes me.0) call reaction)) stamps
   handled_said =
       let after = handle_after setting.code group.m seat full (replica_at (w.nodes me.0) call) request in
-      said_after_request setting views w stamps me from call request books stamped group seat group_is seat_is view free said sent reaction replies after
-      (reply_packets_say setting views w stamps me from call request books stamped group seat group_is seat_is view free said sent reaction replies after
+      said_after_request setting views w stamps me from call request books stamped group seat group_is served.seat_is served.view served.free said sent reaction replies after
+      (reply_packets_say setting views w stamps me from call request books stamped group seat group_is served.seat_is served.view served.free said sent reaction replies after
       reaction.reply (handle_says setting.code group.m full seat (replica_at (w.nodes me.0) call) request))
 
   kept_said : Said setting views (quiet w me (with_replica (w.nodes me.0) call reaction) []) stamps
   kept_said =
-      said_after_request setting views w stamps me from call request books stamped group seat group_is seat_is view free said sent reaction []
+      said_after_request setting views w stamps me from call request books stamped group seat group_is served.seat_is served.view served.free said sent reaction []
       (handle_after setting.code group.m seat full (replica_at (w.nodes me.0) call) request) (λ k packet at. cc)
 
 -- a fresh stamp is its brick's, and above all that it knows
@@ -104,55 +107,125 @@ fresh_says setting w me view now known t of books more is =
     (sym (fresh_is me view now (w.nodes me.0).boot known t is).0)
     (record { view = of; boot = refl; booted = omega arith; brick = refl; positive = omega arith; bounded = λ now. omega arith }, omega arith)
 
+-- a brick handles a reply, and its proposal goes on, ends or begins
+module _ (setting : Setting) (views : Views) (w : World) (stamps : Stamping) (books : Books setting w) (said : Said setting views w stamps) where
+  -- a brick's proposal, its call number, its round and the time that it knows change, and it sends what is of views
+  aside_said : (me : BrickId) (known seq round : ℕ) (proposal : Option Proposal) (packets : List Packet) (reports : List Report) → (w.nodes me.0).known ≤ known
+      → (w.nodes me.0).seq ≤ seq → AreOfViews packets
+      → Said setting views (stepped setting w me (record {
+        node = record (w.nodes me.0) { known = known; seq = seq; round = round; proposal = proposal };
+        packets = packets;
+        told = [];
+        answers = [];
+        reports = reports;
+      })) stamps
+  aside_said me known seq round proposal packets reports knows more are =
+      let node : Node = record (w.nodes me.0) { known = known; seq = seq; round = round; proposal = proposal } in
+      let keeps : KeepsCalls (w.nodes me.0) node = (record { boot = refl; seq = more; known = knows }, λ l. refl) in
+      said_reports setting views w stamps me books said node packets reports keeps
+      (said_placed setting views w stamps me books said node packets (refl, refl, refl) keeps
+      (of_views_each (PacketSays setting views (quiet w me node packets) stamps) (λ from to group view. tt) (λ from to call ballot. tt)
+      (λ from to call ballot members. tt) packets are))
+
+  -- so where it begins a proposal
+  proposed_said : (me : BrickId) (group : GroupId) (members : List BrickId)
+      → Said setting views (stepped setting w me (proposed setting me (w.nodes me.0) group members)) stamps
+  proposed_said me group members =
+      proposed_each (λ (step : NodeStep). Said setting views (stepped setting w me step) stamps) setting me (w.nodes me.0) group members
+      (λ seq round proposal packets reports more are. aside_said me (w.nodes me.0).known seq round proposal packets reports (omega arith) more are)
+
+  -- a brick does what it does with a reply to an open operation, or to its proposal
+  replied_said : (me from : BrickId) (now : ℕ) (call : Call) (reply : Reply) (found : Option Coordinator) → IsSound setting
+      → WasSent w (record { from = from; to = me; message = Message.Reply call reply }) → (w.nodes me.0).calls call.seq ≡ found
+      → IsSaid setting views (stepped setting w me (replied_at setting me now from (w.nodes me.0) call reply found))
+  replied_said me from now call reply None sound sent none =
+      let known : ℕ = known_after (w.nodes me.0).known reply in (
+        stamps,
+        ballot_each (λ (step : NodeStep). Said setting views (stepped setting w me step) stamps) setting.layout me from (with_known (w.nodes me.0) known) call reply
+            (w.nodes me.0).proposal (λ seq round proposal packets reports more are.
+            aside_said me known seq round proposal packets reports (known_grows (w.nodes me.0).known reply) more are),
+      )
+  replied_said me from now call reply (Some c) sound sent is =
+      let seq : c.call.seq ≡ call.seq = (books.calls me.0 call.seq c is).call_seq in
+      in_call (subst (λ (k : ℕ). IsCall w me.0 k c) (sym seq) is)
+    where
+      some : IsCall w me.0 c.call.seq c → 1 ≤ c.call.view.0
+      some is =
+          let its = books.calls me.0 c.call.seq c is in
+          let least = (said.operations (number_of w me.0 c.call.seq) its.operation its.operation_is).view.0 in
+          let view = its.call_view in
+          omega (arith, least, view)
+
+      in_call : IsCall w me.0 c.call.seq c
+          → IsSaid setting views (stepped setting w me (replied_at setting me now from (w.nodes me.0) call reply (Some c)))
+      in_call is =
+          said_after_reply setting views sound w stamps me c (known_after (w.nodes me.0).known reply) books said is
+          (known_grows (w.nodes me.0).known reply)
+          (fresh_stamp me c.call.view now (w.nodes me.0).boot (known_after (w.nodes me.0).known reply))
+          (λ t new. fresh_says setting w me c.call.view now (known_after (w.nodes me.0).known reply) t (some is) books
+          (known_grows (w.nodes me.0).known reply) new) from call reply sent
+
 module _ (setting : Setting) (views : Views) (w : World) (stamps : Stamping) (books : Books setting w) (stamped : StampViews setting.layout w)
     (follows : Follows setting.layout views w) (said : Said setting views w stamps) where
+  -- a brick tells that it serves the view of a call no more
+  moved_says : (me from : BrickId) (call : Call) (moved : Reply) (next : World) → moved_at (w.nodes me.0) call ≡ Some moved
+      → OfEach (PacketSays setting views next stamps) (reply_packets me from call (Some moved))
+  moved_says me from call moved next is =
+      each_one (PacketSays setting views next stamps) (record { from = me; to = from; message = Message.Reply call moved }) []
+      (moved_each (λ (r : Reply). PacketSays setting views next stamps (record { from = me; to = from; message = Message.Reply call r })) (w.nodes me.0) call moved
+      (λ later. tt) (λ most has. tt) is)
+      (each_none (PacketSays setting views next stamps))
+
+  -- and its vote on a ballot
+  vote_says : (me from : BrickId) (call : Call) (ballot : Ballot) (asked : Option (List BrickId)) (next : World)
+      → OfEach (PacketSays setting views next stamps) (reply_packets me from call (Some (vote_at (w.nodes me.0) call ballot asked).reply))
+  vote_says me from call ballot asked next =
+      each_one (PacketSays setting views next stamps) (record { from = me; to = from; message = Message.Reply call (vote_at (w.nodes me.0) call ballot asked).reply }) []
+      (vote_each (λ (v : Voted). PacketSays setting views next stamps (record { from = me; to = from; message = Message.Reply call v.reply })) call.view.0
+      ((w.nodes me.0).learnt call.group.0) ((w.nodes me.0).ballots call.group.0) ballot asked (λ later. tt) (λ most not. tt) (λ greater most is. tt) tt
+      (λ list is. tt))
+      (each_none (PacketSays setting views next stamps))
+
   -- a request is delivered
   request_said : (me from : BrickId) (call : Call) (request : Request) → WasSent w (record { from = from; to = me; message = Message.Request call request })
       → Said setting views (stepped setting w me (requested setting me from (w.nodes me.0) call request)) stamps
   request_said me from call request sent =
       request_each (λ step. Said setting views (stepped setting w me step) stamps) setting me from (w.nodes me.0) call request
-      (nothing_said setting views w stamps me books said) (handled_said setting views w stamps me from call request books stamped follows said sent)
+      (nothing_said setting views w stamps me books said)
+      (λ moved is. said_placed setting views w stamps me books said (w.nodes me.0) (reply_packets me from call (Some moved)) (refl, refl, refl)
+      (keeps_itself (w.nodes me.0)) (moved_says me from call moved _ is))
+      (handled_said setting views w stamps me from call request books stamped follows said sent)
+      (λ group ballot asked here. said_voted setting views w stamps me books said call ballot asked
+      (reply_packets me from call (Some (vote_at (w.nodes me.0) call ballot asked).reply)) (vote_says me from call ballot asked _))
 
   -- a request is handled, and its reply is lost
   request_kept : (me from : BrickId) (call : Call) (request : Request) → WasSent w (record { from = from; to = me; message = Message.Request call request })
       → Said setting views (quiet w me (requested setting me from (w.nodes me.0) call request).node []) stamps
   request_kept me from call request sent =
       request_each (λ step. Said setting views (quiet w me step.node []) stamps) setting me from (w.nodes me.0) call request
-      (nothing_said setting views w stamps me books said) (kept_said setting views w stamps me from call request books stamped follows said sent)
+      (nothing_said setting views w stamps me books said) (λ moved is. nothing_said setting views w stamps me books said)
+      (kept_said setting views w stamps me from call request books stamped follows said sent)
+      (λ group ballot asked here. said_voted setting views w stamps me books said call ballot asked [] (each_none (PacketSays setting views _ stamps)))
 
   -- a reply is delivered
   reply_said : (me from : BrickId) (now : ℕ) (call : Call) (reply : Reply) → IsSound setting
       → WasSent w (record { from = from; to = me; message = Message.Reply call reply })
-      → IsSaid setting views (stepped setting w me (replied setting me now from (w.nodes me.0) call reply))
-  unfolding replied
-  reply_said me from now call reply sound sent = at_call ((w.nodes me.0).calls call.seq) refl
-    where
-      some : (c : Coordinator) → IsCall w me.0 c.call.seq c → 1 ≤ c.call.view.0
-      some c is =
-          let its = books.calls me.0 c.call.seq c is in
-          let least = (said.operations (number_of w me.0 c.call.seq) its.operation its.operation_is).view.0 in
-          let view = its.call_view in
-          omega (arith, least, view)
-
-      in_call : (c : Coordinator) → IsCall w me.0 c.call.seq c
-          → IsSaid setting views (stepped setting w me (replied_at setting me now from (w.nodes me.0) call reply (Some c)))
-      in_call c is =
-          said_after_reply setting views sound w stamps me c (known_after (w.nodes me.0).known reply) books said is
-          (known_grows (w.nodes me.0).known reply)
-          (fresh_stamp me c.call.view now (w.nodes me.0).boot (known_after (w.nodes me.0).known reply))
-          (λ t new. fresh_says setting w me c.call.view now (known_after (w.nodes me.0).known reply) t (some c is) books
-          (known_grows (w.nodes me.0).known reply) new) from call reply sent
-
-      at_call : (z : Option Coordinator) → (w.nodes me.0).calls call.seq ≡ z
-          → IsSaid setting views (stepped setting w me (replied_at setting me now from (w.nodes me.0) call reply z))
-      at_call None none = (
+      → IsSaid setting views (stepped setting w me (heard setting me now from (w.nodes me.0) call reply))
+  reply_said me from now call reply sound sent =
+      hearing_each (IsSaid setting views) setting w me now from call reply (
         stamps,
-        said_known setting views w stamps me (known_after (w.nodes me.0).known reply) books said
-            (known_grows (w.nodes me.0).known reply),
+        said_placed setting views w stamps me books said (with_known (with_round (w.nodes me.0) reply) (known_after (w.nodes me.0).known reply)) []
+            (refl, refl, refl) (record { boot = refl; seq = omega arith; known = known_grows (w.nodes me.0).known reply }, λ l. refl)
+            (each_none (PacketSays setting views _ stamps)),
       )
-      at_call (Some c) is =
-          let seq : c.call.seq ≡ call.seq = (books.calls me.0 call.seq c is).call_seq in
-          in_call c (subst (λ (k : ℕ). IsCall w me.0 k c) (sym seq) is)
+      (let node : Node = taught_by setting w me from call reply in
+      let keeps = hearing_keeps setting w me from call reply in
+      replied_said setting views (kept_world w me node) stamps (books_kept setting w me node books keeps)
+      (said_kept setting views w stamps me books said node
+      (said_taught setting views w stamps me books said sound (stamped.nodes me.0) call.group.0 (with_round (w.nodes me.0) reply).round
+      (view_counted setting.layout from (w.nodes me.0) call reply)))
+      me from now call reply ((w.nodes me.0).calls call.seq) sound sent
+      (ap (λ (n : Node). n.calls call.seq) (put_same w.nodes me.0 node) ∙ keeps.1 call.seq))
 
   -- a message is delivered
   message_said : (me from : BrickId) (now : ℕ) (message : Message) → IsSound setting → WasSent w (record { from = from; to = me; message = message })
@@ -160,37 +233,42 @@ module _ (setting : Setting) (views : Views) (w : World) (stamps : Stamping) (bo
   unfolding received
   message_said me from now (Message.Request call request) sound sent = (stamps, request_said me from call request sent)
   message_said me from now (Message.Reply call reply) sound sent = reply_said me from now call reply sound sent
+  message_said me from now (Message.Learn group view) sound sent =
+      (stamps, said_learnt setting views w stamps me books said sound (stamped.nodes me.0) group view)
   message_said me from now message sound sent = (stamps, nothing_said setting views w stamps me books said)
 
-  -- a message is handled, and no reply is sent
-  absorbed_said : (me from to : BrickId) (message : Message) → WasSent w (record { from = from; to = me; message = message })
-      → Said setting views (quiet w me (absorbed setting me (w.nodes me.0) (record { from = from; to = to; message = message })) []) stamps
-  unfolding absorbed
-  absorbed_said me from to (Message.Request call request) sent = request_kept me from call request sent
-  absorbed_said me from to message sent = nothing_said setting views w stamps me books said
+  -- what a brick keeps of a message
+  kept_message_said : (me from to : BrickId) (message : Message) → IsSound setting → WasSent w (record { from = from; to = me; message = message })
+      → Said setting views (quiet w me (kept_of setting me (w.nodes me.0) (record { from = from; to = to; message = message })) []) stamps
+  unfolding kept_of
+  kept_message_said me from to (Message.Request call request) sound sent = request_kept me from call request sent
+  kept_message_said me from to (Message.Reply call reply) sound sent =
+      cond_both (lists_fit setting.layout call reply) (node_taught_by setting.layout.block call.group.0 (w.nodes me.0) (view_told reply)) (w.nodes me.0)
+      (λ (n : Node). Said setting views (quiet w me n []) stamps)
+      (λ fit. said_taught setting views w stamps me books said sound (stamped.nodes me.0) call.group.0 (w.nodes me.0).round (view_told reply))
+      (λ isnt. nothing_said setting views w stamps me books said)
+  kept_message_said me from to (Message.Learn group view) sound sent =
+      said_learnt setting views w stamps me books said sound (stamped.nodes me.0) group view
+  kept_message_said me from to message sound sent = nothing_said setting views w stamps me books said
 
   -- what the store of a stopped brick may hold says what it should
-  left_said : (me : BrickId) (node : Node) → IsLeft setting w me.0 node → Said setting views (quiet w me node []) stamps
-  left_said me node left = ⊎_elim
+  left_said : (me : BrickId) (node : Node) → IsSound setting → IsLeft setting w me.0 node → Said setting views (quiet w me node []) stamps
+  left_said me node sound left = ⊎_elim
       (λ (same : node ≡ w.nodes me.0).
       subst (λ (z : Node). Said setting views (quiet w me z []) stamps) (sym same) (nothing_said setting views w stamps me books said))
-      (λ (handled : (packet : Packet) × (packet.to ≡ me) × WasSent w packet × (node ≡ absorbed setting me (w.nodes me.0) packet)).
+      (λ (handled : (packet : Packet) × (packet.to ≡ me) × WasSent w packet × (node ≡ kept_of setting me (w.nodes me.0) packet)).
       let packet : Packet = handled.0 in
       subst (λ (z : Node). Said setting views (quiet w me z []) stamps) (sym handled.3)
-      (absorbed_said me packet.from packet.to packet.message
+      (kept_message_said me packet.from packet.to packet.message sound
       (subst (λ (to : BrickId). WasSent w (record { from = packet.from; to = to; message = packet.message })) handled.1 handled.2)))
       left
 
   -- so does the brick that starts with it
-  found_said : (me : BrickId) (found : Found) → w.up me.0 ≡ false → Leaves setting w → Said setting views (world_found w me found) stamps
-  found_said me Before down leaves = said
-  found_said me After down leaves =
-      subst (λ (l : List Packet). Said setting views (record w {
-        nodes = put w.nodes me.0 (w.after me.0);
-        held = with_held w.held me.0 (w.after me.0);
-        packets = l;
-      }) stamps) (append-nil w.packets)
-      (left_said me (w.after me.0) (leaves me.0 down))
+  found_said : (me : BrickId) (found : Found) → IsSound setting → w.up me.0 ≡ false → Leaves setting w
+      → Said setting views (world_found w me found) stamps
+  found_said me Before sound down leaves = said
+  found_said me After sound down leaves =
+      said_kept setting views w stamps me books said (w.after me.0) (left_said me (w.after me.0) sound (leaves me.0 down))
 
 module _ (setting : Setting) (views : Views) where
   -- a packet is delivered
@@ -198,10 +276,10 @@ module _ (setting : Setting) (views : Views) where
       → Follows setting.layout views w → Said setting views w stamps → WasSent w packet → IsSaid setting views (world_handled setting w number packet)
   delivery_said w stamps number packet sound books stamped follows said sent =
       message_said setting views (world_counting setting w number packet) stamps
-      (books_beside setting w (replies_with setting w packet) (put w.reached number true) books)
+      (books_beside setting w (replies_with setting w packet) (put w.reached number true) (voiced setting w packet) books)
       (record { nodes = stamped.nodes; after = stamped.after; packets = stamped.packets })
       (record { limits = follows.limits; distinct = follows.distinct; learnt = follows.learnt; prior = follows.prior; passed = follows.passed })
-      (said_beside setting views w stamps w.clocks (replies_with setting w packet) (put w.reached number true) books said)
+      (said_beside setting views w stamps w.clocks (replies_with setting w packet) (put w.reached number true) (voiced setting w packet) books said)
       packet.to packet.from (w.clocks packet.to.0) packet.message sound sent
 
   -- a brick's clock ticks
@@ -209,11 +287,12 @@ module _ (setting : Setting) (views : Views) where
       → Said setting views (world_ticked setting w me) stamps
   ticked_said w stamps me books said =
       let more : List Packet = ticked setting me (w.nodes me.0) in
-      said_added setting views w stamps w.clocks w.replies w.reached (w.packets ++ more) books said
+      said_added setting views w stamps w.clocks w.replies w.reached (w.packets ++ more) w.choices books said
       (λ packet sent. (sent.0, get_kept w.packets more sent.0 packet sent.1))
       (λ packet sent. ⊎_elim
-      (λ (old : slice_get w.packets sent.0 ≡ Some packet). (sent.0, old))
-      (λ (new : (j : ℕ) × (slice_get more j ≡ Some packet)). ticked_was_sent setting views w stamps me said new.0 packet new.1)
+      (λ (old : slice_get w.packets sent.0 ≡ Some packet). inl (sent.0, old))
+      (λ (new : (j : ℕ) × (slice_get more j ≡ Some packet)).
+      ticked_was_sent setting views w (record w { packets = w.packets ++ more }) stamps me said new.0 packet new.1)
       (get_grown w.packets more sent.0 packet sent.1))
 
   -- a brick stops
@@ -261,29 +340,20 @@ module _ (setting : Setting) (views : Views) where
       let books : Books setting w = known.1 in
       record {
         begins = λ brick ask may. invoked_said w said.0 brick ask books known.3 known.2 said.1 may;
+        proposes = λ brick group members may. (said.0, proposed_said setting views w said.0 books said.1 brick group members);
         handles = λ number packet at up. delivery_said w said.0 number packet sound books known.3 known.2 said.1 (packet_was_sent w number packet at);
-        sets = λ brick time is. (said.0, said_beside setting views w said.0 (put w.clocks brick.0 time) w.replies w.reached books said.1);
+        sets = λ brick time is. (said.0, said_beside setting views w said.0 (put w.clocks brick.0 time) w.replies w.reached w.choices books said.1);
         ticks = λ brick up. (said.0, ticked_said w said.0 brick books said.1);
         stops = λ brick during up. (said.0, stopped_said w said.0 brick during books said.1);
         starts = λ brick openings found may.
             (let fits = start_fits setting w brick openings may in (
               said.0,
               started_said (world_found w brick found) said.0 brick openings (books_found setting w brick found fits.0 known.0 books)
-                  (found_said setting views w said.0 books known.3 known.2 said.1 brick found fits.0 known.0) fits.1,
+                  (found_said setting views w said.0 books known.3 known.2 said.1 brick found sound fits.0 known.0) fits.1,
             ));
       }
 
 -- the first world
-first_top : (block : ℕ) → top_of (first_replica block) ≡ first_stamp
-first_top block =
-    top_is (first_replica block) (record { stamp = first_stamp; block = replicate block 0 }) refl
-    ∙ cond-false (stamp_below first_stamp first_stamp) first_stamp first_stamp (stamp_below_irrefl first_stamp)
-
--- the zero bytes of a group are those of it as any members keep it
-zero_kept : (block : ℕ) (members : List BrickId) (z : Option Group) → zero_content block (option_map (kept_by members) z) ≡ zero_content block z
-zero_kept block members None = refl
-zero_kept block members (Some group) = refl
-
 module _ (setting : Setting) (views : Views) where
   said_first : IsSound setting → Follows setting.layout views (first_world setting.layout)
       → IsSaid setting views (first_world setting.layout)
@@ -316,7 +386,7 @@ module _ (setting : Setting) (views : Views) where
       ends = λ k p n answer is. cc;
       order = λ a b earlier late u earlier_is late_is groups stripes version. cc;
       first = λ g s. refl;
-      lowest = λ g e s i x log.
+      lowest = λ g e s i x log within.
           cond_both (nat_eq e 1) (first_replica setting.layout.block) _
           (λ (r : Replica). r.log ≡ x ∷ log → IsBottom (first_world setting.layout) g e s i x.stamp ⊎ WasCollected (first_world setting.layout) g s x.stamp)
           (λ one is.

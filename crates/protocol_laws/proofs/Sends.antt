@@ -1,6 +1,6 @@
 -- A coordinator begins its next phase, which makes no version yet: a recovery, a look below a lower bound, or another round of ordering.
 -- And an open operation may send its present phase again.
-use Rattle.std.proofs.Common.{◌≡◌, ℕ, ◌+◌, ◌≤◌, max, ◌⊎◌, inl, inr, true, false, List, [], ◌∷◌, zero, suc, Option, Some, None, refl, sym, ap, ◌∙◌, subst, ⊎_elim, arith}
+use Rattle.std.proofs.Common.{◌≡◌, ℕ, ◌+◌, ◌≤◌, max, ◌⊎◌, inl, inr, true, false, List, [], ◌∷◌, zero, suc, Option, Some, None, refl, sym, ap, ◌∙◌, subst, arith}
 use Rattle.std.specs.Prelude.{slice_get}
 use Rattle.std.proofs.lemmas.Bool.{cond_both}
 use Rattle.fab_base.specs.declared.identities.BrickId.{BrickId}
@@ -22,13 +22,15 @@ use Rattle.protocol.specs.declared.phases.Counted.{Counted}
 use Rattle.protocol.specs.declared.phases.Phase.{Phase}
 use Rattle.protocol.specs.declared.phases.Phase.TheVariants.{Looks, LooksAt, Orders, OrdersAt, Recovers, Descends, Modifies, Bases, Stores}
 use Rattle.protocol.specs.Coordinators.{Coordinator, next_phase, has_seat, request_of}
-use Rattle.protocol.specs.Nodes.{Node, with_known, with_call, phase_packets, given_content, resent_to, resent, resent_up_to, ticked}
+use Rattle.protocol.specs.Nodes.{Node, with_known, with_call, phase_packets, given_content, resent_to, resent, resent_up_to, view_in, ballot_resent, ticked}
 use Rattle.protocol.specs.Worlds.{World, Operation, number_of}
 use Rattle.protocol_laws.specs.Laws.{WasSent, IsGuarded}
 use Rattle.protocol_laws.proofs.Books.{Books, CallBooks, IsOperation, IsCall}
 use Rattle.protocol_laws.proofs.Said.{Begun, Stamping, Said, IsSaid, IsBegun, AreBlocked, IsStampOf, IsCalled, FitsPhase, RequestSays, PacketSays, CallSays, OrderReadSays, DescendsFrom, base_in, look_of, want_of, is_looked, IsMadeOrFirst, MadeOn, WriteSays}
+use Rattle.protocol_laws.proofs.Proposing.{of_views_each, resent_of_views}
 use Rattle.protocol_laws.proofs.Logs.{below_above}
-use Rattle.protocol.proofs.Tables.{put_each, put_same, get_grown, sent_to_member}
+use Rattle.protocol.proofs.Tables.{put_each, put_same, sent_to_member}
+use Rattle.protocol.proofs.Packets.{OfEach, each_none, each_both, each_teaching}
 use Rattle.protocol_laws.proofs.Stampings.{ComesFrom, StampsGrow, Ages, ages_within, with_stamp, stamp_now, stamps_other, stamp_last, stamps_grow, stamps_say}
 use Rattle.protocol_laws.proofs.Growth.{Grows, stays_guarded, stays_made, stays_made_on, stay_blocked}
 use Rattle.protocol_laws.proofs.Steps.{KeepsStamps, keeps_same, ages_by, phase_asked, quiet, quiet_grows, said_quiet}
@@ -80,7 +82,7 @@ module _ (setting : Setting) (views : Views) (sound : IsSound setting) (w : Worl
   -- the coordinator in its next phase
   abbrev d_in : Phase → Coordinator
   d_in p =
-      record { group = c.group; ask = c.ask; stamp = t; round = round; base = base; content = content; call = next_phase c.call; phase = p; counted = [] }
+      record { group = c.group; prior = c.prior; ask = c.ask; stamp = t; round = round; base = base; content = content; call = next_phase c.call; phase = p; counted = [] }
 
   abbrev d : Coordinator
   d = d_in phase
@@ -289,7 +291,7 @@ module _ (setting : Setting) (views : Views) (sound : IsSound setting) (w : Worl
           stamps_other = λ i b k other. stamps_other stamps me.0 boot c.call.seq (c.call.phase + 1) begun i b k (λ brick same. other brick);
           tops = λ g e s. inl refl;
           logs = λ g e s k version at. inl (k, at);
-          lowest = λ g e s x log at. inl (log, at);
+          lowest = λ g e s x log within at. inl (log, at);
           calls = calls;
           packets = packets;
         }),
@@ -339,12 +341,15 @@ resent_to_member me call request counted seat (member ∷ members) k packet is =
     (λ j. resent_to_member me call request counted (seat + 1) members j packet) at)
     is
 
-module _ (setting : Setting) (views : Views) (w : World) (stamps : Stamping) (me : BrickId) (said : Said setting views w stamps) where
+module _ (setting : Setting) (views : Views) (w next : World) (stamps : Stamping) (me : BrickId) (said : Said setting views w stamps) where
+  -- a packet was sent, or says what it should
+  abbrev SentOrSays : Packet → Type 0
+  SentOrSays packet = WasSent w packet ⊎ PacketSays setting views next stamps packet
+
   -- what an open operation sends again was sent
-  call_resent : (k : ℕ) (z : Option Coordinator) → (w.nodes me.0).calls k ≡ z → (j : ℕ) (packet : Packet)
-      → slice_get (resent setting me z) j ≡ Some packet → WasSent w packet
-  call_resent k None none j packet at = cc
-  call_resent k (Some c) is j packet at =
+  resent_was_sent : (k : ℕ) (c : Coordinator) → (w.nodes me.0).calls k ≡ Some c
+      → OfEach (WasSent w) (resent_to me c.call (request_of setting.code c) c.counted 0 c.group.members)
+  resent_was_sent k c is j packet at =
       let found = resent_to_member me c.call (request_of setting.code c) c.counted 0 c.group.members j packet at in
       let place : 0 + found.0 ≡ found.0 = omega arith in
       subst (λ (z : Packet). WasSent w z) (sym found.3)
@@ -352,15 +357,23 @@ module _ (setting : Setting) (views : Views) (w : World) (stamps : Stamping) (me
       (sym place)
       ((said.calls me.0 k c is).asked found.0 found.1 found.2))
 
-  calls_resent : (k j : ℕ) (packet : Packet) → slice_get (resent_up_to setting me (w.nodes me.0).calls k) j ≡ Some packet → WasSent w packet
-  calls_resent zero j packet at = cc
-  calls_resent (suc k) j packet at = ⊎_elim
-      (λ (old : slice_get (resent_up_to setting me (w.nodes me.0).calls k) j ≡ Some packet). calls_resent k j packet old)
-      (λ (new : (i : ℕ) × (slice_get (resent setting me ((w.nodes me.0).calls (suc k))) i ≡ Some packet)).
-      call_resent (suc k) ((w.nodes me.0).calls (suc k)) refl new.0 packet new.1)
-      (get_grown (resent_up_to setting me (w.nodes me.0).calls k) (resent setting me ((w.nodes me.0).calls (suc k))) j packet at)
+  call_resent : (k : ℕ) (z : Option Coordinator) → (w.nodes me.0).calls k ≡ z → OfEach SentOrSays (resent setting me z)
+  call_resent k None none = each_none SentOrSays
+  call_resent k (Some c) is =
+      each_teaching SentOrSays c.call.group (view_in c) (λ later from to. inr tt)
+      (resent_to me c.call (request_of setting.code c) c.counted 0 c.group.members) (λ j packet at. inl (resent_was_sent k c is j packet at))
 
-  -- so is all that a tick of its clock sends
-  pub ticked_was_sent : (j : ℕ) (packet : Packet) → slice_get (ticked setting me (w.nodes me.0)) j ≡ Some packet → WasSent w packet
+  calls_resent : (k : ℕ) → OfEach SentOrSays (resent_up_to setting me (w.nodes me.0).calls k)
+  calls_resent zero = each_none SentOrSays
+  calls_resent (suc k) =
+      each_both SentOrSays (resent_up_to setting me (w.nodes me.0).calls k) (resent setting me ((w.nodes me.0).calls (suc k))) (calls_resent k)
+      (call_resent (suc k) ((w.nodes me.0).calls (suc k)) refl)
+
+  -- so is all that a tick of its clock sends, but for what is of views and of proposals
+  pub ticked_was_sent : OfEach SentOrSays (ticked setting me (w.nodes me.0))
   unfolding ticked
-  ticked_was_sent j packet at = calls_resent (w.nodes me.0).seq j packet at
+  ticked_was_sent =
+      each_both SentOrSays (resent_up_to setting me (w.nodes me.0).calls (w.nodes me.0).seq) (ballot_resent me (w.nodes me.0).proposal)
+      (calls_resent (w.nodes me.0).seq)
+      (of_views_each SentOrSays (λ from to group view. inr tt) (λ from to call ballot. inr tt) (λ from to call ballot members. inr tt)
+      (ballot_resent me (w.nodes me.0).proposal) (resent_of_views me (w.nodes me.0).proposal))

@@ -1,6 +1,6 @@
 -- The stamps of a part, of a call and of a request are of its own view, and what a brick keeps of views that it has not learnt is fresh: so it is in every
 -- run, whatever members the views have.
-use Rattle.std.proofs.Common.{◌≡◌, ℕ, ◌+◌, ◌≤◌, ◌<◌, ◌⊎◌, inl, inr, ⊎_elim, false, nat_eq, List, Option, Some, None, refl, sym, ap, ◌∙◌, subst, arith}
+use Rattle.std.proofs.Common.{◌≡◌, ℕ, ◌+◌, ◌≤◌, ◌<◌, ◌⊎◌, inl, inr, ⊎_elim, true, false, ◌-◌, nat_eq, List, Option, ltb-true, ltb-false, nat_lt, Some, None, refl, sym, ap, ◌∙◌, subst, arith}
 use Rattle.std.specs.Prelude.{slice_get}
 use Rattle.std.proofs.lemmas.Bool.{cond_both}
 use Rattle.std.proofs.lemmas.Bool.Decides.{nat_tests}
@@ -18,20 +18,27 @@ use Rattle.messages.specs.declared.replies.Reply.{Reply}
 use Rattle.messages.specs.declared.requests.Request.{Request}
 use Rattle.messages.specs.declared.requests.Version.{Version}
 use Rattle.protocol.specs.Settings.{Setting, Code}
-use Rattle.protocol.specs.Views.{view_of}
-use Rattle.protocol.specs.Replicas.{Replica, Reaction, first_replica, fresh_replica, handle, top_of}
+use Rattle.protocol.specs.Views.{Learnt, first_learnt, view_of, is_later, view_told, floor_of}
+use Rattle.protocol.specs.Ballots.{Voted}
+use Rattle.protocol.specs.Proposals.{Proposal}
+use Rattle.fab_base.specs.declared.identities.GroupId.{GroupId}
+use Rattle.fab_base.specs.declared.member_lists.View.{View}
+use Rattle.protocol.specs.Replicas.{Replica, Reaction, first_replica, fresh_replica, handle, top_of, newest_of}
 use Rattle.protocol.specs.declared.phases.Phase.{Phase}
 use Rattle.protocol.specs.declared.phases.Phase.TheVariants.{Looks, LooksAt, Orders, OrdersAt, Recovers, Descends, Modifies, Bases, Stores}
 use Rattle.protocol.specs.Coordinators.{Coordinator, Next, Ignores, Waits, Sends, Makes, Ends, with_reply, once_full, counted_at, counts_at, on_reply, request_of}
-use Rattle.protocol.specs.Nodes.{Node, NodeStep, view_at, view_floor, put, first_node, no_step, phase_packets, new_coordinator, began, invoked, replica_at, full_at, requested, known_after, with_call, carried_out, has_later_time, new_stamp, fresh_stamp, group_at, replied_at, replied, received, absorbed, ticked, stopped, restarted}
+use Rattle.protocol.specs.Nodes.{Node, NodeStep, view_at, view_floor, put, first_node, no_step, phase_packets, new_coordinator, began, invoked, replica_at, full_at, requested, known_after, with_call, carried_out, has_later_time, new_stamp, fresh_stamp, group_at, replied_at, heard, received, absorbed, vote_at, with_learnt, node_taught_by, node_learnt, lists_fit, view_counted, with_known, with_round, proposed, ballot_resent, ticked, stopped, restarted, has_accepted}
 use Rattle.protocol.specs.Worlds.{World, Event, After, first_world, packet_during, left_after, world_found, world_started, run}
 use Rattle.protocol.proofs.Events.{EventCases, step_on, started_each, always, world_counting}
 use Rattle.protocol.proofs.Packets.{OfEach, each_none, each_both, each_member, each_collect, each_reply, each_ticked}
 use Rattle.protocol_laws.specs.Laws.{stamp_asked}
-use Rattle.protocol_laws.proofs.Left.{after_stepped, packet_was_sent, during_was_sent}
+use Rattle.protocol_laws.proofs.Left.{after_stepped, packet_was_sent, during_was_sent, kept_of, absorbed_kept}
+use Rattle.protocol_laws.proofs.Proposing.{AreOfViews, of_views_each, resent_of_views, ballot_each, proposed_each}
+use Rattle.protocol_laws.proofs.Teaching.{newly_learnt, told_each, learnt_each, dropped_each, heard_each}
 use Rattle.protocol_laws.proofs.Outcomes.{ReordersFits, RecoversFits, RebuildsFits, NextFits, once_full_fits}
-use Rattle.protocol_laws.proofs.Reactions.{IsAfter, StoresBlock, handle_after, after_log, after_order, store_asked}
-use Rattle.protocol.proofs.Served.{request_each, parts_each}
+use Rattle.protocol_laws.proofs.Reactions.{IsAfter, StoresBlock, handle_after, after_log, after_order, store_asked, top_is, top_is_order}
+use Rattle.protocol_laws.proofs.Logs.{newest_stands}
+use Rattle.protocol.proofs.Served.{request_each, parts_each, IsCollect}
 use Rattle.protocol.proofs.Tables.{put_each, get_one}
 use Rattle.protocol_laws.proofs.Tops.{view_above}
 
@@ -44,21 +51,23 @@ pub record PartIsOf (e : ℕ) (part : Replica) : Type 0 where
 abbrev pub CallIsOf : Coordinator → Type 0
 CallIsOf c = c.stamp.view.0 ≡ c.call.view.0
 
--- a brick
+-- A brick: its parts are of their views, those of views that it has not learnt, and of none, are fresh, and of view 1 it has learnt what all bricks begin with;
+-- and its open operations are of their calls' views.
 pub record NodeViews (layout : Layout) (node : Node) : Type 0 where
   pub views : (g : ℕ) → 1 ≤ view_at node g
   pub parts : (g e s : ℕ) → PartIsOf e (node.replicas g e s)
   pub fresh : (g e s : ℕ) → view_at node g < e → node.replicas g e s ≡ fresh_replica layout.block e
+  pub zero : (g s : ℕ) → node.replicas g 0 s ≡ fresh_replica layout.block 0
+  pub first : (g : ℕ) → view_at node g ≡ 1 → node.learnt g ≡ first_learnt layout g
   pub calls : (k : ℕ) (c : Coordinator) → node.calls k ≡ Some c → CallIsOf c
 
 -- a request asks at a stamp of its call's view
 abbrev pub RequestIsOf : Call → Request → Type 0
 RequestIsOf call request = (t : Stamp) → stamp_asked request ≡ Some t → t.view.0 ≡ call.view.0
 
--- so does one that is sent, and none teaches a view
+-- so does one that is sent
 abbrev pub MessageIsOf : Message → Type 0
 MessageIsOf (Message.Request call request) = RequestIsOf call request
-MessageIsOf (Message.Learn group view) = ⊥
 MessageIsOf message = Unit {0}
 
 abbrev pub PacketIsOf : Packet → Type 0
@@ -99,12 +108,24 @@ pub asked_view : (layout : Layout) (node : Node) (call : Call) (request : Reques
 asked_view layout node call request has asks view t is =
     let some = has.views call.group.0 in view_same call.view.0 t (omega (arith, view, some)) (asks t is)
 
--- and not below what the brick has learnt, where it has accepted nothing
+-- a brick that handles a request which asks at a stamp has accepted no list to follow the call's view
+abbrev pub IsFreeFor : Node → Call → Request → Type 0
+IsFreeFor node call request = (t : Stamp) → stamp_asked request ≡ Some t → has_accepted node call.group.0 ≡ false
+
+-- so it is where it has accepted none, or drops versions
+pub free_for : (node : Node) (call : Call) (request : Request) → (has_accepted node call.group.0 ≡ false) ⊎ IsCollect request → IsFreeFor node call request
+free_for node call request free t asks = ⊎_elim
+    (λ (none : has_accepted node call.group.0 ≡ false). none)
+    (λ (collects : IsCollect request).
+    absurd (let never : None ≡ Some t = ap stamp_asked (sym collects.1) ∙ asks in cc))
+    free
+
+-- and what it asks at is not below what the brick has learnt, where it has accepted nothing
 pub asks_above : (layout : Layout) (node : Node) (call : Call) (request : Request) → NodeViews layout node → RequestIsOf call request
-    → call.view.0 ≡ view_at node call.group.0 → node.accepted call.group.0 ≡ false → (t : Stamp) → stamp_asked request ≡ Some t
+    → call.view.0 ≡ view_at node call.group.0 → IsFreeFor node call request → (t : Stamp) → stamp_asked request ≡ Some t
     → stamp_below t (view_floor node call.group.0) ≡ false
 asks_above layout node call request has asks view free t is =
-    view_above node call.group.0 t free (asked_view layout node call request has asks view t is ∙ view)
+    view_above node call.group.0 t (free t is) (asked_view layout node call request has asks view t is ∙ view)
 
 -- a member handles a request
 module _ (setting : Setting) (node : Node) (call : Call) (request : Request) (has : NodeViews setting.layout node)
@@ -123,6 +144,44 @@ module _ (setting : Setting) (node : Node) (call : Call) (request : Request) (ha
         (after_log setting.code m seat part request next k version after at);
   }
 
+-- a fresh part is of its view
+fresh_part : (block e : ℕ) → PartIsOf e (fresh_replica block e)
+fresh_part block e =
+    cond_both (nat_eq e 1) (first_replica block) _ (λ (r : Replica). PartIsOf e r)
+    (λ one. record {
+      order = inl refl;
+      log = λ k version at.
+          ap (λ (v : Version). view_of v.stamp) (sym (get_one _ version k at)) ∙ (let is : 1 ≡ e = grind (arith, nat_tests) in is);
+    })
+    (λ other. record { order = inl refl; log = λ k version at. absurd (let never : None ≡ Some version = at in cc) })
+
+-- what a part of a view has come to is below the floor of a later one
+pub part_below : (e f : ℕ) (part : Replica) → 1 ≤ e → e < f → PartIsOf e part → stamp_below (top_of part) (floor_of f) ≡ true
+unfolding stamp_below
+part_below e f part least later is = below_floor (top_of part) (newest (newest_of part.log) refl)
+  where
+    -- a stamp of the view, or the first
+    IsEarly : Stamp → Type 0
+    IsEarly t = t.view.0 ≤ e
+
+    below_floor : (t : Stamp) → IsEarly t → stamp_below t (floor_of f) ≡ true
+    below_floor t early =
+        cond_both (nat_lt 1 f) (record { view = record { 0 = f }; time = 0; brick = record { 0 = 0 }; boot = 0 }) first_stamp (λ (z : Stamp). stamp_below t z ≡ true)
+        (λ above. grind (arith, nat_tests)) (λ none. absurd (let few = ltb-false 1 f none in omega (arith, few, least, later)))
+
+    order : IsEarly part.order
+    order = ⊎_elim
+        (λ (first : part.order ≡ first_stamp). let view : part.order.view.0 ≡ 0 = ap (λ (z : Stamp). z.view.0) first in omega (arith, view))
+        (λ (of : part.order.view.0 ≡ e). omega (arith, of)) is.order
+
+    newest : (z : Option Version) → newest_of part.log ≡ z → IsEarly (top_of part)
+    newest None none = subst IsEarly (sym (top_is_order part none)) order
+    newest (Some version) some =
+        let stands = newest_stands part.log version some in
+        let of : view_of version.stamp ≡ e = is.log stands.0 version stands.1 in
+        subst IsEarly (sym (top_is part version some))
+        (cond_both (stamp_below part.order version.stamp) version.stamp part.order IsEarly (λ below. omega (arith, of)) (λ isnt. order))
+
 -- a step keeps a brick's views, and sends packets of theirs
 pub record StepViews (layout : Layout) (step : NodeStep) : Type 0 where
   pub node : NodeViews layout step.node
@@ -135,23 +194,73 @@ requested_views : (setting : Setting) (me from : BrickId) (node : Node) (call : 
     → RequestIsOf call request → StepViews setting.layout (requested setting me from node call request)
 requested_views setting me from node call request has asks =
     request_each (λ (step : NodeStep). StepViews setting.layout step) setting me from node call request (quiet_views setting.layout node has)
-    (λ group seat here at view.
+    (λ moved is. record { node = has; packets = each_reply PacketIsOf me from call (Some moved) (λ r is. tt) })
+    (λ group seat here served.
     let full : Option ℕ = full_at setting.layout.records node.live in
     let reaction : Reaction = handle setting.code group.m full seat (replica_at node call) request in
     record {
       node = record {
         views = has.views;
         parts = parts_each (λ g e s r. PartIsOf e r) node call reaction
-            (part_after setting node call request has asks group.m seat (replica_at node call) reaction.replica view
+            (part_after setting node call request has asks group.m seat (replica_at node call) reaction.replica served.view
             (has.parts call.group.0 call.view.0 call.stripe.0) (handle_after setting.code group.m seat full (replica_at node call) request))
             has.parts;
         fresh = λ g e s later.
             parts_each (λ h v r x. view_at node h < v → x ≡ fresh_replica setting.layout.block v) node call reaction
-            (λ above. absurd (omega (arith, view, above))) (λ h v r above. has.fresh h v r above) g e s later;
+            (λ above. (let view = served.view in absurd (omega (arith, view, above)))) (λ h v r above. has.fresh h v r above) g e s later;
+        zero = λ g s.
+            parts_each (λ h v r x. v ≡ 0 → x ≡ fresh_replica setting.layout.block v) node call reaction
+            (λ none. (let view = served.view in let least = has.views call.group.0 in absurd (omega (arith, view, least, none))))
+            (λ h v r none. subst (λ (e : ℕ). node.replicas h e r ≡ fresh_replica setting.layout.block e) (sym none) (has.zero h r)) g 0 s refl;
+        first = has.first;
         calls = has.calls;
       };
       packets = each_reply PacketIsOf me from call reaction.reply (λ r is. tt);
     })
+    (λ group ballot asked here.
+    let vote : Voted = vote_at node call ballot asked in
+    record {
+      node = record { views = has.views; parts = has.parts; fresh = has.fresh; zero = has.zero; first = has.first; calls = has.calls };
+      packets = each_reply PacketIsOf me from call (Some vote.reply) (λ r is. tt);
+    })
+
+-- a brick that is taught a later view keeps each stamp in its view: what it forgets is fresh
+learnt_views : (layout : Layout) (g : ℕ) (node : Node) (view : View) → is_later (node.learnt g) view ≡ true → NodeViews layout node
+    → NodeViews layout (with_learnt layout.block g node (newly_learnt view))
+learnt_views layout g node view later has =
+    let next : Node = with_learnt layout.block g node (newly_learnt view) in
+    let above : view_at node g < view.number.0 = ltb-true (view_at node g) view.number.0 later in
+    let least : 1 ≤ view_at node g = has.views g in
+    record {
+      views = put_each (λ h (l : Learnt). 1 ≤ l.view.number.0) node.learnt g (newly_learnt view) (omega (arith, above, least)) (λ h other. has.views h);
+      parts = dropped_each (λ h e s r. PartIsOf e r) layout.block g (view.number.0 - 1) node has.parts (λ e s before. fresh_part layout.block e);
+      fresh = dropped_each (λ h e s r. view_at next h < e → r ≡ fresh_replica layout.block e) layout.block g (view.number.0 - 1) node
+          (λ h e s. put_each (λ i (l : Learnt). l.view.number.0 < e → node.replicas i e s ≡ fresh_replica layout.block e) node.learnt g (newly_learnt view)
+          (λ less. has.fresh g e s (omega (arith, above, less))) (λ i other less. has.fresh i e s less) h)
+          (λ e s before less. refl);
+      zero = λ h s.
+          dropped_each (λ i e r x. e ≡ 0 → x ≡ fresh_replica layout.block e) layout.block g (view.number.0 - 1) node
+          (λ i e r none. subst (λ (f : ℕ). node.replicas i f r ≡ fresh_replica layout.block f) (sym none) (has.zero i r)) (λ e r before none. refl) h 0 s refl;
+      first = put_each (λ h (l : Learnt). l.view.number.0 ≡ 1 → l ≡ first_learnt layout h) node.learnt g (newly_learnt view)
+          (λ one. absurd (omega (arith, above, least, one))) (λ h other. has.first h);
+      calls = has.calls;
+    }
+
+taught_views : (layout : Layout) (g : ℕ) (node : Node) (view : Option View) → NodeViews layout node
+    → NodeViews layout (node_taught_by layout.block g node view)
+taught_views layout g node view has =
+    told_each (λ (n : Node). NodeViews layout n) layout.block g node view has (λ v later. learnt_views layout g node v later has)
+
+-- a brick whose proposal, call number, known time or known round is another
+pub beside_views : (layout : Layout) (node : Node) (seq known round : ℕ) (proposal : Option Proposal) → NodeViews layout node
+    → NodeViews layout (record node { seq = seq; known = known; round = round; proposal = proposal })
+beside_views layout node seq known round proposal has = record { views = has.views; parts = has.parts; fresh = has.fresh; zero = has.zero; first = has.first; calls = has.calls }
+
+-- what is of views asks at no stamp
+ballots_are : (packets : List Packet) → AreOfViews packets → OfEach PacketIsOf packets
+ballots_are packets =
+    of_views_each PacketIsOf (λ from to group view. tt) (λ from to call ballot t is. absurd (let never : None ≡ Some t = is in cc))
+    (λ from to call ballot members t is. absurd (let never : None ≡ Some t = is in cc)) packets
 
 -- what a coordinator decides
 abbrev NextIsOf : Next → Type 0
@@ -184,6 +293,8 @@ call_put layout node known busy seq call has new = record {
   views = has.views;
   parts = has.parts;
   fresh = has.fresh;
+  zero = has.zero;
+  first = has.first;
   calls = put_each (λ k z. (c : Coordinator) → z ≡ Some c → CallIsOf c) node.calls seq call new (λ k other. has.calls k);
 }
 
@@ -197,7 +308,7 @@ phase_views setting me c is =
 carried_views : (setting : Setting) (me : BrickId) (node : Node) (known : ℕ) (c : Coordinator) (next : Next) → NodeViews setting.layout node
     → NextIsOf next → StepViews setting.layout (carried_out setting me node known c next)
 carried_views setting me node known c Ignores has is =
-    record { node = record { views = has.views; parts = has.parts; fresh = has.fresh; calls = has.calls }; packets = each_none PacketIsOf }
+    record { node = record { views = has.views; parts = has.parts; fresh = has.fresh; zero = has.zero; first = has.first; calls = has.calls }; packets = each_none PacketIsOf }
 carried_views setting me node known c (Waits d) has is =
     record { node = call_put setting.layout node _ _ _ (Some d) has (λ e same. some_call d e is same); packets = each_none PacketIsOf }
 carried_views setting me node known c (Sends d) has is =
@@ -216,39 +327,81 @@ fresh_view me view now boot known t =
     (λ later is. ap (λ (z : Stamp). z.view.0) (sym (same_Some (new_stamp me view now boot known) t is)))
     (λ spent is. absurd (let never : None ≡ Some t = is in cc))
 
-replied_views : (setting : Setting) (me : BrickId) (now : ℕ) (from : BrickId) (node : Node) (call : Call) (reply : Reply)
-    → NodeViews setting.layout node → StepViews setting.layout (replied setting me now from node call reply)
-unfolding replied on_reply
-replied_views setting me now from node call reply has = at_call (node.calls call.seq) refl
+replied_views : (setting : Setting) (me : BrickId) (now : ℕ) (from : BrickId) (node : Node) (call : Call) (reply : Reply) (found : Option Coordinator)
+    → ((c : Coordinator) → found ≡ Some c → CallIsOf c) → NodeViews setting.layout node
+    → StepViews setting.layout (replied_at setting me now from node call reply found)
+unfolding on_reply
+replied_views setting me now from node call reply None own has =
+    ballot_each (λ (step : NodeStep). StepViews setting.layout step) setting.layout me from (with_known node (known_after node.known reply)) call reply node.proposal
+    (λ seq round proposal packets reports more are. record {
+      node = beside_views setting.layout node seq (known_after node.known reply) round proposal has;
+      packets = ballots_are packets are;
+    })
+replied_views setting me now from node call reply (Some c) own has =
+    let known : ℕ = known_after node.known reply in
+    carried_views setting me node known c _ has
+    (decides (fresh_stamp me c.call.view now node.boot known) (own c refl)
+    (λ t made. fresh_view me c.call.view now node.boot known t made) (counts_at setting.layout.block c from.0 call reply))
   where
-    decides : (c : Coordinator) (fresh : Option Stamp) → CallIsOf c → ((t : Stamp) → fresh ≡ Some t → t.view.0 ≡ c.call.view.0) → (seat : Option ℕ)
+    decides : (fresh : Option Stamp) → CallIsOf c → ((t : Stamp) → fresh ≡ Some t → t.view.0 ≡ c.call.view.0) → (seat : Option ℕ)
         → NextIsOf (counted_at setting.layout.block setting.code fresh c from reply seat)
-    decides c fresh is made None = tt
-    decides c fresh is made (Some seat) =
+    decides fresh is made None = tt
+    decides fresh is made (Some seat) =
         next_views fresh (with_reply c seat from reply) (once_full setting.layout.block setting.code fresh (with_reply c seat from reply))
         (once_full_fits setting.layout.block setting.code fresh (with_reply c seat from reply)) is made
 
-    at_call : (z : Option Coordinator) → node.calls call.seq ≡ z → StepViews setting.layout (replied_at setting me now from node call reply z)
-    at_call None is =
-        record { node = record { views = has.views; parts = has.parts; fresh = has.fresh; calls = has.calls }; packets = each_none PacketIsOf }
-    at_call (Some c) is =
-        let known : ℕ = known_after node.known reply in
-        carried_views setting me node known c _ has
-        (decides c (fresh_stamp me c.call.view now node.boot known) (has.calls call.seq c is)
-        (λ t made. fresh_view me c.call.view now node.boot known t made) (counts_at setting.layout.block c from.0 call reply))
+heard_views : (setting : Setting) (me : BrickId) (now : ℕ) (from : BrickId) (node : Node) (call : Call) (reply : Reply)
+    → NodeViews setting.layout node → StepViews setting.layout (heard setting me now from node call reply)
+heard_views setting me now from node call reply has =
+    let round : NodeViews setting.layout (with_round node reply)
+    = beside_views setting.layout node node.seq node.known (with_round node reply).round node.proposal has in
+    heard_each (λ (step : NodeStep). StepViews setting.layout step) setting me now from node call reply
+    (quiet_views setting.layout (with_known (with_round node reply) (known_after node.known reply))
+    (beside_views setting.layout node node.seq (known_after node.known reply) (with_round node reply).round node.proposal has))
+    (λ fit. replied_views setting me now from _ call reply (node.calls call.seq) (λ c is. has.calls call.seq c is)
+    (taught_views setting.layout call.group.0 (with_round node reply) (view_counted setting.layout from node call reply) round))
 
 received_views : (setting : Setting) (now : ℕ) (from to : BrickId) (message : Message) (node : Node) → NodeViews setting.layout node → MessageIsOf message
     → StepViews setting.layout (received setting to now node (record { from = from; to = to; message = message }))
 unfolding received
 received_views setting now from to (Message.Request call request) node has is = requested_views setting to from node call request has is
-received_views setting now from to (Message.Reply call reply) node has is = replied_views setting to now from node call reply has
+received_views setting now from to (Message.Reply call reply) node has is = heard_views setting to now from node call reply has
+received_views setting now from to (Message.Learn group view) node has is =
+    quiet_views setting.layout (node_learnt setting.layout node group view)
+    (learnt_each (λ (n : Node). NodeViews setting.layout n) setting.layout node group view has (λ later. learnt_views setting.layout group.0 node view later has))
 received_views setting now from to message node has is = quiet_views setting.layout node has
 
+-- a brick begins a proposal
+proposed_views : (setting : Setting) (me : BrickId) (node : Node) (group : GroupId) (members : List BrickId) → NodeViews setting.layout node
+    → StepViews setting.layout (proposed setting me node group members)
+proposed_views setting me node group members has =
+    proposed_each (λ (step : NodeStep). StepViews setting.layout step) setting me node group members (λ seq round proposal packets reports more are. record {
+      node = beside_views setting.layout node seq node.known round proposal has;
+      packets = ballots_are packets are;
+    })
+
+-- what a brick keeps of a message
+kept_views : (setting : Setting) (me from to : BrickId) (message : Message) (node : Node) → NodeViews setting.layout node → MessageIsOf message
+    → NodeViews setting.layout (kept_of setting me node (record { from = from; to = to; message = message }))
+unfolding kept_of
+kept_views setting me from to (Message.Request call request) node has is = (requested_views setting me from node call request has is).node
+kept_views setting me from to (Message.Reply call reply) node has is =
+    cond_both (lists_fit setting.layout call reply) (node_taught_by setting.layout.block call.group.0 node (view_told reply)) node
+    (λ (n : Node). NodeViews setting.layout n) (λ fit. taught_views setting.layout call.group.0 node (view_told reply) has) (λ isnt. has)
+kept_views setting me from to (Message.Learn group view) node has is =
+    learnt_each (λ (n : Node). NodeViews setting.layout n) setting.layout node group view has (λ later. learnt_views setting.layout group.0 node view later has)
+kept_views setting me from to message node has is = has
+
+-- and where its handling was cut short
 absorbed_views : (setting : Setting) (me from to : BrickId) (message : Message) (node : Node) → NodeViews setting.layout node → MessageIsOf message
     → NodeViews setting.layout (absorbed setting me node (record { from = from; to = to; message = message }))
-unfolding absorbed
-absorbed_views setting me from to (Message.Request call request) node has is = (requested_views setting me from node call request has is).node
-absorbed_views setting me from to message node has is = has
+absorbed_views setting me from to message node has is =
+    let packet : Packet = record { from = from; to = to; message = message } in
+    ⊎_elim
+    (λ (same : absorbed setting me node packet ≡ node). subst (λ (n : Node). NodeViews setting.layout n) (sym same) has)
+    (λ (kept : absorbed setting me node packet ≡ kept_of setting me node packet).
+    subst (λ (n : Node). NodeViews setting.layout n) (sym kept) (kept_views setting me from to message node has is))
+    (absorbed_kept setting me from to node message)
 
 invoked_views : (setting : Setting) (me : BrickId) (now : ℕ) (node : Node) (ask : Ask) → NodeViews setting.layout node
     → StepViews setting.layout (invoked setting me now node ask)
@@ -264,6 +417,8 @@ invoked_views setting me now node ask has = in_group (group_at setting.layout no
             views = has.views;
             parts = has.parts;
             fresh = has.fresh;
+            zero = has.zero;
+            first = has.first;
             calls = put_each (λ k z. (d : Coordinator) → z ≡ Some d → CallIsOf d) node.calls (node.seq + 1) (Some c) (λ d is. some_call c d refl is)
                 (λ k other. has.calls k);
           };
@@ -271,22 +426,24 @@ invoked_views setting me now node ask has = in_group (group_at setting.layout no
         }
 
 -- a brick stops, and starts again
-closed_views : (layout : Layout) (node : Node) (boot seq known busy : ℕ) → NodeViews layout node
-    → NodeViews layout (record node { boot = boot; seq = seq; known = known; busy = busy; calls = λ k. None })
-closed_views layout node boot seq known busy has = record {
+closed_views : (layout : Layout) (node : Node) (boot seq known round busy : ℕ) → NodeViews layout node
+    → NodeViews layout (record node { boot = boot; seq = seq; known = known; round = round; busy = busy; calls = λ k. None; proposal = None; job = None })
+closed_views layout node boot seq known round busy has = record {
   views = has.views;
   parts = has.parts;
   fresh = has.fresh;
+  zero = has.zero;
+  first = has.first;
   calls = λ k c is. absurd (let never : None ≡ Some c = is in cc);
 }
 
 stopped_views : (layout : Layout) (node : Node) → NodeViews layout node → NodeViews layout (stopped node)
 unfolding stopped
-stopped_views layout node has = closed_views layout node node.boot node.seq node.known 0 has
+stopped_views layout node has = closed_views layout node node.boot node.seq node.known node.round 0 has
 
 restarted_views : (layout : Layout) (openings : ℕ) (node : Node) → NodeViews layout node → NodeViews layout (restarted openings node)
 unfolding restarted
-restarted_views layout openings node has = closed_views layout node (node.boot + openings) 0 0 0 has
+restarted_views layout openings node has = closed_views layout node (node.boot + openings) 0 0 0 0 has
 
 -- what its store may hold, once a handling was cut short, or none
 left_views : (setting : Setting) (brick : BrickId) (node : Node) (packet : Option Packet) → NodeViews setting.layout node
@@ -313,6 +470,14 @@ views_cases setting w has = record {
         after = has.after;
         packets = each_both PacketIsOf w.packets _ has.packets step.packets;
       });
+  proposes = λ brick group members may.
+      (let step = proposed_views setting brick (w.nodes brick.0) group members (has.nodes brick.0) in
+      record {
+        nodes = put_views setting.layout w.nodes brick.0 _ has.nodes step.node;
+        after = subst (λ (f : ℕ → Node). (i : ℕ) → NodeViews setting.layout (f i))
+            (sym (after_stepped setting w brick (proposed setting brick (w.nodes brick.0) group members))) has.after;
+        packets = each_both PacketIsOf w.packets _ has.packets step.packets;
+      });
   handles = λ number packet at up.
       (let sent = packet_was_sent w number packet at in
       let step = received_views setting (w.clocks packet.to.0) packet.from packet.to packet.message (w.nodes packet.to.0) (has.nodes packet.to.0)
@@ -329,8 +494,10 @@ views_cases setting w has = record {
         nodes = has.nodes;
         after = has.after;
         packets = each_both PacketIsOf w.packets _ has.packets
+            (each_both PacketIsOf _ (ballot_resent brick (w.nodes brick.0).proposal)
             (each_ticked PacketIsOf setting brick (w.nodes brick.0).calls (w.nodes brick.0).seq
-            (λ k c is seat to. request_is setting.code c ((has.nodes brick.0).calls k c is) seat));
+            (λ k c is seat to. request_is setting.code c ((has.nodes brick.0).calls k c is) seat) (λ k c is later from to. tt))
+            (ballots_are _ (resent_of_views brick (w.nodes brick.0).proposal)));
       };
   stops = λ brick during up.
       record {
@@ -353,22 +520,13 @@ views_cases setting w has = record {
       packets = was.packets;
     }
 
--- a fresh part is of its view
-fresh_part : (block e : ℕ) → PartIsOf e (fresh_replica block e)
-fresh_part block e =
-    cond_both (nat_eq e 1) (first_replica block) _ (λ (r : Replica). PartIsOf e r)
-    (λ one. record {
-      order = inl refl;
-      log = λ k version at.
-          ap (λ (v : Version). view_of v.stamp) (sym (get_one _ version k at)) ∙ (let is : 1 ≡ e = grind (arith, nat_tests) in is);
-    })
-    (λ other. record { order = inl refl; log = λ k version at. absurd (let never : None ≡ Some version = at in cc) })
-
 first_views : (layout : Layout) → NodeViews layout (first_node layout)
 first_views layout = record {
   views = λ g. omega arith;
   parts = λ g e s. fresh_part layout.block e;
   fresh = λ g e s later. refl;
+  zero = λ g s. refl;
+  first = λ g one. refl;
   calls = λ k c is. absurd (let never : None ≡ Some c = is in cc);
 }
 

@@ -1,6 +1,6 @@
 -- What an event owes to the invariant: only what is new.
 use Rattle.std.proofs.lemmas.Bool.{or_left, or_cases, or_right, false≢true}
-use Rattle.std.proofs.Common.{◌≡◌, ◌≢◌, ℕ, ◌+◌, ◌≤◌, ◌⊎◌, inl, inr, true, false, List, ◌++◌, length, zero, suc, Bool, Some, None, [], ◌∷◌, refl, sym, ap, ◌∙◌, subst, ⊎_elim, arith}
+use Rattle.std.proofs.Common.{◌≡◌, ◌≢◌, ℕ, ◌+◌, ◌≤◌, ◌⊎◌, inl, inr, true, false, List, ◌++◌, length, zero, suc, Bool, Some, None, [], ◌∷◌, refl, sym, ap, ◌∙◌, subst, ⊎_elim, arith, ◌<◌}
 use Rattle.std.specs.Prelude.{slice_get, ◌||◌}
 use Rattle.fab_base.specs.declared.identities.BrickId.{BrickId}
 use Rattle.fab_base.specs.declared.stamps.Stamp.{Stamp}
@@ -17,13 +17,13 @@ use Rattle.reg_model.specs.Marks.{life_of}
 use Rattle.reg_model.specs.Walk.{last_of}
 use Rattle.fab_base.proofs.StampOrder.{stamp_below_irrefl}
 use Rattle.protocol.specs.Settings.{Setting}
-use Rattle.protocol.specs.Views.{Views, view_of, Learnt}
+use Rattle.protocol.specs.Views.{Views, view_of, Learnt, first_kept}
 use Rattle.protocol.specs.Replicas.{Replica, top_of, is_held}
 use Rattle.protocol.specs.declared.phases.Counted.{Counted}
 use Rattle.protocol.specs.Coordinators.{Coordinator, request_of}
 use Rattle.protocol.specs.Nodes.{Node, put, to_members, phase_packets, top_at, view_at}
-use Rattle.protocol.specs.Worlds.{World, Operation, with_held}
-use Rattle.protocol_laws.specs.Laws.{WasSent, part_in, top_in}
+use Rattle.protocol.specs.Worlds.{World, Operation, with_held, choices_after, Choices}
+use Rattle.protocol_laws.specs.Laws.{WasSent, part_in, top_in, first_kept_in}
 use Rattle.protocol_laws.proofs.Books.{Books, IsOperation, IsCall}
 use Rattle.protocol_laws.proofs.Logs.{LogAscends, IsKept, held_stands, under_held, nothing_kept}
 use Rattle.protocol_laws.proofs.Blocking.{PartsStay, LogsFit, LogsStay, NewIsLogged, parts_from, was_kept}
@@ -48,7 +48,7 @@ pub record Owes (setting : Setting) (views : Views) (w next : World) (stamps lat
   pub tops : (g e s i : ℕ) → (top_of (part_in next g e s i) ≡ top_of (part_in w g e s i)) ⊎ IsKnown later (top_of (part_in next g e s i))
   pub logs : (g e s i k : ℕ) (version : Version) → slice_get (part_in next g e s i).log k ≡ Some version
       → ((j : ℕ) × (slice_get (part_in w g e s i).log j ≡ Some version)) ⊎ VersionSays setting views next g e s i version
-  pub lowest : (g e s i : ℕ) (x : Version) (log : List Version) → (part_in next g e s i).log ≡ x ∷ log
+  pub lowest : (g e s i : ℕ) (x : Version) (log : List Version) → first_kept_in next g i ≤ e → (part_in next g e s i).log ≡ x ∷ log
       → ((more : List Version) × ((part_in w g e s i).log ≡ x ∷ more)) ⊎ (((part_in w g e s i).log ≡ []) ⊎ WasCollected next g s x.stamp)
   pub packets : (k : ℕ) (packet : Packet) → slice_get next.packets k ≡ Some packet
       → (slice_get w.packets k ≡ Some packet) ⊎ PacketSays setting views next later packet
@@ -73,17 +73,17 @@ said_after setting views w next stamps later books said grows owes = record {
       (λ (new : IsKnown later (top_of (part_in next g e s i))). new)
       (owes.tops g e s i);
   logs = logs;
-  lowest = λ g e s i x log is. ⊎_elim
+  lowest = λ g e s i x log within is. let firsts = grows.parts.firsts i g in let before : first_kept_in w g i ≤ e = omega (arith, firsts, within) in ⊎_elim
       (λ (old : (more : List Version) × ((part_in w g e s i).log ≡ x ∷ more)). ⊎_elim
       (λ (bottom : IsBottom w g e s i x.stamp). inl (bottom_stays g e s i x log is bottom))
       (λ (was : WasCollected w g s x.stamp). inr (stays_collected w next grows.sent g s x.stamp was))
-      (said.lowest g e s i x old.0 old.1))
+      (said.lowest g e s i x old.0 before old.1))
       (⊎_elim
       (λ (none : (part_in w g e s i).log ≡ []).
       inl (bottom_stays g e s i x log is (λ d of less was.
-      nothing_kept d (subst (λ (l : List Version). IsKept d l) none (was_kept w said.logged g e s i d of was)))))
+      nothing_kept d (subst (λ (l : List Version). IsKept d l) none (was_kept w said.logged g e s i d before of was)))))
       (λ (new : WasCollected next g s x.stamp). inr new))
-      (owes.lowest g e s i x log is);
+      (owes.lowest g e s i x log within is);
   held_made = λ g s i t held. ⊎_elim
       (λ (was : w.held i g s t ≡ true). stays_made setting views w next stamps later books grows g s t (said.held_made g s i t was))
       (λ (new : is_held t (part_in next g (view_of t) s i).log ≡ true).
@@ -131,14 +131,18 @@ said_after setting views w next stamps later books said grows owes = record {
         (λ (new : VersionSays setting views next g e s i version). new)
         (owes.logs g e s i k version is)
 
--- one brick comes no less far than before, keeps what it kept, takes nothing new below what it had come to, and its logs go on ascending
+-- One brick comes no less far than before, and its logs go on ascending. In the views that it keeps it keeps what it kept, and takes nothing new below what
+-- it had come to; in others nothing is new but the first version.
 pub record KeepsParts (node next : Node) : Type 0 where
   pub views : (g : ℕ) → view_at node g ≤ view_at next g
   pub tops : (g s : ℕ) → stamp_below (top_at next g s) (top_at node g s) ≡ false
-  pub orders : (g e s : ℕ) → (node.replicas g e s).order.time ≤ (next.replicas g e s).order.time
-  pub kept : (g e s : ℕ) (t : Stamp) → IsKept t (node.replicas g e s).log → IsKept t (next.replicas g e s).log
-  pub newer : (g e s : ℕ) (t : Stamp) → is_held t (next.replicas g e s).log ≡ true
+  pub firsts : (g : ℕ) → first_kept (node.learnt g) ≤ first_kept (next.learnt g)
+  pub orders : (g e s : ℕ) → first_kept (next.learnt g) ≤ e → (node.replicas g e s).order.time ≤ (next.replicas g e s).order.time
+  pub kept : (g e s : ℕ) (t : Stamp) → first_kept (next.learnt g) ≤ e → IsKept t (node.replicas g e s).log → IsKept t (next.replicas g e s).log
+  pub newer : (g e s : ℕ) (t : Stamp) → first_kept (next.learnt g) ≤ e → is_held t (next.replicas g e s).log ≡ true
       → (is_held t (node.replicas g e s).log ≡ true) ⊎ (stamp_below t (top_at node g s) ≡ false)
+  pub again : (g e s : ℕ) (t : Stamp) → e < first_kept (next.learnt g) → is_held t (next.replicas g e s).log ≡ true
+      → (is_held t (node.replicas g e s).log ≡ true) ⊎ (t ≡ first_stamp)
   pub ascends : (g e s : ℕ) → LogAscends (node.replicas g e s).log → LogAscends (next.replicas g e s).log
 
 -- a brick that keeps its places as they are
@@ -147,11 +151,32 @@ keeps_same node next same = record {
   views = λ g. subst (λ (l : ℕ → Learnt). view_at node g ≤ (l g).view.number.0) (sym same.0) (omega arith);
   tops = λ g s.
       subst (λ (t : Stamp). stamp_below t (top_at node g s) ≡ false) (sym (top_same node next same g s)) (stamp_below_irrefl (top_at node g s));
-  orders = λ g e s. subst (λ (r : ℕ → ℕ → ℕ → Replica). (node.replicas g e s).order.time ≤ (r g e s).order.time) (sym same.2) (omega arith);
-  kept = λ g e s t kept. subst (λ (r : ℕ → ℕ → ℕ → Replica). IsKept t (r g e s).log) (sym same.2) kept;
-  newer = λ g e s t held. inl (subst (λ (r : ℕ → ℕ → ℕ → Replica). is_held t (r g e s).log ≡ true) same.2 held);
+  firsts = λ g. subst (λ (l : ℕ → Learnt). first_kept (node.learnt g) ≤ first_kept (l g)) (sym same.0) (omega arith);
+  orders = λ g e s within. subst (λ (r : ℕ → ℕ → ℕ → Replica). (node.replicas g e s).order.time ≤ (r g e s).order.time) (sym same.2) (omega arith);
+  kept = λ g e s t within kept. subst (λ (r : ℕ → ℕ → ℕ → Replica). IsKept t (r g e s).log) (sym same.2) kept;
+  newer = λ g e s t within held. inl (subst (λ (r : ℕ → ℕ → ℕ → Replica). is_held t (r g e s).log ≡ true) same.2 held);
+  again = λ g e s t before held. inl (subst (λ (r : ℕ → ℕ → ℕ → Replica). is_held t (r g e s).log ≡ true) same.2 held);
   ascends = λ g e s ascends. subst (λ (r : ℕ → ℕ → ℕ → Replica). LogAscends (r g e s).log) (sym same.2) ascends;
 }
+
+-- and so on to one that keeps its places as they are then
+pub keeps_places : (node next later : Node) → KeepsParts node next → KeepsPlaces next later → KeepsParts node later
+keeps_places node next later keeps same = record {
+  views = λ g. subst (λ (l : ℕ → Learnt). view_at node g ≤ (l g).view.number.0) (sym same.0) (keeps.views g);
+  tops = λ g s. subst (λ (t : Stamp). stamp_below t (top_at node g s) ≡ false) (sym (top_same next later same g s)) (keeps.tops g s);
+  firsts = λ g. subst (λ (l : ℕ → Learnt). first_kept (node.learnt g) ≤ first_kept (l g)) (sym same.0) (keeps.firsts g);
+  orders = λ g e s.
+      moved (λ l r. first_kept (l g) ≤ e → (node.replicas g e s).order.time ≤ (r g e s).order.time) (keeps.orders g e s);
+  kept = λ g e s t. moved (λ l r. first_kept (l g) ≤ e → IsKept t (node.replicas g e s).log → IsKept t (r g e s).log) (keeps.kept g e s t);
+  newer = λ g e s t. moved (λ l r. first_kept (l g) ≤ e → is_held t (r g e s).log ≡ true
+      → (is_held t (node.replicas g e s).log ≡ true) ⊎ (stamp_below t (top_at node g s) ≡ false)) (keeps.newer g e s t);
+  again = λ g e s t. moved (λ l r. e < first_kept (l g) → is_held t (r g e s).log ≡ true
+      → (is_held t (node.replicas g e s).log ≡ true) ⊎ (t ≡ first_stamp)) (keeps.again g e s t);
+  ascends = λ g e s. moved (λ l r. LogAscends (node.replicas g e s).log → LogAscends (r g e s).log) (keeps.ascends g e s);
+}
+  where
+    moved : (P : (ℕ → Learnt) → (ℕ → ℕ → ℕ → Replica) → Type 0) → P next.learnt next.replicas → P later.learnt later.replicas
+    moved P is = subst (λ (l : ℕ → Learnt). P l later.replicas) (sym same.0) (subst (λ (r : ℕ → ℕ → ℕ → Replica). P next.learnt r) (sym same.2) is)
 
 -- where one brick changes, and keeps its parts as they are, all parts are as they were
 pub part_same : (w next : World) (me : ℕ) (node : Node) → next.nodes ≡ put w.nodes me node → node.replicas ≡ (w.nodes me).replicas → (g e s i : ℕ)
@@ -170,20 +195,29 @@ logs_by w next me node nodes keeps = record {
       subst (λ (f : ℕ → Node). stamp_below (top_at (f i) g s) (top_at (w.nodes i) g s) ≡ false) (sym nodes)
       (put_each (λ j x. stamp_below (top_at x g s) (top_at (w.nodes j) g s) ≡ false) w.nodes me node (keeps.tops g s)
       (λ j other. stamp_below_irrefl (top_at (w.nodes j) g s)) i);
+  firsts = λ i g.
+      subst (λ (f : ℕ → Node). first_kept ((w.nodes i).learnt g) ≤ first_kept ((f i).learnt g)) (sym nodes)
+      (put_each (λ j x. first_kept ((w.nodes j).learnt g) ≤ first_kept (x.learnt g)) w.nodes me node (keeps.firsts g) (λ j other. omega arith) i);
   orders = λ g e s i.
-      subst (λ (f : ℕ → Node). ((w.nodes i).replicas g e s).order.time ≤ ((f i).replicas g e s).order.time) (sym nodes)
-      (put_each (λ j x. ((w.nodes j).replicas g e s).order.time ≤ (x.replicas g e s).order.time) w.nodes me node (keeps.orders g e s)
-      (λ j other. omega arith) i);
+      subst (λ (f : ℕ → Node). first_kept ((f i).learnt g) ≤ e → ((w.nodes i).replicas g e s).order.time ≤ ((f i).replicas g e s).order.time) (sym nodes)
+      (put_each (λ j x. first_kept (x.learnt g) ≤ e → ((w.nodes j).replicas g e s).order.time ≤ (x.replicas g e s).order.time) w.nodes me node
+      (keeps.orders g e s) (λ j other within. omega arith) i);
   kept = λ g e s i t.
-      subst (λ (f : ℕ → Node). IsKept t ((w.nodes i).replicas g e s).log → IsKept t ((f i).replicas g e s).log) (sym nodes)
-      (put_each (λ j x. IsKept t ((w.nodes j).replicas g e s).log → IsKept t (x.replicas g e s).log) w.nodes me node
-      (keeps.kept g e s t) (λ j other kept. kept) i);
+      subst (λ (f : ℕ → Node). first_kept ((f i).learnt g) ≤ e → IsKept t ((w.nodes i).replicas g e s).log → IsKept t ((f i).replicas g e s).log) (sym nodes)
+      (put_each (λ j x. first_kept (x.learnt g) ≤ e → IsKept t ((w.nodes j).replicas g e s).log → IsKept t (x.replicas g e s).log) w.nodes me node
+      (keeps.kept g e s t) (λ j other within kept. kept) i);
   newer = λ g e s i t.
-      subst (λ (f : ℕ → Node). is_held t ((f i).replicas g e s).log ≡ true
+      subst (λ (f : ℕ → Node). first_kept ((f i).learnt g) ≤ e → is_held t ((f i).replicas g e s).log ≡ true
       → (is_held t ((w.nodes i).replicas g e s).log ≡ true) ⊎ (stamp_below t (top_at (w.nodes i) g s) ≡ false)) (sym nodes)
-      (put_each (λ j x. is_held t (x.replicas g e s).log ≡ true
+      (put_each (λ j x. first_kept (x.learnt g) ≤ e → is_held t (x.replicas g e s).log ≡ true
       → (is_held t ((w.nodes j).replicas g e s).log ≡ true) ⊎ (stamp_below t (top_at (w.nodes j) g s) ≡ false)) w.nodes me node
-      (keeps.newer g e s t) (λ j other held. inl held) i);
+      (keeps.newer g e s t) (λ j other within held. inl held) i);
+  again = λ g e s i t.
+      subst (λ (f : ℕ → Node). e < first_kept ((f i).learnt g) → is_held t ((f i).replicas g e s).log ≡ true
+      → (is_held t ((w.nodes i).replicas g e s).log ≡ true) ⊎ (t ≡ first_stamp)) (sym nodes)
+      (put_each (λ j x. e < first_kept (x.learnt g) → is_held t (x.replicas g e s).log ≡ true
+      → (is_held t ((w.nodes j).replicas g e s).log ≡ true) ⊎ (t ≡ first_stamp)) w.nodes me node
+      (keeps.again g e s t) (λ j other before held. inl held) i);
   ascends = λ g e s i.
       subst (λ (f : ℕ → Node). LogAscends ((w.nodes i).replicas g e s).log → LogAscends ((f i).replicas g e s).log) (sym nodes)
       (put_each (λ j x. LogAscends ((w.nodes j).replicas g e s).log → LogAscends (x.replicas g e s).log) w.nodes me node
@@ -262,9 +296,11 @@ parts_same w next nodes helds fit =
     (subst (λ (f : ℕ → Node). LogsStay w (record next { nodes = f })) (sym nodes) (record {
       views = λ i g. omega arith;
       tops = λ g s i. stamp_below_irrefl (top_in w g s i);
-      orders = λ g e s i. omega arith;
-      kept = λ g e s i t kept. kept;
-      newer = λ g e s i t held. inl held;
+      firsts = λ i g. omega arith;
+      orders = λ g e s i within. omega arith;
+      kept = λ g e s i t within kept. kept;
+      newer = λ g e s i t within held. inl held;
+      again = λ g e s i t before held. inl held;
       ascends = λ g e s i ascends. ascends;
     })) fit
     (λ i g s t was. ap (λ (f : ℕ → ℕ → ℕ → Stamp → Bool). f i g s t) helds ∙ was) (new_none w next helds)
@@ -303,7 +339,12 @@ calls_by setting views w next stamps later me node nodes boot k c own others i =
 -- the world after a brick's step that is told of no operation
 abbrev pub quiet : World → BrickId → Node → List Packet → World
 quiet w me node more =
-    record w { nodes = put w.nodes me.0 node; held = with_held w.held me.0 node; packets = w.packets ++ more }
+    record w {
+      nodes = put w.nodes me.0 node;
+      held = with_held w.held me.0 node;
+      packets = w.packets ++ more;
+      choices = choices_after w.choices me node [];
+    }
 
 pub quiet_grows : (w : World) (stamps later : Stamping) (me : BrickId) (node : Node) (more : List Packet) → StampsGrow stamps later
     → LogsFit w → KeepsParts (w.nodes me.0) node → Grows w (quiet w me node more) stamps later
@@ -327,7 +368,7 @@ pub record QuietOwes (setting : Setting) (views : Views) (w : World) (stamps lat
   pub tops : (g e s : ℕ) → (top_of (node.replicas g e s) ≡ top_of ((w.nodes me.0).replicas g e s)) ⊎ IsKnown later (top_of (node.replicas g e s))
   pub logs : (g e s k : ℕ) (version : Version) → slice_get (node.replicas g e s).log k ≡ Some version
       → ((j : ℕ) × (slice_get ((w.nodes me.0).replicas g e s).log j ≡ Some version)) ⊎ VersionSays setting views (quiet w me node more) g e s me.0 version
-  pub lowest : (g e s : ℕ) (x : Version) (log : List Version) → (node.replicas g e s).log ≡ x ∷ log
+  pub lowest : (g e s : ℕ) (x : Version) (log : List Version) → first_kept (node.learnt g) ≤ e → (node.replicas g e s).log ≡ x ∷ log
       → ((rest : List Version) × (((w.nodes me.0).replicas g e s).log ≡ x ∷ rest))
       ⊎ ((((w.nodes me.0).replicas g e s).log ≡ []) ⊎ WasCollected (quiet w me node more) g s x.stamp)
   pub calls : (k : ℕ) (c : Coordinator) → node.calls k ≡ Some c
@@ -349,10 +390,10 @@ said_quiet setting views w stamps later me node more books said grow owes =
           → ((l : ℕ) × (slice_get ((w.nodes j).replicas g e s).log l ≡ Some version)) ⊎ VersionSays setting views (quiet w me node more) g e s j version)
           w.nodes me.0 node (owes.logs g e s k version) (λ j other is. inl (k, is)) i;
       lowest = λ g e s i x log.
-          put_each (λ j y. (y.replicas g e s).log ≡ x ∷ log
+          put_each (λ j y. first_kept (y.learnt g) ≤ e → (y.replicas g e s).log ≡ x ∷ log
           → ((rest : List Version) × (((w.nodes j).replicas g e s).log ≡ x ∷ rest))
           ⊎ ((((w.nodes j).replicas g e s).log ≡ []) ⊎ WasCollected (quiet w me node more) g s x.stamp))
-          w.nodes me.0 node (owes.lowest g e s x log) (λ j other is. inl (log, is)) i;
+          w.nodes me.0 node (owes.lowest g e s x log) (λ j other within is. inl (log, is)) i;
       packets = λ k packet is. ⊎_elim
           (λ (old : slice_get w.packets k ≡ Some packet). inl old)
           (λ (new : (j : ℕ) × (slice_get more j ≡ Some packet)). inr (owes.packets new.0 packet new.1))
@@ -399,14 +440,15 @@ phase_asked setting w me c packets is seat member at =
     subst (λ (j : ℕ). WasSent w (record { from = me; to = member; message = Message.Request c.call (request_of setting.code c j) })) place
     (sent.0, subst (λ (l : List Packet). slice_get l sent.0 ≡ Some packet) (sym is) sent.1)
 
--- a world that sends again what was sent, and whose clocks and counted replies are other, says what was said
+-- a world that sends again what was sent, and what says what it should, and whose clocks and counted replies are other, says what was said
 pub said_added : (setting : Setting) (views : Views) (w : World) (stamps : Stamping) (clocks : ℕ → ℕ) (replies : ℕ → ℕ → List Counted) (reached : ℕ → Bool)
-    (packets : List Packet)
+    (packets : List Packet) (choices : Choices)
     → Books setting w → Said setting views w stamps → ((packet : Packet) → WasSent w packet → WasSent (record w { packets = packets }) packet)
-    → ((packet : Packet) → WasSent (record w { packets = packets }) packet → WasSent w packet)
-    → Said setting views (record w { clocks = clocks; packets = packets; replies = replies; reached = reached }) stamps
-said_added setting views w stamps clocks replies reached packets books said kept old =
-    let next : World = record w { clocks = clocks; packets = packets; replies = replies; reached = reached } in
+    → ((packet : Packet) → WasSent (record w { packets = packets }) packet → WasSent w packet
+    ⊎ PacketSays setting views (record w { clocks = clocks; packets = packets; replies = replies; reached = reached; choices = choices }) stamps packet)
+    → Said setting views (record w { clocks = clocks; packets = packets; replies = replies; reached = reached; choices = choices }) stamps
+said_added setting views w stamps clocks replies reached packets choices books said kept old =
+    let next : World = record w { clocks = clocks; packets = packets; replies = replies; reached = reached; choices = choices } in
     let grows : Grows w next stamps stamps = record {
       parts = parts_same w next refl refl said.logged;
       fresh = new_none w next refl;
@@ -421,21 +463,23 @@ said_added setting views w stamps clocks replies reached packets books said kept
       stamps_say = stamps_stay w next stamps said.stamps_say (λ i. ages_within (w.nodes i) (w.nodes i) refl (omega arith) (omega arith));
       tops = λ g e s i. inl refl;
       logs = λ g e s i k version is. inl (k, is);
-      lowest = λ g e s i x log is. inl (log, is);
-      packets = λ k packet is.
-          let was = old packet (k, is) in
-          inr (stays_packet setting views w next stamps stamps books grows packet (said.packets was.0 packet was.1));
+      lowest = λ g e s i x log within is. inl (log, is);
+      packets = λ k packet is. inr (⊎_elim
+          (λ (was : WasSent w packet). stays_packet setting views w next stamps stamps books grows packet (said.packets was.0 packet was.1))
+          (λ (new : PacketSays setting views next stamps packet). new)
+          (old packet (k, is)));
       operations = λ n o is. inl is;
       calls = λ i k c is. inl (is, refl, (λ p. refl));
       ends = λ k p n answer is. inl is;
       order = said.order;
     })
 
--- other clocks, other replies that count, and other messages that were delivered, change nothing of what is said
+-- other clocks, other replies that count, other messages that were delivered, and other choices change nothing of what is said
 pub said_beside : (setting : Setting) (views : Views) (w : World) (stamps : Stamping) (clocks : ℕ → ℕ) (replies : ℕ → ℕ → List Counted) (reached : ℕ → Bool)
-    → Books setting w → Said setting views w stamps → Said setting views (record w { clocks = clocks; replies = replies; reached = reached }) stamps
-said_beside setting views w stamps clocks replies reached books said =
-    said_added setting views w stamps clocks replies reached w.packets books said (λ packet sent. sent) (λ packet sent. sent)
+    (choices : Choices) → Books setting w → Said setting views w stamps
+    → Said setting views (record w { clocks = clocks; replies = replies; reached = reached; choices = choices }) stamps
+said_beside setting views w stamps clocks replies reached choices books said =
+    said_added setting views w stamps clocks replies reached w.packets choices books said (λ packet sent. sent) (λ packet sent. inl sent)
 
 -- a brick that has no operation open any more, as it stopped or was started again, changes nothing of what is said, where no operation's
 -- last position comes forward
@@ -462,7 +506,7 @@ said_idle setting views w stamps me node after up past marks reached books said 
       stamps_say = stamps_stay_by setting views w next stamps me node said refl ages;
       tops = λ g e s i. inl (ap (λ (r : Replica). top_of r) (part_same w next me node refl same.2 g e s i));
       logs = λ g e s i k version is. inl (k, ap (λ (r : Replica). slice_get r.log k) (sym (part_same w next me node refl same.2 g e s i)) ∙ is);
-      lowest = λ g e s i x log is. inl (log, ap (λ (r : Replica). r.log) (sym (part_same w next me node refl same.2 g e s i)) ∙ is);
+      lowest = λ g e s i x log within is. inl (log, ap (λ (r : Replica). r.log) (sym (part_same w next me node refl same.2 g e s i)) ∙ is);
       packets = λ k packet is. inl is;
       operations = λ n o is. inl is;
       calls = λ i k c.

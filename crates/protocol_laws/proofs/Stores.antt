@@ -24,7 +24,7 @@ use Rattle.protocol.specs.declared.phases.Phase.TheVariants.{Orders, Descends, M
 use Rattle.protocol.specs.Coordinators.{Coordinator, next_phase, request_of, delta_at}
 use Rattle.protocol.specs.declared.tellings.Told.TheVariants.{Made}
 use Rattle.protocol.specs.Nodes.{Node, put, has_block, has_length, with_call, phase_packets}
-use Rattle.protocol.specs.Worlds.{World, Operation, number_of, world_stepped, with_made, with_content, with_held, content_on, content_by}
+use Rattle.protocol.specs.Worlds.{World, Operation, number_of, world_stepped, with_made, with_content, with_held, content_on, content_by, choices_after}
 use Rattle.protocol_laws.proofs.Books.{Books, OperationBooks, CallBooks, IsOperation, IsCall}
 use Rattle.protocol_laws.proofs.Said.{Begun, Stamping, Said, IsSaid, StampsSay, IsStampOf, IsBegun, IsStamped, AreBlocked, Stands, IsMadeOrFirst, FloorsAtMost, FitsPhase, MakerSays, WriteSays, ChangesBlock, ModifySays, MadeOn, RequestSays, base_in, PacketSays, HasVersion, WritesWhole, ReadsBack, OperationSays, CallSays}
 use Rattle.protocol_laws.specs.Laws.{IsModified, IsGuarded}
@@ -122,6 +122,7 @@ module _ (setting : Setting) (views : Views) (sound : IsSound setting) (w : Worl
         base = base;
         answered = o.answered;
         mark = o.mark;
+        closed = o.closed;
         view = o.view;
         floor = o.floor;
       }
@@ -131,6 +132,7 @@ module _ (setting : Setting) (views : Views) (sound : IsSound setting) (w : Worl
   d =
       record {
         group = c.group;
+        prior = c.prior;
         ask = c.ask;
         stamp = c.stamp;
         round = c.round;
@@ -165,7 +167,7 @@ module _ (setting : Setting) (views : Views) (sound : IsSound setting) (w : Worl
   next = operated w me node more w.marks n made contents
 
   -- the world that the step makes
-  next_is : world_stepped setting w me (record { node = node; packets = more; told = Made c.call.seq c.stamp base ∷ []; answers = [] }) ≡ next
+  next_is : world_stepped setting w me (record { node = node; packets = more; told = Made c.call.seq c.stamp base ∷ []; answers = []; reports = [] }) ≡ next
   next_is =
       ap (λ (x : Option Operation).
       record {
@@ -179,6 +181,7 @@ module _ (setting : Setting) (views : Views) (sound : IsSound setting) (w : Worl
         begun = w.begun;
         operations = put w.operations n (with_made c.stamp base x);
         numbers = w.numbers;
+        choices = choices_after w.choices me node [];
         past = w.past;
         contents = with_content setting.layout.block w.contents c.stamp base x;
         held = with_held w.held me.0 node;
@@ -198,6 +201,7 @@ module _ (setting : Setting) (views : Views) (sound : IsSound setting) (w : Worl
         begun = w.begun;
         operations = put w.operations n (Some made);
         numbers = w.numbers;
+        choices = choices_after w.choices me node [];
         past = w.past;
         contents = content_by setting.layout.block w.contents c.stamp base a;
         held = with_held w.held me.0 node;
@@ -586,7 +590,7 @@ module _ (setting : Setting) (views : Views) (sound : IsSound setting) (w : Worl
       -- the coordinator in a phase
       abbrev d_in : Phase → Coordinator
       d_in p =
-          record { group = c.group; ask = c.ask; stamp = c.stamp; round = c.round; base = base; content = content; call = next_phase c.call; phase = p; counted = [] }
+          record { group = c.group; prior = c.prior; ask = c.ask; stamp = c.stamp; round = c.round; base = base; content = content; call = next_phase c.call; phase = p; counted = [] }
 
       request_says : (k : ℕ) (member : BrickId) → slice_get group.members k ≡ Some member → SendsVersion setting views w c base phase content
           → RequestSays setting views next later me.0 member.0 d.call (request_of setting.code d (0 + k))
@@ -678,7 +682,7 @@ module _ (setting : Setting) (views : Views) (sound : IsSound setting) (w : Worl
 
       -- the invariant holds when a version was made
       pub said_made : IsSaid setting views
-          (world_stepped setting w me (record { node = node; packets = more; told = Made c.call.seq c.stamp base ∷ []; answers = [] }))
+          (world_stepped setting w me (record { node = node; packets = more; told = Made c.call.seq c.stamp base ∷ []; answers = []; reports = [] }))
       said_made =
           subst (λ (z : World). IsSaid setting views z) (sym next_is) (
             later,

@@ -14,17 +14,18 @@ use Rattle.messages.specs.declared.requests.Request.{Request}
 use Rattle.messages.specs.declared.replies.Reply.TheVariants as Reply
 use Rattle.reg_model.specs.Marks.{life_of, IsOpen}
 use Rattle.protocol.specs.declared.phases.Counted.{Counted}
-use Rattle.protocol.specs.Coordinators.{Coordinator, greatest_refuser, lowest_full}
+use Rattle.protocol.specs.Coordinators.{Coordinator, greatest_refuser, lowest_full, lowest_mover}
 use Rattle.protocol.specs.Worlds.{World, Operation, number_of, known_in}
 use Rattle.protocol_laws.specs.Laws.{WasSent, RequestSent, AskedAt, stamp_asked, order_of, Evidence, IsCallOf, CountedWereSent}
 use Rattle.protocol_laws.proofs.Books.{Replies, IsOperation, IsCall}
 use Rattle.protocol_laws.proofs.Outcomes.{IsRound, first_round}
 use Rattle.protocol_laws.proofs.Said.{EachCounted}
 
--- the replies of a phase are those that its coordinator has, after those that it forgot, of which none told a later stamp or a full store
+-- the replies of a phase are those that its coordinator has, after those that it forgot, of which none told a later stamp, a full store or a later view
 abbrev pub IsTally : List Counted → List Counted → Type 0
 IsTally replies counted =
     (forgotten : List Counted) × (replies ≡ forgotten ++ counted) × (greatest_refuser forgotten ≡ None) × (lowest_full forgotten ≡ None)
+    × (lowest_mover forgotten ≡ None)
 
 -- The open operation of number n at coordinator c: in its present phase those replies counted that c has, but for those that it forgot, and
 -- none in a later one; each round of ordering before the present one had counted a later stamp.

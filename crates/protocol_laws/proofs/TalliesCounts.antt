@@ -25,17 +25,19 @@ use Rattle.protocol.specs.declared.phases.Phase.TheVariants.{Looks, LooksAt, Ord
 use Rattle.protocol.specs.declared.phases.Counted.{Counted}
 use Rattle.protocol.specs.declared.phases.Refuser.{Refuser}
 use Rattle.protocol.specs.declared.phases.FullMember.{FullMember}
-use Rattle.protocol.specs.Coordinators.{Coordinator, Next, Ignores, Waits, Sends, Makes, Ends, refuser_of, greater_refuser, greatest_refuser, full_member_of, lower_full, lowest_full, with_reply}
+use Rattle.protocol.specs.Coordinators.{Coordinator, Next, Ignores, Waits, Sends, Makes, Ends, refuser_of, greater_refuser, greatest_refuser, full_member_of, lower_full, lowest_full, mover_of, lower_mover, lowest_mover, with_reply}
+use Rattle.protocol.specs.declared.phases.Mover.{Mover}
+use Rattle.fab_base.specs.declared.identities.ViewNo.{ViewNo}
 use Rattle.protocol.specs.Nodes.{Node, put, has_later_time, new_stamp, fresh_stamp, with_call, phase_packets, collect_packets, carried_out}
-use Rattle.protocol.specs.Worlds.{World, Operation, number_of, known_in, with_made, with_seen, with_answer, with_counted, with_held, world_stepped}
+use Rattle.protocol.specs.Worlds.{World, Operation, number_of, known_in, with_made, with_seen, with_answer, with_counted, with_held, world_stepped, choices_after}
 use Rattle.protocol_laws.specs.Laws.{WasSent, RequestSent, AskedAt, IsCallOf, IsLastRound, order_of}
 use Rattle.protocol_laws.proofs.MarkNumbers.{own_number, own_seen}
 use Rattle.protocol_laws.proofs.Books.{Replies, Books, OperationBooks, CallBooks, IsOperation, IsCall, InRound}
 use Rattle.protocol_laws.proofs.BooksKept.{KeepsNumbers, calls_apart, keeps_with_call}
 use Rattle.protocol_laws.proofs.BooksEvents.{keeps_put, brick_of, look_first}
-use Rattle.protocol_laws.proofs.Outcomes.{IsRound, IsLook, first_round, ReordersFits, RecoversFits, RebuildsIn, RebuildsFits, SendsFits, MakesIn, NoRoundFits, LastFits, AbortFits, FullFits, AnswerFits, NextFits}
+use Rattle.protocol_laws.proofs.Outcomes.{IsRound, IsLook, first_round, ReordersFits, RecoversFits, RebuildsIn, RebuildsFits, SendsFits, MakesIn, NoRoundFits, LastFits, AbortFits, FullFits, MovedFits, AnswerFits, NextFits}
 use Rattle.protocol_laws.proofs.Said.{EachCounted}
-use Rattle.protocol_laws.proofs.Counting.{each_more, no_full, refuser_counted, full_counted}
+use Rattle.protocol_laws.proofs.Counting.{each_more, no_full, no_mover, refuser_counted, full_counted, mover_counted, NoneStops}
 use Rattle.protocol.proofs.Puts.{put_other}
 use Rattle.protocol.proofs.Tables.{put_each, put_same, get_grown, get_one}
 use Rattle.protocol_laws.proofs.Steps.{sent_by}
@@ -82,6 +84,13 @@ full_after [] counted none = refl
 full_after (x ∷ forgotten) counted none =
     let parts = no_full (full_member_of x) (lowest_full forgotten) none in
     ap (λ (f : Option FullMember). lower_full f (lowest_full (forgotten ++ counted))) parts.0 ∙ full_after forgotten counted parts.1
+
+-- nor which one tells of a later view
+mover_after : (forgotten counted : List Counted) → lowest_mover forgotten ≡ None → lowest_mover (forgotten ++ counted) ≡ lowest_mover counted
+mover_after [] counted none = refl
+mover_after (x ∷ forgotten) counted none =
+    let parts = no_mover (mover_of x) (lowest_mover forgotten) none in
+    ap (λ (m : Option Mover). lower_mover m (lowest_mover (forgotten ++ counted))) parts.0 ∙ mover_after forgotten counted parts.1
 
 -- a phase's number, by the rounds before it
 round_of : (c : Coordinator) (p : Phase) → IsRound p → InRound c p → (c.call.phase + 1 ≡ c.round + first_round p) × (1 ≤ first_round p)
@@ -171,6 +180,7 @@ module _ (setting : Setting) (w : World) (me : BrickId) (now known : ℕ) (c : C
         ∙ ap (λ (l : List Counted). l ++ (one ∷ [])) its.now.1 ∙ append_assoc its.now.0 c.counted (one ∷ []),
     its.now.2,
     its.now.3,
+    its.now.4,
   )
 
   -- which of them told the greatest later stamp is as of those that the coordinator has
@@ -182,21 +192,26 @@ module _ (setting : Setting) (w : World) (me : BrickId) (now known : ℕ) (c : C
   full_now : lowest_full (replies n c.call.phase) ≡ lowest_full (c.counted ++ (one ∷ []))
   full_now = ap (λ (l : List Counted). lowest_full l) replies_now.1 ∙ full_after replies_now.0 (c.counted ++ (one ∷ [])) replies_now.3
 
+  -- and the one that tells of a later view
+  mover_now : lowest_mover (replies n c.call.phase) ≡ lowest_mover (c.counted ++ (one ∷ []))
+  mover_now = ap (λ (l : List Counted). lowest_mover l) replies_now.1 ∙ mover_after replies_now.0 (c.counted ++ (one ∷ [])) replies_now.4
+
   -- the replies once the coordinator waits on
   tally_waits : (counted : List Counted) → (counted ≡ c.counted ++ (one ∷ []))
-      ⊎ ((counted ≡ []) × (greatest_refuser (c.counted ++ (one ∷ [])) ≡ None) × (lowest_full (c.counted ++ (one ∷ [])) ≡ None))
+      ⊎ ((counted ≡ []) × (greatest_refuser (c.counted ++ (one ∷ [])) ≡ None) × NoneStops (c.counted ++ (one ∷ [])))
       → IsTally (replies n c.call.phase) counted
   tally_waits counted (inl same) = subst (λ (l : List Counted). IsTally (replies n c.call.phase) l) (sym same) replies_now
-  tally_waits counted (inr (none, unrefused, roomy)) = (
+  tally_waits counted (inr (none, unrefused, stops)) = (
     replies n c.call.phase,
     sym (ap (λ (l : List Counted). replies n c.call.phase ++ l) none ∙ append-nil (replies n c.call.phase)),
     refuser_now ∙ unrefused,
-    full_now ∙ roomy,
+    full_now ∙ stops.1,
+    mover_now ∙ stops.0,
   )
 
   -- the replies once it is in another phase
   tally_begins : (p : ℕ) (counted : List Counted) → counted ≡ [] → c.call.phase < p → IsTally (replies n p) counted
-  tally_begins p counted none above = ([], replies_later p above ∙ sym none, refl, refl)
+  tally_begins p counted none above = ([], replies_later p above ∙ sym none, refl, refl, refl)
 
   -- a round of ordering before the present one had counted a later stamp
   refused_before : IsRound c.phase → (p : ℕ) → first_round c.phase ≤ p → p < c.call.phase → is_some (greatest_refuser (replies n p)) ≡ true
@@ -360,6 +375,7 @@ module _ (setting : Setting) (w : World) (me : BrickId) (now known : ℕ) (c : C
         begun = w.begun;
         operations = operations;
         numbers = w.numbers;
+        choices = choices_after w.choices me (with_call (w.nodes me.0) known ((w.nodes me.0).busy - 1) c.call.seq None) [];
         past = w.past;
         contents = w.contents;
         held = with_held w.held me.0 (with_call (w.nodes me.0) known ((w.nodes me.0).busy - 1) c.call.seq None);
@@ -412,6 +428,33 @@ module _ (setting : Setting) (w : World) (me : BrickId) (now known : ℕ) (c : C
               (me_is ∙ sym goes.2.brick)
               (on.sent (record { from = brick; to = me; message = Message.Reply c.call (Reply.Full live) }) told);
           lowest = full_now ∙ fits.told;
+          final = replies_later;
+        },
+      )
+
+  -- the evidence of an abort for a later view
+  moved_shown : (operations : ℕ → Option Operation) (answer : Answer) (stored : Option Stamp) (brick : BrickId) (view : ViewNo) → MovedFits (with_reply c seat from reply) brick view
+      → Furthers w (after_end operations answer stored) → AbortShown (after_end operations answer stored) n (Cause.Moved brick view)
+  moved_shown operations answer stored brick view fits on =
+      let P : Counted → Type 0 = λ y. WasSent w (record { from = y.brick; to = me; message = Message.Reply c.call y.reply }) in
+      let m : Mover = record { seat = fits.seat; brick = brick; view = view } in
+      let found = mover_counted P (c.counted ++ (one ∷ [])) m each_sent fits.told in
+      let told : WasSent w (record { from = brick; to = me; message = Message.Reply c.call (Reply.Moved view found.2.0) })
+      = subst (λ (b : BrickId). WasSent w (record { from = b; to = me; message = Message.Reply c.call (Reply.Moved view found.2.0) })) found.3
+      (subst (λ (y : Reply). WasSent w (record { from = found.0.brick; to = me; message = Message.Reply c.call y })) found.2.1 found.1) in
+      let goes = on.operations n o mine.operation_is in (
+        goes.0,
+        goes.1,
+        record {
+          call = c.call;
+          seat = fits.seat;
+          lineage = found.2.0;
+          own = (mine.call_boot ∙ sym mine.boot ∙ sym goes.2.boot, sym mine.seq ∙ sym goes.2.seq);
+          told = subst (λ (b : BrickId).
+              WasSent (after_end operations answer stored) (record { from = brick; to = b; message = Message.Reply c.call (Reply.Moved view found.2.0) }))
+              (me_is ∙ sym goes.2.brick)
+              (on.sent (record { from = brick; to = me; message = Message.Reply c.call (Reply.Moved view found.2.0) }) told);
+          lowest = mover_now ∙ fits.told;
           final = replies_later;
         },
       )
@@ -498,6 +541,7 @@ module _ (setting : Setting) (w : World) (me : BrickId) (now known : ℕ) (c : C
       → AbortShown (after_end operations answer stored) n cause
   abort_shown operations answer stored (Cause.Later brick x) fits later on = later_shown operations answer stored brick x fits later on
   abort_shown operations answer stored (Cause.Full brick live) fits later on = full_shown operations answer stored brick live fits on
+  abort_shown operations answer stored (Cause.Moved brick view) fits later on = moved_shown operations answer stored brick view fits on
   abort_shown operations answer stored cause fits later on = absurd fits
 
   -- and after an end

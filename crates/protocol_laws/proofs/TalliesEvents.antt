@@ -1,7 +1,7 @@
 -- Every event keeps the history of replies.
 use Rattle.std.proofs.lemmas.List.{append-nil}
 use Rattle.std.proofs.Common.{◌≡◌, ◌≢◌, ℕ, ◌+◌, ◌≤◌, inl, ⊎_elim, true, false, ap, Option, Some, None, List, [], ◌∷◌, ◌++◌, length, refl, sym, ◌∙◌, subst, arith, Bool}
-use Rattle.std.specs.Prelude.{slice_get}
+use Rattle.std.specs.Prelude.{slice_get, if◌then◌else◌}
 use Rattle.std.proofs.lemmas.Bool.{cases_eq}
 use Rattle.std.proofs.lemmas.Option.{same_Some}
 use Rattle.fab_base.specs.declared.identities.BrickId.{BrickId}
@@ -19,24 +19,31 @@ use Rattle.protocol.specs.Views.{Views}
 use Rattle.protocol.specs.Settings.{Setting, IsSound}
 use Rattle.protocol.specs.Replicas.{handle}
 use Rattle.protocol.specs.Coordinators.{Coordinator, with_reply, once_full, counted_at, counts_at, on_reply}
-use Rattle.protocol.specs.Nodes.{Node, NodeStep, ticked, new_coordinator, put, no_step, fresh_stamp, began_in, began, invoked, with_replica, replica_at, full_at, reply_packets, requested, known_after, with_known, carried_out, sending, replied_at, replied, received}
-use Rattle.protocol.specs.Worlds.{World, Found, Before, After, Event, first_world, may_begin, number_of, world_stopped, world_found, world_started, world_began, counted_after, replies_at, replies_with, run, with_held}
+use Rattle.protocol.specs.Nodes.{Node, NodeStep, ticked, new_coordinator, put, no_step, fresh_stamp, began_in, began, invoked, with_replica, replica_at, full_at, reply_packets, requested, known_after, with_known, carried_out, replied_at, replied, heard, received, vote_at, with_round, proposed, node_learnt, lists_fit}
+use Rattle.protocol.specs.Worlds.{World, Found, Before, After, Event, first_world, may_begin, number_of, world_stopped, world_found, world_started, world_began, counted_after, replies_at, replies_with, run, with_held, Choices, voiced}
 use Rattle.protocol_laws.specs.Laws.{WasSent, RunFollows}
 use Rattle.protocol.proofs.Served.{request_each}
 use Rattle.protocol_laws.proofs.Books.{Books, IsCall}
 use Rattle.protocol_laws.proofs.Left.{Leaves, always_leaves, found_down, packet_was_sent}
-use Rattle.protocol_laws.proofs.BooksKept.{KeepsNumbers, cases_call, keeps_all, keeps_known, keeps_replica}
+use Rattle.protocol_laws.proofs.BooksKept.{KeepsNumbers, KeepsCalls, cases_call, keeps_all, keeps_itself, keeps_known}
+use Rattle.protocol_laws.proofs.Votes.{with_vote}
+use Rattle.protocol_laws.proofs.Proposing.{ballot_each, proposed_each}
+use Rattle.protocol_laws.proofs.Hearing.{kept_world, taught_by, replying_each}
+use Rattle.protocol.specs.declared.phases.Counted.{Counted}
+use Rattle.protocol.specs.Ballots.{Voted}
+use Rattle.protocol.specs.declared.tellings.Report.{Report}
+use Rattle.fab_base.specs.declared.identities.GroupId.{GroupId}
 use Rattle.protocol_laws.proofs.BooksQuiet.{quiet_world, started_calls, unstarted, started_known}
 use Rattle.protocol_laws.proofs.BooksEnds.{stopped_keeps, stopped_calls, unstopped_calls}
 use Rattle.protocol_laws.proofs.BooksBegins.{call_is, other_calls, same_boots, call_number, other_number, other_operations, knows}
-use Rattle.protocol_laws.proofs.BooksEvents.{keeps_put, stepped, known_grows, BeginFits, begin_fits, KeepsCalls, found_keeps, books_found, start_fits, books_beside, books, group_there, fits_at}
+use Rattle.protocol_laws.proofs.BooksEvents.{keeps_put, stepped, known_grows, BeginFits, begin_fits, found_keeps, books_found, books_kept, hearing_keeps, learnt_keeps, start_fits, books_beside, books, group_there, fits_at}
 use Rattle.protocol_laws.proofs.Outcomes.{first_round_above, once_full_fits}
 use Rattle.protocol_laws.proofs.Said.{Stamping, Said, IsSaid, CountedSays}
 use Rattle.protocol_laws.proofs.SaidAlways.{always_said, follows_front}
 use Rattle.protocol_laws.proofs.OwnStamps.{orders_alone, in_round}
 use Rattle.protocol_laws.proofs.Counting.{each_then}
 use Rattle.protocol.proofs.CountsAt.{CountsAt, counts_facts}
-use Rattle.protocol.proofs.Tables.{put_each, get_kept, get_grown, get_one}
+use Rattle.protocol.proofs.Tables.{put_each, put_same, get_kept, get_grown, get_one}
 use Rattle.protocol_laws.proofs.Tallies.{CallTallied, Tallied, MessagesShow}
 use Rattle.protocol_laws.proofs.TalliesKept.{call_tallied_on, known_kept, tallied_on}
 use Rattle.protocol_laws.proofs.TalliesCounts.{tallied_counted}
@@ -45,15 +52,15 @@ use Rattle.protocol.proofs.Events.{EventCases, world_handled, run_along}
 module _ (setting : Setting) (w : World) (books : Books setting w) (tallied : Tallied w) where
   -- a step that changes no operation
   tallied_quiet : (nodes : ℕ → Node) (held : ℕ → ℕ → ℕ → Stamp → Bool) (clocks : ℕ → ℕ) (packets : List Packet)
-      (reached : ℕ → Bool) → MessagesShow (quiet_world w nodes held clocks packets w.replies reached) → ((i : ℕ) → KeepsNumbers (w.nodes i) (nodes i))
+      (reached : ℕ → Bool) (choices : Choices) → MessagesShow (quiet_world w nodes held clocks packets w.replies reached choices) → ((i : ℕ) → KeepsNumbers (w.nodes i) (nodes i))
       → ((i k : ℕ) → (nodes i).calls k ≡ (w.nodes i).calls k)
-      → ((packet : Packet) → WasSent w packet → WasSent (quiet_world w nodes held clocks packets w.replies reached) packet)
-      → Tallied (quiet_world w nodes held clocks packets w.replies reached)
-  tallied_quiet nodes held clocks packets reached shows keeps calls sent =
-      tallied_on setting w (quiet_world w nodes held clocks packets w.replies reached) books tallied shows
+      → ((packet : Packet) → WasSent w packet → WasSent (quiet_world w nodes held clocks packets w.replies reached choices) packet)
+      → Tallied (quiet_world w nodes held clocks packets w.replies reached choices)
+  tallied_quiet nodes held clocks packets reached choices shows keeps calls sent =
+      tallied_on setting w (quiet_world w nodes held clocks packets w.replies reached choices) books tallied shows
       (record {
         sent = sent;
-        known = known_kept w (quiet_world w nodes held clocks packets w.replies reached) (λ i b. refl) (λ i. (keeps i).boot) (λ i. (keeps i).known);
+        known = known_kept w (quiet_world w nodes held clocks packets w.replies reached choices) (λ i b. refl) (λ i. (keeps i).boot) (λ i. (keeps i).known);
         operations = λ n o is. (o, is, record { brick = refl; boot = refl; seq = refl; ask = refl });
         replies = λ n. inl (λ p. refl);
       })
@@ -61,24 +68,24 @@ module _ (setting : Setting) (w : World) (books : Books setting w) (tallied : Ta
       (ap (λ (b : ℕ). w.numbers i b k) (keeps i).boot) (λ p. refl) (tallied.calls i k c (sym (calls i k) ∙ is)))
       tallied.unbegun (λ n phase k x is. inl is) (λ k p n cause is. inl is)
 
-  tallied_nothing : (me : BrickId) (node : Node) (packets : List Packet)
-      → MessagesShow (stepped setting w w.replies me (sending node packets)) → KeepsNumbers (w.nodes me.0) node
-      → ((l : ℕ) → node.calls l ≡ (w.nodes me.0).calls l) → Tallied (stepped setting w w.replies me (sending node packets))
-  tallied_nothing me node packets shows keeps calls =
-      tallied_quiet (put w.nodes me.0 node) (with_held w.held me.0 node) w.clocks (w.packets ++ packets) w.reached shows (keeps_put w me.0 node keeps)
-      (λ j l. put_each (λ (x : ℕ) (y : Node). y.calls l ≡ (w.nodes x).calls l) w.nodes me.0 node (calls l) (λ x other. refl) j)
+  -- a step that tells nothing and keeps a brick's calls and numbers, whatever it reports
+  tallied_silent : (me : BrickId) (node : Node) (packets : List Packet) (reports : List Report) → KeepsCalls (w.nodes me.0) node
+      → (let step : NodeStep = record { node = node; packets = packets; told = []; answers = []; reports = reports } in
+      MessagesShow (stepped setting w w.replies me step) → Tallied (stepped setting w w.replies me step))
+  tallied_silent me node packets reports keeps shows =
+      tallied_quiet (put w.nodes me.0 node) (with_held w.held me.0 node) w.clocks (w.packets ++ packets) w.reached _ shows (keeps_put w me.0 node keeps.0)
+      (λ j l. put_each (λ (x : ℕ) (y : Node). y.calls l ≡ (w.nodes x).calls l) w.nodes me.0 node (keeps.1 l) (λ x other. refl) j)
       (λ packet sent. (sent.0, get_kept w.packets packets sent.0 packet sent.1))
 
   tallied_no_step : (me : BrickId) → MessagesShow (stepped setting w w.replies me (no_step (w.nodes me.0)))
       → Tallied (stepped setting w w.replies me (no_step (w.nodes me.0)))
-  tallied_no_step me shows = tallied_nothing me (w.nodes me.0) [] shows (keeps_all (w.nodes me.0)) (λ l. refl)
+  tallied_no_step me = tallied_silent me (w.nodes me.0) [] [] (keeps_itself (w.nodes me.0))
 
   -- a brick learns of a time
   tallied_known : (me : BrickId) (known : ℕ) → (w.nodes me.0).known ≤ known
       → MessagesShow (stepped setting w w.replies me (no_step (with_known (w.nodes me.0) known)))
       → Tallied (stepped setting w w.replies me (no_step (with_known (w.nodes me.0) known)))
-  tallied_known me known grows shows =
-      tallied_nothing me (with_known (w.nodes me.0) known) [] shows (keeps_known (w.nodes me.0) known grows) (λ l. refl)
+  tallied_known me known grows = tallied_silent me (with_known (w.nodes me.0) known) [] [] (keeps_known (w.nodes me.0) known grows, λ l. refl)
 
   -- a request
   tallied_requested : (me from : BrickId) (call : Call) (request : Request)
@@ -87,19 +94,33 @@ module _ (setting : Setting) (w : World) (books : Books setting w) (tallied : Ta
   tallied_requested me from call request =
       request_each (λ (step : NodeStep). MessagesShow (stepped setting w w.replies me step) → Tallied (stepped setting w w.replies me step)) setting
       me from (w.nodes me.0) call request (tallied_no_step me)
-      (λ group seat here at view shows.
+      (λ moved is. tallied_silent me (w.nodes me.0) (reply_packets me from call (Some moved)) [] (keeps_itself (w.nodes me.0)))
+      (λ group seat here served.
       let reaction = handle setting.code group.m (full_at setting.layout.records (w.nodes me.0).live) seat (replica_at (w.nodes me.0) call) request in
-      tallied_nothing me (with_replica (w.nodes me.0) call reaction) (reply_packets me from call reaction.reply) shows
-      (keeps_replica (w.nodes me.0) call reaction view) (λ l. refl))
+      tallied_silent me (with_replica (w.nodes me.0) call reaction) (reply_packets me from call reaction.reply) []
+      (record { boot = refl; seq = omega arith; known = omega arith }, λ l. refl))
+      (λ group ballot asked here.
+      let vote : Voted = vote_at (w.nodes me.0) call ballot asked in
+      tallied_silent me (with_vote (w.nodes me.0) call vote) (reply_packets me from call (Some vote.reply)) []
+      (record { boot = refl; seq = omega arith; known = omega arith }, λ l. refl))
 
-  -- a reply
-  tallied_replied : (me : BrickId) (now : ℕ) (from : BrickId) (call : Call) (reply : Reply) → MessagesShow w → WasSent w (record { from = from; to = me; message = Message.Reply call reply })
-      → MessagesShow (stepped setting w (replies_at setting w me from call reply ((w.nodes me.0).calls call.seq)) me
-      (replied setting me now from (w.nodes me.0) call reply))
-      → Tallied (stepped setting w (replies_at setting w me from call reply ((w.nodes me.0).calls call.seq)) me
-      (replied setting me now from (w.nodes me.0) call reply))
-  unfolding replied on_reply
-  tallied_replied me now from call reply shows sent = at_call ((w.nodes me.0).calls call.seq) refl
+  -- a brick begins a proposal
+  tallied_proposed : (me : BrickId) (group : GroupId) (members : List BrickId)
+      → MessagesShow (stepped setting w w.replies me (proposed setting me (w.nodes me.0) group members))
+      → Tallied (stepped setting w w.replies me (proposed setting me (w.nodes me.0) group members))
+  tallied_proposed me group members =
+      proposed_each (λ (step : NodeStep). MessagesShow (stepped setting w w.replies me step) → Tallied (stepped setting w w.replies me step)) setting me
+      (w.nodes me.0) group members (λ seq round proposal packets reports more are.
+      tallied_silent me (record (w.nodes me.0) { seq = seq; round = round; proposal = proposal }) packets reports
+      (record { boot = refl; seq = more; known = omega arith }, λ l. refl))
+
+  -- a reply to an open operation, or to a proposal
+  tallied_replied : (me : BrickId) (now : ℕ) (from : BrickId) (call : Call) (reply : Reply) (found : Option Coordinator) → MessagesShow w
+      → WasSent w (record { from = from; to = me; message = Message.Reply call reply }) → (w.nodes me.0).calls call.seq ≡ found
+      → MessagesShow (stepped setting w (replies_at setting w me from call reply found) me (replied_at setting me now from (w.nodes me.0) call reply found))
+      → Tallied (stepped setting w (replies_at setting w me from call reply found) me (replied_at setting me now from (w.nodes me.0) call reply found))
+  unfolding on_reply
+  tallied_replied me now from call reply found shows sent = at_call found
     where
       at_seat : (c : Coordinator) → IsCall w me.0 call.seq c → (z : Option ℕ)
           → counts_at setting.layout.block c from.0 call reply ≡ z
@@ -128,9 +149,82 @@ module _ (setting : Setting) (w : World) (books : Books setting w) (tallied : Ta
       at_call : (z : Option Coordinator) → (w.nodes me.0).calls call.seq ≡ z
           → MessagesShow (stepped setting w (replies_at setting w me from call reply z) me (replied_at setting me now from (w.nodes me.0) call reply z))
           → Tallied (stepped setting w (replies_at setting w me from call reply z) me (replied_at setting me now from (w.nodes me.0) call reply z))
-      at_call None none later =
-          tallied_known me (known_after (w.nodes me.0).known reply) (known_grows (w.nodes me.0).known reply) later
-      at_call (Some c) is later = at_seat c is (counts_at setting.layout.block c from.0 call reply) refl later
+      at_call None none =
+          let known : ℕ = known_after (w.nodes me.0).known reply in
+          ballot_each (λ (step : NodeStep). MessagesShow (stepped setting w w.replies me step) → Tallied (stepped setting w w.replies me step)) setting.layout me from
+          (with_known (w.nodes me.0) known) call reply (w.nodes me.0).proposal (λ seq round proposal packets reports more are.
+          tallied_silent me (record (w.nodes me.0) { known = known; seq = seq; round = round; proposal = proposal }) packets reports
+          (record { boot = refl; seq = more; known = known_grows (w.nodes me.0).known reply }, λ l. refl))
+      at_call (Some c) is = at_seat c is (counts_at setting.layout.block c from.0 call reply) refl
+
+-- what messages show does not change where a brick keeps what it is now, and has the calls that it had
+shows_kept : (w : World) (me : BrickId) (node : Node) → ((i k : ℕ) → ((kept_world w me node).nodes i).calls k ≡ (w.nodes i).calls k) → MessagesShow w
+    → MessagesShow (kept_world w me node)
+shows_kept w me node calls shows = record {
+  later = shows.later;
+  orders_alone = shows.orders_alone;
+  in_round = λ i k c to t is. shows.in_round i k c to t (sym (calls i k) ∙ is);
+  counted = λ i k c is. shows.counted i k c (sym (calls i k) ∙ is);
+}
+
+-- the replies that count are as they would be in the world in which a brick keeps what it is now, where it has the boot that it had
+replies_kept : (setting : Setting) (w : World) (me : BrickId) (node : Node) (from : BrickId) (call : Call) (reply : Reply) (found : Option Coordinator)
+    → node.boot ≡ (w.nodes me.0).boot → replies_at setting (kept_world w me node) me from call reply found ≡ replies_at setting w me from call reply found
+replies_kept setting w me node from call reply None same = refl
+replies_kept setting w me node from call reply (Some c) same =
+    ap (λ (b : ℕ). counted_after w.replies (w.numbers me.0 b call.seq) from call reply (counts_at setting.layout.block c from.0 call reply))
+    (ap (λ (n : Node). n.boot) (put_same w.nodes me.0 node) ∙ same)
+
+module _ (setting : Setting) (w : World) (books : Books setting w) (tallied : Tallied w) where
+  tallied_kept : (me : BrickId) (node : Node) → KeepsCalls (w.nodes me.0) node → MessagesShow w → MessagesShow (kept_world w me node) × Tallied (kept_world w me node)
+  tallied_kept me node keeps shows =
+      let calls : (i k : ℕ) → ((kept_world w me node).nodes i).calls k ≡ (w.nodes i).calls k
+      = λ j l. put_each (λ (x : ℕ) (y : Node). y.calls l ≡ (w.nodes x).calls l) w.nodes me.0 node (keeps.1 l) (λ x other. refl) j in
+      let shown = shows_kept w me node calls shows in (
+        shown,
+        tallied_quiet setting w books tallied (put w.nodes me.0 node) (with_held w.held me.0 node) w.clocks w.packets w.reached _ shown
+            (keeps_put w me.0 node keeps.0) calls (λ packet sent. sent),
+      )
+
+  -- a reply is heard
+  tallied_heard : (me : BrickId) (now : ℕ) (from : BrickId) (call : Call) (reply : Reply) → MessagesShow w
+      → WasSent w (record { from = from; to = me; message = Message.Reply call reply })
+      → (let replies = if lists_fit setting.layout call reply then replies_at setting w me from call reply ((w.nodes me.0).calls call.seq) else w.replies in
+      MessagesShow (stepped setting w replies me (heard setting me now from (w.nodes me.0) call reply))
+      → Tallied (stepped setting w replies me (heard setting me now from (w.nodes me.0) call reply)))
+  tallied_heard me now from call reply shows sent = by (lists_fit setting.layout call reply)
+    where
+      known : ℕ
+      known = known_after (w.nodes me.0).known reply
+
+      unheard : NodeStep
+      unheard = no_step (with_known (with_round (w.nodes me.0) reply) known)
+
+      counted : ℕ → ℕ → List Counted
+      counted = replies_at setting w me from call reply ((w.nodes me.0).calls call.seq)
+
+      IsTalliedNext : World → Type 0
+      IsTalliedNext next = MessagesShow next → Tallied next
+
+      replies_heard : IsTalliedNext (stepped setting w counted me (replied setting me now from (w.nodes me.0) call reply))
+      replies_heard =
+          let node : Node = taught_by setting w me from call reply in
+          let keeps = hearing_keeps setting w me from call reply in
+          let kept = tallied_kept me node keeps shows in
+          let x : World = kept_world w me node in
+          let found : Option Coordinator = (w.nodes me.0).calls call.seq in
+          replying_each IsTalliedNext setting (record w { replies = counted }) me now from call reply
+          (subst (λ (r : ℕ → ℕ → List Counted). IsTalliedNext (stepped setting x r me (replied_at setting me now from (x.nodes me.0) call reply found)))
+          (replies_kept setting w me node from call reply found keeps.0.boot)
+          (tallied_replied setting x (books_kept setting w me node books keeps) kept.1 me now from call reply found kept.0 sent
+          (ap (λ (n : Node). n.calls call.seq) (put_same w.nodes me.0 node) ∙ keeps.1 call.seq)))
+
+      by : (fit : Bool)
+          → IsTalliedNext (stepped setting w (if fit then counted else w.replies) me (if fit then replied setting me now from (w.nodes me.0) call reply else unheard))
+      by true = replies_heard
+      by false =
+          tallied_silent setting w books tallied me (with_known (with_round (w.nodes me.0) reply) known) [] []
+          (record { boot = refl; seq = omega arith; known = known_grows (w.nodes me.0).known reply }, λ l. refl)
 
   -- a message
   tallied_received : (now : ℕ) (from to : BrickId) (message : Message) → MessagesShow w → WasSent w (record { from = from; to = to; message = message })
@@ -138,22 +232,25 @@ module _ (setting : Setting) (w : World) (books : Books setting w) (tallied : Ta
       MessagesShow (stepped setting w (replies_with setting w packet) to (received setting to now (w.nodes to.0) packet))
       → Tallied (stepped setting w (replies_with setting w packet) to (received setting to now (w.nodes to.0) packet)))
   unfolding received
-  tallied_received now from to (Message.Request call request) shows sent = tallied_requested to from call request
-  tallied_received now from to (Message.Reply call reply) shows sent = tallied_replied to now from call reply shows sent
-  tallied_received now from to message shows sent = tallied_no_step to
+  tallied_received now from to (Message.Request call request) shows sent = tallied_requested setting w books tallied to from call request
+  tallied_received now from to (Message.Reply call reply) shows sent = tallied_heard to now from call reply shows sent
+  tallied_received now from to (Message.Learn group view) shows sent =
+      tallied_silent setting w books tallied to (node_learnt setting.layout (w.nodes to.0) group view) [] [] (learnt_keeps setting.layout (w.nodes to.0) group view)
+  tallied_received now from to message shows sent = tallied_no_step setting w books tallied to
 
--- what messages show does not change with those that were delivered
-shows_reached : (w : World) (reached : ℕ → Bool) → MessagesShow w → MessagesShow (record w { reached = reached })
-shows_reached w reached shows = record { later = shows.later; orders_alone = shows.orders_alone; in_round = shows.in_round; counted = shows.counted }
+-- what messages show does not change with those that were delivered, or with choices
+shows_reached : (w : World) (reached : ℕ → Bool) (choices : Choices) → MessagesShow w → MessagesShow (record w { reached = reached; choices = choices })
+shows_reached w reached choices shows = record { later = shows.later; orders_alone = shows.orders_alone; in_round = shows.in_round; counted = shows.counted }
 
 module _ (setting : Setting) (w : World) (books : Books setting w) (tallied : Tallied w) where
   tallied_handled : (number : ℕ) (packet : Packet) → MessagesShow w → WasSent w packet → MessagesShow (world_handled setting w number packet) → Tallied (world_handled setting w number packet)
   tallied_handled number packet shows sent =
       let reached : ℕ → Bool = put w.reached number true in
-      let noted : World = record w { reached = reached } in
-      let noted_shows : MessagesShow noted = shows_reached w reached shows in
-      tallied_received setting noted (books_beside setting w w.replies reached books)
-      (tallied_quiet setting w books tallied w.nodes w.held w.clocks w.packets reached noted_shows (λ i. keeps_all (w.nodes i)) (λ i k. refl)
+      let choices : Choices = voiced setting w packet in
+      let noted : World = record w { reached = reached; choices = choices } in
+      let noted_shows : MessagesShow noted = shows_reached w reached choices shows in
+      tallied_received setting noted (books_beside setting w w.replies reached choices books)
+      (tallied_quiet setting w books tallied w.nodes w.held w.clocks w.packets reached choices noted_shows (λ i. keeps_all (w.nodes i)) (λ i k. refl)
       (λ other was. was)) (w.clocks packet.to.0) packet.from packet.to packet.message noted_shows sent
 
   -- an operation begins
@@ -168,7 +265,7 @@ module _ (setting : Setting) (w : World) (books : Books setting w) (tallied : Ta
       let n : ℕ = w.begun + 1 in
       let c : Coordinator = new_coordinator (group_there (w.nodes brick.0) ask group) brick now (w.nodes brick.0) ask in
       let new : CallTallied w.replies n c = record {
-        now = ([], tallied.unbegun n 1 (omega arith), refl, refl);
+        now = ([], tallied.unbegun n 1 (omega arith), refl, refl, refl);
         later = λ p above. tallied.unbegun n p (omega arith);
         refused = λ round p low high. absurd (omega (arith, first_round_above c.phase));
       } in
@@ -272,22 +369,13 @@ module _ (setting : Setting) (w : World) (books : Books setting w) (tallied : Ta
       tallied.unbegun (λ n phase k x is. inl is) (λ k p n cause is. inl is)
 
 -- a brick starts with what its store is found to hold: it has the calls that it had
-shows_found : (w : World) (brick : BrickId) → ((i k : ℕ) → ((world_found w brick After).nodes i).calls k ≡ (w.nodes i).calls k) → MessagesShow w
-    → MessagesShow (world_found w brick After)
-shows_found w brick calls shows = record {
-  later = shows.later;
-  orders_alone = shows.orders_alone;
-  in_round = λ i k c to t is. shows.in_round i k c to t (sym (calls i k) ∙ is);
-  counted = λ i k c is. shows.counted i k c (sym (calls i k) ∙ is);
-}
-
 tallied_found : (setting : Setting) (w : World) (brick : BrickId) (found : Found) → w.up brick.0 ≡ false → Leaves setting w → Books setting w
     → Tallied w → MessagesShow w → Tallied (world_found w brick found)
 tallied_found setting w brick Before down leaves books tallied shows = tallied
 tallied_found setting w brick After down leaves books tallied shows =
     let keeps : (i : ℕ) → KeepsCalls (w.nodes i) ((world_found w brick After).nodes i) = found_keeps setting w brick After down leaves in
-    tallied_quiet setting w books tallied (put w.nodes brick.0 (w.after brick.0)) (with_held w.held brick.0 (w.after brick.0)) w.clocks w.packets w.reached
-    (shows_found w brick (λ i. (keeps i).1) shows) (λ i. (keeps i).0) (λ i. (keeps i).1) (λ packet sent. sent)
+    tallied_quiet setting w books tallied (put w.nodes brick.0 (w.after brick.0)) (with_held w.held brick.0 (w.after brick.0)) w.clocks w.packets w.reached _
+    (shows_kept w brick (w.after brick.0) (λ i. (keeps i).1) shows) (λ i. (keeps i).0) (λ i. (keeps i).1) (λ packet sent. sent)
 
 -- a world whose messages show what they should has its history of replies: so does the next
 abbrev IsTalliedThere : World → Type 0
@@ -303,13 +391,14 @@ tallied_cases setting w known there =
     let tallied : Tallied w = there shows in
     record {
       begins = λ brick ask may. tallied_invoked setting w books tallied brick (w.clocks brick.0) ask may;
+      proposes = λ brick group members may. tallied_proposed setting w books tallied brick group members;
       handles = λ number packet at up. tallied_handled setting w books tallied number packet shows (packet_was_sent w number packet at);
       sets = λ brick time is shown.
-          tallied_quiet setting w books tallied w.nodes w.held (put w.clocks brick.0 time) w.packets w.reached shown (λ i. keeps_all (w.nodes i))
+          tallied_quiet setting w books tallied w.nodes w.held (put w.clocks brick.0 time) w.packets w.reached _ shown (λ i. keeps_all (w.nodes i))
           (λ i k. refl) (λ packet sent. sent);
       ticks = λ brick up shown.
           (let more : List Packet = ticked setting brick (w.nodes brick.0) in
-          tallied_quiet setting w books tallied w.nodes w.held w.clocks (w.packets ++ more) w.reached shown (λ i. keeps_all (w.nodes i)) (λ i k. refl)
+          tallied_quiet setting w books tallied w.nodes w.held w.clocks (w.packets ++ more) w.reached _ shown (λ i. keeps_all (w.nodes i)) (λ i k. refl)
           (λ packet sent. (sent.0, get_kept w.packets more sent.0 packet sent.1)));
       stops = λ brick during up. tallied_stopped setting w books tallied brick during;
       starts = λ brick openings found may.

@@ -15,10 +15,11 @@ use Rattle.reg_model.specs.declared.marks.Mark.TheVariants.{End}
 use Rattle.reg_model.specs.Marks.{life_of, IsOpen}
 use Rattle.protocol.specs.Settings.{Setting}
 use Rattle.protocol.specs.declared.phases.Counted.{Counted}
-use Rattle.protocol.specs.Coordinators.{Coordinator, greatest_refuser, lowest_full}
+use Rattle.protocol.specs.Coordinators.{Coordinator, greatest_refuser, lowest_full, lowest_mover}
 use Rattle.protocol.specs.Nodes.{has_later_time}
 use Rattle.protocol.specs.Worlds.{World, Operation, number_of, known_in}
-use Rattle.protocol_laws.specs.Laws.{WasSent, RequestSent, AskedAt, order_of, IsLastRound, LaterEvidence, FullEvidence, Evidence}
+use Rattle.protocol_laws.specs.Laws.{WasSent, RequestSent, AskedAt, order_of, IsLastRound, LaterEvidence, FullEvidence, MovedEvidence, Evidence}
+use Rattle.fab_base.specs.declared.identities.ViewNo.{ViewNo}
 use Rattle.protocol_laws.proofs.Books.{Replies, Books, IsOperation, IsCall}
 use Rattle.reg_model.proofs.GrowingLives.{ended_not_open}
 use Rattle.protocol_laws.proofs.Tallies.{CallTallied, CountedSent, AbortShown, Tallied, MessagesShow, GoesOn, Furthers}
@@ -28,7 +29,7 @@ pub call_tallied_on : (replies later : Replies) (n m : ℕ) (c : Coordinator) �
     → CallTallied replies n c → CallTallied later m c
 call_tallied_on replies later n m c number same tallied =
     subst (λ (x : ℕ). CallTallied later x c) (sym number) (record {
-      now = (tallied.now.0, same c.call.phase ∙ tallied.now.1, tallied.now.2, tallied.now.3);
+      now = (tallied.now.0, same c.call.phase ∙ tallied.now.1, tallied.now.2, tallied.now.3, tallied.now.4);
       later = λ p above. same p ∙ tallied.later p above;
       refused = λ round p low high. ap (λ (l : List Counted). is_some (greatest_refuser l)) (same p) ∙ tallied.refused round p low high;
     })
@@ -77,6 +78,22 @@ module _ (w next : World) (on : Furthers w next) where
         told = subst (λ (b : BrickId). WasSent next (record { from = brick; to = b; message = Message.Reply call (Reply.Full live) })) (sym goes.brick)
             (on.sent (record { from = brick; to = o.brick; message = Message.Reply call (Reply.Full live) }) was.told);
         lowest = ap (λ (l : List Counted). lowest_full l) (same call.phase) ∙ was.lowest;
+        final = λ q above. same q ∙ was.final q above;
+      }
+
+  -- and so does what an abort for a later view shows
+  moved_on : (n : ℕ) (o p : Operation) (brick : BrickId) (view : ViewNo) → GoesOn o p
+      → ((q : ℕ) → next.replies n q ≡ w.replies n q) → MovedEvidence w n o brick view → MovedEvidence next n p brick view
+  moved_on n o p brick view goes same was =
+      let call : Call = was.call in
+      record {
+        call = call;
+        seat = was.seat;
+        lineage = was.lineage;
+        own = (was.own.0 ∙ sym goes.boot, was.own.1 ∙ sym goes.seq);
+        told = subst (λ (b : BrickId). WasSent next (record { from = brick; to = b; message = Message.Reply call (Reply.Moved view was.lineage) })) (sym goes.brick)
+            (on.sent (record { from = brick; to = o.brick; message = Message.Reply call (Reply.Moved view was.lineage) }) was.told);
+        lowest = ap (λ (l : List Counted). lowest_mover l) (same call.phase) ∙ was.lowest;
         final = λ q above. same q ∙ was.final q above;
       }
 
@@ -136,6 +153,7 @@ module _ (w next : World) (on : Furthers w next) where
       → o.boot ≤ (w.nodes o.brick.0).boot → ((q : ℕ) → next.replies n q ≡ w.replies n q) → Evidence w n o cause → Evidence next n p cause
   evidence_on shows n o p (Cause.Later brick x) is goes begun same was = later_on shows n o p brick x is goes begun same was
   evidence_on shows n o p (Cause.Full brick live) is goes begun same was = full_on n o p brick live goes same was
+  evidence_on shows n o p (Cause.Moved brick view) is goes begun same was = moved_on n o p brick view goes same was
   evidence_on shows n o p cause is goes begun same was = absurd was
 
 -- the history of the next world: what is new in it is shown

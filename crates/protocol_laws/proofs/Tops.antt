@@ -1,29 +1,43 @@
 -- The stamp below which a brick takes nothing for a stripe: the greater of the floor of what it has learnt and accepted, and of its part's top.
-use Rattle.std.proofs.Common.{◌≡◌, ◌⊎◌, inl, inr, ℕ, ◌+◌, ◌≤◌, Bool, true, false, nat_lt, refl, sym, ap, ◌∙◌, subst, arith, ◌<◌}
-use Rattle.std.specs.Prelude.{if◌then◌else◌}
-use Rattle.std.proofs.lemmas.Bool.{cond_both, false≢true, ltb-false}
+use Rattle.std.proofs.Common.{◌≡◌, ◌⊎◌, inl, inr, ℕ, ◌+◌, ◌-◌, ◌≤◌, Bool, true, false, nat_lt, List, refl, sym, ap, ◌∙◌, subst, arith, ◌<◌}
+use Rattle.std.specs.Prelude.{if◌then◌else◌, is_some, ◌^◌, ◌&&◌}
+use Rattle.std.proofs.lemmas.Bool.{cond_both, false≢true, ltb-false, ltb-true}
 use Rattle.std.proofs.lemmas.Bool.Decides.{nat_tests}
+use Rattle.fab_base.specs.declared.identities.BrickId.{BrickId}
 use Rattle.fab_base.specs.declared.stamps.Stamp.{Stamp}
 use Rattle.fab_base.specs.Stamps.{stamp_below, first_stamp}
-use Rattle.fab_base.proofs.StampOrder.{stamp_below_first, stamp_not_below_trans}
+use Rattle.fab_base.proofs.StampOrder.{stamp_below_first, stamp_not_below_trans, stamp_below_irrefl, stamp_below_asym}
 use Rattle.protocol.specs.Replicas.{Replica, stamp_max, top_of}
-use Rattle.protocol.specs.Views.{Learnt, view_of, floor_of}
-use Rattle.protocol.specs.Nodes.{Node, view_at, view_floor, top_at}
+use Rattle.protocol.specs.Views.{Learnt, first_kept, view_of, floor_of}
+use Rattle.protocol.specs.Nodes.{Node, view_at, has_accepted, view_floor, top_at}
+use Rattle.synod_laws.specs.Synods.{Kept, last_of}
 use Rattle.protocol_laws.proofs.Reactions.{max_left, max_right, max_most}
 
 -- a brick keeps what it has learnt, what it has accepted and its parts
 abbrev pub KeepsPlaces : Node → Node → Type 0
-KeepsPlaces node next = (next.learnt ≡ node.learnt) × (next.accepted ≡ node.accepted) × (next.replicas ≡ node.replicas)
+KeepsPlaces node next = (next.learnt ≡ node.learnt) × (next.ballots ≡ node.ballots) × (next.replicas ≡ node.replicas)
 
 -- so it has come as far as before
 pub top_same : (node next : Node) → KeepsPlaces node next → (g s : ℕ) → top_at next g s ≡ top_at node g s
 unfolding top_at
 top_same node next same g s =
-    ap (λ (l : ℕ → Learnt). stamp_max (floor_of (if next.accepted g then (l g).view.number.0 + 1 else (l g).view.number.0))
-    (top_of (next.replicas g (l g).view.number.0 s))) same.0
-    ∙ ap (λ (a : ℕ → Bool). stamp_max (floor_of (if a g then view_at node g + 1 else view_at node g)) (top_of (next.replicas g (view_at node g) s)))
+    ap (λ (l : ℕ → Learnt). stamp_max (view_floor (record next { learnt = l }) g) (top_of (next.replicas g (l g).view.number.0 s))) same.0
+    ∙ ap (λ (b : ℕ → Kept (List BrickId)). stamp_max (view_floor (record node { ballots = b }) g) (top_of (next.replicas g (view_at node g) s)))
     same.1
     ∙ ap (λ (r : ℕ → ℕ → ℕ → Replica). stamp_max (view_floor node g) (top_of (r g (view_at node g) s))) same.2
+
+-- and so it has for a group of which it keeps these
+pub top_by : (node next : Node) (g s : ℕ) → next.learnt g ≡ node.learnt g → next.ballots g ≡ node.ballots g
+    → next.replicas g (view_at node g) s ≡ node.replicas g (view_at node g) s → top_at next g s ≡ top_at node g s
+unfolding top_at
+top_by node next g s learnt ballots part =
+    ap (λ (l : Learnt). top_with l (next.ballots g) (next.replicas g l.view.number.0 s)) learnt
+    ∙ ap (λ (b : Kept (List BrickId)). top_with (node.learnt g) b (next.replicas g (view_at node g) s)) ballots
+    ∙ ap (λ (r : Replica). top_with (node.learnt g) (node.ballots g) r) part
+  where
+    top_with : Learnt → Kept (List BrickId) → Replica → Stamp
+    top_with l b r =
+        stamp_max (floor_of (if nat_lt l.view.number.0 (2 ^ 32 - 1) && is_some (last_of b) then l.view.number.0 + 1 else l.view.number.0)) (top_of r)
 
 -- it has come no less far than its part in the view that it has learnt
 pub top_above : (node : Node) (g s : ℕ) → stamp_below (top_at node g s) (top_of (node.replicas g (view_at node g) s)) ≡ false
@@ -60,11 +74,11 @@ unfolding top_at
 top_most node g s t = max_most (view_floor node g) (top_of (node.replicas g (view_at node g) s)) t
 
 -- where its parts rise, it rises
-pub top_rises : (node : Node) (live : ℕ) (replicas : ℕ → ℕ → ℕ → Replica) (g s : ℕ)
+pub top_rises : (node : Node) (live : ℕ) (live_in : ℕ → ℕ → ℕ) (replicas : ℕ → ℕ → ℕ → Replica) (g s : ℕ)
     → stamp_below (top_of (replicas g (view_at node g) s)) (top_of (node.replicas g (view_at node g) s)) ≡ false
-    → stamp_below (top_at (record node { live = live; replicas = replicas }) g s) (top_at node g s) ≡ false
+    → stamp_below (top_at (record node { live = live; live_in = live_in; replicas = replicas }) g s) (top_at node g s) ≡ false
 unfolding top_at
-top_rises node live replicas g s rises =
+top_rises node live live_in replicas g s rises =
     let now : Stamp = top_of (replicas g (view_at node g) s) in
     let was : Stamp = top_of (node.replicas g (view_at node g) s) in
     max_most (view_floor node g) was (stamp_max (view_floor node g) now) (max_left (view_floor node g) now)
@@ -78,7 +92,7 @@ floor_least e t view =
     (λ (z : Stamp). stamp_below t z ≡ false) (λ later. grind (arith, nat_tests)) (λ one. stamp_below_first t)
 
 -- nor is one below what a brick has come to that has learnt the view, and accepted none to follow it
-pub view_above : (node : Node) (g : ℕ) (t : Stamp) → node.accepted g ≡ false → view_of t ≡ view_at node g → stamp_below t (view_floor node g) ≡ false
+pub view_above : (node : Node) (g : ℕ) (t : Stamp) → has_accepted node g ≡ false → view_of t ≡ view_at node g → stamp_below t (view_floor node g) ≡ false
 view_above node g t free view =
     subst (λ (b : Bool). stamp_below t (floor_of (if b then view_at node g + 1 else view_at node g)) ≡ false) (sym free)
     (floor_least (view_at node g) t view)
@@ -107,3 +121,61 @@ pub floor_next : (t : Stamp) → stamp_below t (floor_of (view_of t + 1)) ≡ tr
 floor_next t =
     cond_both (nat_lt 1 (view_of t + 1)) (record { view = record { 0 = view_of t + 1 }; time = 0; brick = record { 0 = 0 }; boot = 0 }) first_stamp
     (λ (z : Stamp). stamp_below t z ≡ true) (λ later. view_less t _ (omega arith)) (λ none. absurd (let most = ltb-false 1 (view_of t + 1) none in omega (arith, most)))
+
+-- a brick keeps the versions of the view that it has learnt
+pub kept_now : (learnt : Learnt) → first_kept learnt ≤ learnt.view.number.0
+kept_now learnt =
+    cond_both learnt.synced learnt.view.number.0 (learnt.view.number.0 - 1) (λ (n : ℕ). n ≤ learnt.view.number.0) (λ is. omega arith) (λ isnt. omega arith)
+
+-- the floor of a later view is no lower
+pub floor_rises : (e f : ℕ) → e ≤ f → stamp_below (floor_of f) (floor_of e) ≡ false
+unfolding stamp_below
+floor_rises e f most =
+    cond_both (nat_lt 1 e) (record { view = record { 0 = e }; time = 0; brick = record { 0 = 0 }; boot = 0 }) first_stamp
+    (λ (z : Stamp). stamp_below (floor_of f) z ≡ false)
+    (λ above. cond_both (nat_lt 1 f) (record { view = record { 0 = f }; time = 0; brick = record { 0 = 0 }; boot = 0 }) first_stamp
+    (λ (z : Stamp). stamp_below z (record { view = record { 0 = e }; time = 0; brick = record { 0 = 0 }; boot = 0 }) ≡ false)
+    (λ later. grind (arith, nat_tests)) (λ none. absurd (let few = ltb-false 1 f none in let many = ltb-true 1 e above in omega (arith, few, many, most))))
+    (λ none. stamp_below_first (floor_of f))
+
+-- a brick that goes on having accepted, where it had, comes no less far
+pub top_accepts : (node : Node) (ballots : ℕ → Kept (List BrickId)) (g s : ℕ)
+    → (has_accepted node g ≡ true → has_accepted (record node { ballots = ballots }) g ≡ true)
+    → stamp_below (top_at (record node { ballots = ballots }) g s) (top_at node g s) ≡ false
+unfolding top_at
+top_accepts node ballots g s stays =
+    let next : Node = record node { ballots = ballots } in
+    let part : Stamp = top_of (node.replicas g (view_at node g) s) in
+    max_most (view_floor node g) part (stamp_max (view_floor next g) part)
+    (stamp_not_below_trans (view_floor node g) (view_floor next g) (stamp_max (view_floor next g) part)
+    (floor_rises (learnt_of (has_accepted node g)) (learnt_of (has_accepted next g)) (by (has_accepted node g) (has_accepted next g) stays))
+    (max_left (view_floor next g) part))
+    (max_right (view_floor next g) part)
+  where
+    learnt_of : Bool → ℕ
+    learnt_of accepted = if accepted then view_at node g + 1 else view_at node g
+
+    by : (was is : Bool) → (was ≡ true → is ≡ true) → learnt_of was ≤ learnt_of is
+    by true true goes = omega arith
+    by true false goes = absurd (false≢true (goes refl))
+    by false true goes = omega arith
+    by false false goes = omega arith
+
+-- nor does one that has learnt a later view, above whose floor its part of the earlier one is not
+pub top_learns : (node next : Node) (g s : ℕ) → view_at node g < view_at next g
+    → stamp_below (top_of (node.replicas g (view_at node g) s)) (floor_of (view_at next g)) ≡ true → stamp_below (top_at next g s) (top_at node g s) ≡ false
+unfolding top_at
+top_learns node next g s later below =
+    let top : Stamp = stamp_max (view_floor next g) (top_of (next.replicas g (view_at next g) s)) in
+    let floor : Stamp = floor_of (view_at next g) in
+    let above : stamp_below top floor ≡ false
+    = stamp_not_below_trans floor (view_floor next g) top (cond_both (has_accepted next g) (view_at next g + 1) (view_at next g)
+    (λ (e : ℕ). stamp_below (floor_of e) floor ≡ false) (λ accepted. floor_rises (view_at next g) (view_at next g + 1) (omega arith))
+    (λ free. stamp_below_irrefl floor))
+    (max_left (view_floor next g) (top_of (next.replicas g (view_at next g) s))) in
+    stamp_not_below_trans (stamp_max (view_floor node g) (top_of (node.replicas g (view_at node g) s))) floor top
+    (max_most (view_floor node g) (top_of (node.replicas g (view_at node g) s)) floor
+    (cond_both (has_accepted node g) (view_at node g + 1) (view_at node g) (λ (e : ℕ). stamp_below floor (floor_of e) ≡ false)
+    (λ accepted. floor_rises (view_at node g + 1) (view_at next g) (omega (arith, later))) (λ free. floor_rises (view_at node g) (view_at next g) (omega (arith, later))))
+    (stamp_below_asym (top_of (node.replicas g (view_at node g) s)) floor below))
+    above

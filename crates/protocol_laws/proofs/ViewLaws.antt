@@ -1,14 +1,8 @@
 -- The laws of members and quorums, for every assignment of members to views that a world follows.
-use Rattle.fab_base.specs.declared.member_lists.View.{View}
-use Rattle.std.specs.Option.{option_map, unwrap_or}
 use Rattle.messages.specs.declared.packets.Message.{Message}
-use Rattle.messages.specs.declared.packets.Packet.{Packet}
-use Rattle.protocol_laws.proofs.StampViews.{MessageIsOf, always_views}
-use Rattle.protocol.proofs.Packets.{OfEach}
-use Rattle.protocol_laws.proofs.FirstWorlds.{always_in_first}
-use Rattle.std.proofs.Common.{◌≡◌, ℕ, ◌⊎◌, inl, inr, Bool, true, not, ◌&&◌, List, [], ◌∷◌, ◌++◌, length, Some, None, refl, sym, ap, ◌∙◌, subst, ⊎_elim, arith, suc, ◌-◌, Option}
-use Rattle.std.specs.Prelude.{slice_get, nat_lt}
-use Rattle.std.proofs.lemmas.Bool.{and_parts, not-true, cond_both}
+use Rattle.std.proofs.Common.{◌≡◌, ℕ, ◌⊎◌, inl, inr, Bool, true, not, ◌&&◌, List, [], ◌∷◌, ◌++◌, length, Some, None, refl, sym, ap, ◌∙◌, subst, ⊎_elim, arith}
+use Rattle.std.specs.Prelude.{slice_get}
+use Rattle.std.proofs.lemmas.Bool.{and_parts, not-true}
 use Rattle.std.proofs.lemmas.Option.{same_Some}
 use Rattle.fab_base.specs.declared.identities.BrickId.{BrickId}
 use Rattle.fab_base.specs.declared.stamps.Stamp.{Stamp}
@@ -23,16 +17,15 @@ use Rattle.messages.specs.declared.requests.Want.{Want}
 use Rattle.messages.specs.declared.replies.Reply.{Reply}
 use Rattle.quorum.specs.Quorums.{IsWithinLimits}
 use Rattle.quorum.proofs.Counts.{count_monotone}
-use Rattle.protocol.specs.Settings.{Setting, IsSound}
-use Rattle.protocol.specs.Views.{Views, layout_views, view_of, group_in, views_in, first_learn, group_kept}
+use Rattle.protocol.specs.Settings.{Setting}
+use Rattle.protocol.specs.Views.{Views, layout_views, view_of, group_in}
 use Rattle.protocol.specs.Replicas.{is_held, is_wanted}
 use Rattle.protocol.specs.declared.phases.Phase.{Phase}
 use Rattle.protocol.specs.declared.phases.Phase.TheVariants.{Modifies, Stores}
 use Rattle.protocol.specs.Coordinators.{told_in}
-use Rattle.protocol.specs.Nodes.{view_at}
 use Rattle.protocol.specs.Worlds.{World, Event, first_world, run, Operation}
-use Rattle.protocol_laws.specs.Laws.{part_in, top_in, EveryRunFollowsItsViews, EveryRunKeepsItsMembers, Follows, RunFollows, IsBlocked, RequestSent, want_in, OneContent, BasesAreNewest, WritesAreGuarded, NoEventLowers, IsLost, NeverSurfaces, CollectsStand, IsHeldByQuorum, DropsOnlyOlder, NothingFalls}
-use Rattle.protocol_laws.proofs.FirstViews.{own_members, view_first}
+use Rattle.protocol_laws.specs.Laws.{part_in, top_in, IsBlocked, RequestSent, want_in, OneContent, BasesAreNewest, WritesAreGuarded, NoEventLowers, IsLost, NeverSurfaces, CollectsStand, IsHeldByQuorum, DropsOnlyOlder, NothingFalls}
+use Rattle.protocol_laws.proofs.FirstViews.{own_members}
 use Rattle.protocol_laws.proofs.Logs.{below_above, IsUnder, IsKept, place_held}
 use Rattle.protocol_laws.proofs.Blocking.{was_kept, passes_by, passes, blocked_by, blocked_stays, blocked_never_stands, count_split}
 use Rattle.protocol_laws.proofs.Said.{Stamping, Said, IsBegun, want_of, IsBlockOf, ToldSays, MakerSays, WriteSays, ModifySays, RequestSays, ReplySays, WritesWhole, ReadsBack, WasCollected, Stands, CollectSays, IsBottom}
@@ -138,7 +131,7 @@ module _ (setting : Setting) (views : Views) (w : World) (stamps : Stamping) (sa
 
   -- and so does what they dropped
   pub drops_older : DropsOnlyOlder setting views w
-  drops_older g s i t held = by_log (part_in w g (view_of t) s i).log refl (was_kept w said.logged g (view_of t) s i t refl held)
+  drops_older g s i t within held = by_log (part_in w g (view_of t) s i).log refl (was_kept w said.logged g (view_of t) s i t within refl held)
     where
       by_log : (log : List Version) → (part_in w g (view_of t) s i).log ≡ log → IsKept t (part_in w g (view_of t) s i).log
           → IsKeptOrOlder g s t (part_in w g (view_of t) s i).log
@@ -154,7 +147,7 @@ module _ (setting : Setting) (views : Views) (w : World) (stamps : Stamping) (sa
             less,
             (λ group found. collected_stands g s x.stamp was group found),
           ))
-          (said.lowest g (view_of t) s i x rest is)
+          (said.lowest g (view_of t) s i x rest within is)
 
   -- an operation's base is the one that it read back
   pub bases_newest : BasesAreNewest setting views w
@@ -171,59 +164,6 @@ module _ (setting : Setting) (views : Views) (w : World) (stamps : Stamping) (sa
         (λ d group found above less. back.blocked d group found (above, less)),
       ))
       ((said.operations n o is).maker t made version)
-
--- every run follows the layout's members: no brick has learnt others
-pub follows_layout : (setting : Setting) (events : List Event) → IsSound setting → RunFollows setting (layout_views setting.layout) events
-follows_layout setting events sound earlier later is =
-    let view : (i g : ℕ) → view_at ((run setting earlier (first_world setting.layout)).nodes i) g ≡ 1
-    = λ i g. view_first setting.layout _ g (always_in_first setting earlier i).brick in
-    record {
-      limits = λ g e group found. sound.limits g group (sym (own_members (group_of setting.layout g)) ∙ found);
-      distinct = λ g e group found. sound.distinct g group (sym (own_members (group_of setting.layout g)) ∙ found);
-      learnt = λ i g. ap (λ l. (l g).view.members) (always_in_first setting earlier i).brick.learnt;
-      prior = λ i g above. absurd (let one = view i g in omega (arith, above, one));
-      passed = λ i g e s group some before found. absurd (let one = view i g in omega (arith, one, some, before));
-    }
-
--- these are the ones that its messages teach, since none teaches any
-none_taught : (g e : ℕ) (packets : List Packet) → OfEach (λ packet. MessageIsOf packet.message) packets → first_learn g e packets ≡ None
-none_taught g e [] are = refl
-none_taught g e (packet ∷ packets) are =
-    skipped packet.message (are 0 packet refl) ∙ none_taught g e packets (λ k other at. are (suc k) other at)
-  where
-    skipped : (message : Message) → MessageIsOf message
-        → first_learn g e (record { from = packet.from; to = packet.to; message = message } ∷ packets) ≡ first_learn g e packets
-    skipped (Message.Learn group view) never = absurd never
-    skipped message is = refl
-
--- so they are the layout's in every view
-pub views_are : EveryRunKeepsItsMembers
-views_are setting events g e =
-    let packets : List Packet = (run setting events (first_world setting.layout)).packets in
-    cond_both (nat_lt 1 e) (unwrap_or (option_map (λ (view : View). view.members) (first_learn g e packets)) (layout_views setting.layout g e))
-    (layout_views setting.layout g e) (λ (l : List BrickId). l ≡ layout_views setting.layout g e)
-    (λ later. ap (λ (z : Option View). unwrap_or (option_map (λ (view : View). view.members) z) (layout_views setting.layout g e))
-    (none_taught g e packets (always_views setting events).packets))
-    (λ one. refl)
-
--- a world follows an assignment that is the same
-same_follows : (layout : Layout) (views other : Views) (w : World) → ((g e : ℕ) → other g e ≡ views g e) → Follows layout views w → Follows layout other w
-same_follows layout views other w same follows =
-    let at : (g e : ℕ) → group_in layout other g e ≡ group_in layout views g e
-    = λ g e. ap (λ (members : List BrickId). group_kept layout members g) (same g e) in
-    record {
-      limits = λ g e group found. follows.limits g e group (sym (at g e) ∙ found);
-      distinct = λ g e group found. follows.distinct g e group (sym (at g e) ∙ found);
-      learnt = λ i g. follows.learnt i g ∙ sym (same g (view_at (w.nodes i) g));
-      prior = λ i g above. follows.prior i g above ∙ sym (same g (view_at (w.nodes i) g - 1));
-      passed = λ i g e s group some before found. follows.passed i g e s group some before (sym (at g e) ∙ found);
-    }
-
--- and so does every run these
-pub follows_its_views : EveryRunFollowsItsViews
-follows_its_views setting events sound earlier later is =
-    same_follows setting.layout (layout_views setting.layout) (views_in setting.layout (run setting events (first_world setting.layout)).packets)
-    (run setting earlier (first_world setting.layout)) (views_are setting events) (follows_layout setting events sound earlier later is)
 
 -- the layout's members keep a group in every view
 pub layout_group : (layout : Layout) (g e : ℕ) → group_in layout (layout_views layout) g e ≡ group_of layout g

@@ -1,7 +1,9 @@
 -- The laws of the disk, as they hold in every world that a run reaches. Quorums are counted by seat.
-use Rattle.std.specs.Prelude.{◌≡◌, ℕ, ◌+◌, ◌<◌, ◌≤◌, Bool, true, false, not, nat_eq, ◌&&◌, List, [], ◌++◌, length, map, ◌⊎◌, Option, Some, None, is_some, slice_get, ◌-◌}
-use Rattle.std.specs.List.{IsDistinct}
+use Rattle.std.specs.Prelude.{◌≡◌, ℕ, ◌+◌, ◌<◌, ◌≤◌, Bool, true, false, not, ◌&&◌, List, [], ◌++◌, length, ◌⊎◌, Option, Some, None, is_some, slice_get}
 use Rattle.fab_base.specs.declared.identities.BrickId.{BrickId}
+use Rattle.fab_base.specs.declared.identities.ViewNo.{ViewNo}
+use Rattle.messages.specs.declared.replies.Lineage.{Lineage}
+use Rattle.fab_base.specs.declared.stamps.Ballot.{Ballot}
 use Rattle.fab_base.specs.declared.stamps.Stamp.{Stamp}
 use Rattle.fab_base.specs.declared.asks.Op.{Op}
 use Rattle.fab_base.specs.declared.asks.Op.TheVariants.{ReadBlock, WriteBlock, ReadStripe, WriteStripe}
@@ -22,65 +24,27 @@ use Rattle.reg_model.specs.Marks.{life_of, IsOpen, stripe_marks, IsWellFormed}
 use Rattle.reg_model.specs.Registers.{zero_registers, block_of, with_block}
 use Rattle.reg_model.specs.Strict.{IsStrict}
 use Rattle.reg_model.specs.Walk.{last_of}
-use Rattle.fab_base.specs.Layouts.{Layout, Group, group_of, seat_in, brick_at}
-use Rattle.quorum.specs.Quorums.{quorum_of, IsWithinLimits}
+use Rattle.fab_base.specs.Layouts.{Group, group_of, seat_in, brick_at}
+use Rattle.quorum.specs.Quorums.{quorum_of}
 use Rattle.protocol.specs.Settings.{Setting, IsSound}
-use Rattle.protocol.specs.Views.{Views, layout_views, views_in, view_of, floor_of, group_in}
+use Rattle.protocol.specs.Views.{Views, first_kept, view_of, group_in}
 use Rattle.protocol.specs.Replicas.{Replica, is_held, is_wanted}
 use Rattle.protocol.specs.declared.phases.Counted.{Counted}
 use Rattle.protocol.specs.declared.phases.Phase.TheVariants.{Bases}
-use Rattle.protocol.specs.Coordinators.{Coordinator, most_rounds, greatest_refuser, lowest_full, told_in, counts_at, with_reply, pieces_at, delta_at}
-use Rattle.protocol.specs.Nodes.{view_at, top_at, has_later_time}
+use Rattle.protocol.specs.Coordinators.{Coordinator, most_rounds, greatest_refuser, lowest_full, lowest_mover, told_in, counts_at, with_reply, pieces_at, delta_at}
+use Rattle.protocol.specs.Nodes.{view_at, has_accepted, has_later_time}
 use Rattle.protocol.specs.Worlds.{World, Event, Operation, content_on, first_world, mark_of, known_in, happens, run}
 use Rattle.protocol.specs.Happenings.{is_of, effect_in, happenings_of}
+pub use Rattle.view_laws.specs.Following.{WasSent, top_in, AtQuorum, IsGuarded, Follows, RunFollows}
 use Rattle.protocol_laws.specs.Marked.{WordsFit, AreWithoutGaps, OwnMarks}
-
--- the packet was sent
-abbrev pub WasSent : World → Packet → Type 0
-WasSent w packet = (k : ℕ) × (slice_get w.packets k ≡ Some packet)
 
 -- a brick's part of a stripe in a view
 abbrev pub part_in : World → ℕ → ℕ → ℕ → ℕ → Replica
 part_in w group view stripe brick = (w.nodes brick).replicas group view stripe
 
--- the stamp below which a brick takes nothing for a stripe
-abbrev pub top_in : World → ℕ → ℕ → ℕ → Stamp
-top_in w group stripe brick = top_at (w.nodes brick) group stripe
-
--- a test holds at a quorum of the group's seats
-abbrev pub AtQuorum : Group → (ℕ → Bool) → Type 0
-AtQuorum group test = quorum_of group ≤ count (length group.members) test
-
--- a quorum of the group's members takes nothing below this stamp for the stripe
-abbrev pub IsGuarded : World → ℕ → ℕ → Group → Stamp → Type 0
-IsGuarded w number stripe group stamp = AtQuorum group (λ seat. not (stamp_below (top_in w number stripe (brick_at group seat)) stamp))
-
--- A world follows an assignment of members to views: each of its lists is within the limits of its group's m, and distinct; what a brick has
--- learnt as its view is the assignment's, and so are the members of the view before that; and where a brick has learnt a view, a quorum of each view before that takes nothing below the next.
-pub record Follows (layout : Layout) (views : Views) (w : World) : Type 0 where
-  pub limits : (number view : ℕ) (group : Group) → group_in layout views number view ≡ Some group → IsWithinLimits group.m (length group.members)
-  pub distinct : (number view : ℕ) (group : Group) → group_in layout views number view ≡ Some group → IsDistinct nat_eq (map (λ member. member.0) group.members)
-  pub learnt : (brick number : ℕ) → ((w.nodes brick).learnt number).view.members ≡ views number (view_at (w.nodes brick) number)
-  pub prior : (brick number : ℕ) → 1 < view_at (w.nodes brick) number → ((w.nodes brick).learnt number).view.prior ≡ views number (view_at (w.nodes brick) number - 1)
-  pub passed : (brick number view stripe : ℕ) (group : Group) → 1 ≤ view → view < view_at (w.nodes brick) number → group_in layout views number view ≡ Some group
-      → IsGuarded w number stripe group (floor_of (view + 1))
-
--- a run follows an assignment where each world on its way does
-abbrev pub RunFollows : Setting → Views → List Event → Type 0
-RunFollows setting views events =
-    (earlier later : List Event) → events ≡ earlier ++ later → Follows setting.layout views (run setting earlier (first_world setting.layout))
-
--- every run follows the members that its messages teach
-abbrev pub EveryRunFollowsItsViews : Type 0
-EveryRunFollowsItsViews =
-    (setting : Setting) (events : List Event) → IsSound setting
-    → RunFollows setting (views_in setting.layout (run setting events (first_world setting.layout)).packets) events
-
--- the members that a run's messages teach are the layout's, in every view: no message names any yet
-abbrev pub EveryRunKeepsItsMembers : Type 0
-EveryRunKeepsItsMembers =
-    (setting : Setting) (events : List Event) (group view : ℕ)
-    → views_in setting.layout (run setting events (first_world setting.layout)).packets group view ≡ layout_views setting.layout group view
+-- the first view of a group whose versions a brick keeps
+abbrev pub first_kept_in : World → ℕ → ℕ → ℕ
+first_kept_in w group brick = first_kept ((w.nodes brick).learnt group)
 
 -- a request was sent, under a call, to a brick
 abbrev pub RequestSent : World → Call → BrickId → BrickId → Request → Type 0
@@ -198,10 +162,10 @@ CollectsStand setting views w =
     (call : Call) (from to : BrickId) (version : Stamp) (group : Group) → group_in setting.layout views call.group.0 (view_of version) ≡ Some group
     → RequestSent w call from to (Request.Collect version) → IsHeldByQuorum w call.group.0 call.stripe.0 group version
 
--- A version that a member has held it keeps, or it keeps a later one that a quorum of that one's view has held.
+-- A version that a member has held, of a view whose versions it keeps, it keeps, or it keeps a later one that a quorum of that one's view has held.
 abbrev pub DropsOnlyOlder : Setting → Views → World → Type 0
 DropsOnlyOlder setting views w =
-    (number stripe brick : ℕ) (version : Stamp) → w.held brick number stripe version ≡ true
+    (number stripe brick : ℕ) (version : Stamp) → first_kept_in w number brick ≤ view_of version → w.held brick number stripe version ≡ true
     → (is_held version (part_in w number (view_of version) stripe brick).log ≡ true)
     ⊎ ((later : Stamp) × (is_held later (part_in w number (view_of version) stripe brick).log ≡ true) × (stamp_below version later ≡ true)
     × ((group : Group) → group_in setting.layout views number (view_of later) ≡ Some group → IsHeldByQuorum w number stripe group later))
@@ -210,15 +174,15 @@ DropsOnlyOlder setting views w =
 abbrev pub NeverFalls : World → World → Type 0
 NeverFalls old new = (group stripe brick : ℕ) → stamp_below (top_in new group stripe brick) (top_in old group stripe brick) ≡ false
 
--- no brick adds a version to a log below the stamp below which it takes nothing
+-- no brick adds a version to a log of a view whose versions it keeps, below the stamp below which it takes nothing
 abbrev pub AddsNothingBelow : World → World → Type 0
 AddsNothingBelow old new =
-    (group view stripe brick : ℕ) (version : Stamp) → is_held version (part_in new group view stripe brick).log ≡ true
+    (group view stripe brick : ℕ) (version : Stamp) → first_kept_in new group brick ≤ view → is_held version (part_in new group view stripe brick).log ≡ true
     → (is_held version (part_in old group view stripe brick).log ≡ true) ⊎ (stamp_below version (top_in old group stripe brick) ≡ false)
 
--- no order stamp is replaced by one of an earlier time
+-- no order stamp of a view whose versions a brick keeps is replaced by one of an earlier time
 abbrev pub OrdersRise : World → World → Type 0
-OrdersRise old new = (group view stripe brick : ℕ) → (part_in old group view stripe brick).order.time ≤ (part_in new group view stripe brick).order.time
+OrdersRise old new = (group view stripe brick : ℕ) → first_kept_in new group brick ≤ view → (part_in old group view stripe brick).order.time ≤ (part_in new group view stripe brick).order.time
 
 -- a member says that it stored a version only where it was asked to, and has held it
 abbrev pub StoredIsHeld : World → Type 0
@@ -290,10 +254,22 @@ pub record FullEvidence (w : World) (n : ℕ) (o : Operation) (brick : BrickId) 
   pub lowest : lowest_full (w.replies n call.phase) ≡ Some (record { seat = seat; brick = brick; live = live })
   pub final : IsLastPhase w n call.phase
 
--- the evidence of an abort, by its cause: there are two causes
+-- What the abort of operation n for a member that serves its view no more shows: in the last phase of this very operation the brick had
+-- told the coordinator of this later view, and no reply that counted in that phase told one from a lower seat.
+pub record MovedEvidence (w : World) (n : ℕ) (o : Operation) (brick : BrickId) (view : ViewNo) : Type 0 where
+  pub call : Call
+  pub seat : ℕ
+  pub lineage : Option Lineage
+  pub own : IsCallOf call o
+  pub told : WasSent w (record { from = brick; to = o.brick; message = Message.Reply call (Reply.Moved view lineage) })
+  pub lowest : lowest_mover (w.replies n call.phase) ≡ Some (record { seat = seat; brick = brick; view = view })
+  pub final : IsLastPhase w n call.phase
+
+-- the evidence of an abort, by its cause: there are three causes
 abbrev pub Evidence : World → ℕ → Operation → Cause → Type 0
 Evidence w n o (Cause.Later brick x) = LaterEvidence w n o brick x
 Evidence w n o (Cause.Full brick live) = FullEvidence w n o brick live
+Evidence w n o (Cause.Moved brick view) = MovedEvidence w n o brick view
 Evidence w n o cause = ⊥
 
 -- each reply that counted in a phase of an operation was sent to it, as a reply to that phase
@@ -305,10 +281,22 @@ CountedWereSent w =
     × WasSent w (record { from = x.brick; to = o.brick; message = Message.Reply call x.reply }))
 
 -- A message that was sent says what was so of its brick then, where it refuses: of a later stamp, that the brick took nothing below just that
--- stamp for the stripe; of a full store, that it kept so many live records.
+-- stamp for the stripe; of a full store, that it kept so many live records; of a later view with its members, that it had learnt just that; of one
+-- without, that it had learnt the call's view, and accepted a list to follow it; of a view that is not synced, that it had learnt the call's view, and did
+-- not know all stripes to be kept in it; of a greater ballot, that it had learnt the call's view, and promised to that ballot.
 abbrev pub RefusalIsTrue : World → BrickId → Message → Type 0
 RefusalIsTrue w from (Message.Reply call (Reply.Later x)) = top_in w call.group.0 call.stripe.0 from.0 ≡ x
 RefusalIsTrue w from (Message.Reply call (Reply.Full live)) = (w.nodes from.0).live ≡ live
+RefusalIsTrue w from (Message.Reply call (Reply.Moved number (Some lineage))) =
+    (call.view.0 < number.0)
+    × (((w.nodes from.0).learnt call.group.0).view ≡ record { number = number; members = lineage.members; prior = lineage.prior })
+RefusalIsTrue w from (Message.Reply call (Reply.Moved number None)) =
+    (number.0 ≡ call.view.0 + 1) × (view_at (w.nodes from.0) call.group.0 ≡ call.view.0) × (has_accepted (w.nodes from.0) call.group.0 ≡ true)
+RefusalIsTrue w from (Message.Reply call Reply.NotSynced) =
+    (view_at (w.nodes from.0) call.group.0 ≡ call.view.0) × (((w.nodes from.0).learnt call.group.0).synced ≡ false)
+RefusalIsTrue w from (Message.Reply call (Reply.Outbid ballot)) =
+    (view_at (w.nodes from.0) call.group.0 ≡ call.view.0)
+    × ((accepted : Option (Ballot × List BrickId)) × ((w.nodes from.0).ballots call.group.0 ≡ Some (ballot, accepted)))
 RefusalIsTrue w from message = Unit {0}
 
 -- A moment of the run that led to a world: the one just before the event that sent the packet of a place among those sent.
@@ -358,6 +346,7 @@ BasesAreFound setting w =
     → counts_at setting.layout.block c from.0 c.call reply ≡ Some seat
     → quorum_of c.group ≤ length (with_reply c seat from reply).counted
     → (is_some (greatest_refuser (with_reply c seat from reply).counted) ≡ false) → (is_some (lowest_full (with_reply c seat from reply).counted) ≡ false)
+    → (is_some (lowest_mover (with_reply c seat from reply).counted) ≡ false)
     → c.group.m ≤ length (pieces_at base (with_reply c seat from reply).counted)
 
 -- The laws of a world, for an assignment of members to views.

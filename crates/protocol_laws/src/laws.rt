@@ -1,15 +1,6 @@
 //! The laws of the disk. Each call does nothing: its contract is the law.
 
-ghost use Rattle.protocol_laws.specs.Laws.{EveryRunFollowsItsViews, EveryRunKeepsItsMembers, EveryRunKeepsTheLaws, NeverSurfaces, NoEventLowers};
-
-/// Every run follows the members that its messages teach: those of view 1 are the layout's, and those of a later view are what the first
-/// message named that taught it.
-///
-/// So the laws below hold of every run, for these members. No message teaches a view yet, so they are the layout's in every view.
-pub fn every_run_follows_its_views()
-    ensures follows { EveryRunFollowsItsViews }
-    ensures members { EveryRunKeepsItsMembers }
-{}
+ghost use Rattle.protocol_laws.specs.Laws.{EveryRunKeepsTheLaws, NeverSurfaces, NoEventLowers};
 
 /// Every run of the disk keeps its laws, whatever is asked of it, whatever its clocks read, whichever of its
 /// bricks stop and start again, whether a handling that a stop cut short had kept its change or not, and whichever of its
@@ -33,8 +24,10 @@ pub fn every_run_follows_its_views()
 /// - Whenever a version was sent to be stored, a quorum of its view took nothing below its stamp then, and has so ever since; and its
 ///   operation had not ended.
 /// - A member says that it stored a version only where it was asked to, and has held it.
-/// - Members are told to drop what is below a version only after a quorum of its view has held it; and what a member dropped lies
-///   below a version that it keeps, and that a quorum has held. What a quorum "has held", each of its members has kept at some time.
+/// - Members are told to drop what is below a version only after a quorum of its view has held it; and what a member dropped, of a
+///   view whose versions it keeps, lies below a version that it keeps, and that a quorum has held. What a quorum "has held", each of
+///   its members has kept at some time. A member keeps the versions of the view that it has learnt, and those of the one before while
+///   it does not know all stripes to be kept in the learnt one.
 /// - A version's content is what its maker makes of its base's: a stripe write's bytes, what a recovery read back, or that with the
 ///   one block that is written. The content of the first version is zero.
 /// - A version that is made on a base, as a recovery's or a block write's is, is above it; and no quorum of its view has held a
@@ -44,14 +37,18 @@ pub fn every_run_follows_its_views()
 /// - Of two neighbours among the versions that take effect, the upper was written whole, or was made on the lower. The lowest is the
 ///   first version, or was written whole, or was made on the first one.
 /// - Each reply that counted in a phase of an operation was sent to its coordinator, as a reply to that phase.
-/// - An operation is aborted for a later stamp or for a full store, and for nothing else.
+/// - An operation is aborted for a later view, for a later stamp or for a full store, and for nothing else.
 /// - For a later stamp only where, in its last phase, a member had told its coordinator of a later stamp than the one that it was
 ///   asked at, and no reply that counted in that phase told a greater one, or an equal one from a lower seat. A round of ordering,
 ///   of which an operation has four at most, aborts only where no other may follow: the three rounds before it had each counted a
 ///   later stamp, or its coordinator knows no later time. What asks to modify or to store is no such round, and is not tried again.
 /// - For a full store only where, in its last phase, that member had told its coordinator so, the one of the lowest seat of those
 ///   whose replies counted.
-/// - What a refusal tells was true of its member when it was sent: it had come to just that stamp, or it kept so many live records.
+/// - For a later view only where, in its last phase, that member had told its coordinator of it, the one of the lowest seat of those
+///   whose replies counted that told of one.
+/// - What a refusal tells was true of its member when it was sent: it had come to just that stamp, or it kept so many live records, or
+///   it had learnt just that later view; or it had learnt the view of the call, and had accepted a list to follow it, or did not know
+///   that all stripes are kept in it, or had promised to just that ballot.
 ///   A member says that its store is full only with as many live records as a brick may keep.
 /// - Each answer has the word of its operation: a read is answered the data of its block, or of its m blocks, a write that it is
 ///   done; any may be aborted.
@@ -62,8 +59,9 @@ pub fn every_run_keeps_the_laws()
 {}
 
 /// No event of any run lowers the stamp below which a brick takes nothing for a stripe: the greatest of what it has promised, what it
-/// has stored and what it has learnt of views never falls; no event adds a version to a log below that (Frølund et al., DSN 2004); and
-/// none replaces an order stamp by one of an earlier time. This holds for every layout and every code.
+/// has stored and what it has learnt of views never falls; in the views whose versions a brick keeps no event adds a version to a log
+/// below that (Frølund et al., DSN 2004), and none replaces an order stamp by one of an earlier time. This holds for every layout and
+/// every code.
 pub fn no_event_lowers()
     ensures { NoEventLowers }
 {}

@@ -3,7 +3,4 @@
 
 pub mod laws;
 
-pub use laws::{
-    every_run_follows_its_views, every_run_keeps_the_laws, no_event_lowers,
-    no_lost_version_surfaces,
-};
+pub use laws::{every_run_keeps_the_laws, no_event_lowers, no_lost_version_surfaces};

@@ -14,7 +14,7 @@ use Rattle.replay.specs.declared.endings.RunResult.TheVariants as verdict
 use Rattle.replay.specs.declared.endings.Halt.{Halt}
 use Rattle.replay.specs.Inputs.{Input, Parted, TooLong, Endless, most_layout_bytes, input_of, IsInput}
 use Rattle.printed.specs.Outputs.{left_by, steps_text}
-use Rattle.printed.specs.Spellings.{AllToldRead}
+use Rattle.printed.specs.Spellings.{WorldReads}
 use Rattle.printed.specs.LineSteps.{StartsFresh}
 use Rattle.replay.specs.Outputs.{onto, output_behind, output_of, bad_layout}
 use Rattle.replay.specs.Turns.{Prints, AreLinesOf, PrintsRest, PrintsHeaded, PrintsInput}
@@ -104,7 +104,7 @@ PrintsHeaded-lines head layout run left old new r is first fresh p =
       told = λ e other schedule found same here.
           let text_is : head ≡ other = (let parted : Parted head (p.done ++ p.behind) ≡ Parted other schedule = same in cc) in
           let layout_is : layout ≡ found = (let both : Ok layout ≡ Ok found = sym is ∙ ap layout_of text_is ∙ here in cc) in
-          subst (λ (l : Layout). AllToldRead (left_by l p.steps).marks) layout_is (subst (λ (w : World). AllToldRead w.marks) world (p.told e));
+          subst (λ (l : Layout). WorldReads (left_by l p.steps)) layout_is (subst (λ (w : World). WorldReads w) world (p.told e));
     }
 
 -- the output of an equal layout's text

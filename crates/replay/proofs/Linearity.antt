@@ -7,13 +7,15 @@ use Rattle.lines.specs.Lines.{raw_lines, content}
 use Rattle.fab_base.specs.Layouts.{Layout}
 use Rattle.protocol.specs.Views.{views_in}
 use Rattle.protocol.specs.Worlds.{World, first_world}
+use Rattle.view_laws.proofs.Followed.{every_run_follows}
+use Rattle.view_laws.proofs.Named.{every_one_successor, every_name_is_chosen, every_proposal_shows}
 use Rattle.protocol_laws.specs.Laws.{Laws}
+use Rattle.protocol_laws.proofs.EveryRun.{every_views_run}
 use Rattle.stripe_code.specs.Codes.{coding}
 use Rattle.stripe_code.proofs.Soundness.{coding_is_sound}
 use Rattle.layout.specs.Limits.{IsLayout}
 use Rattle.layout.proofs.Accepted.{accepted_is}
-use Rattle.world.specs.Runs.{Step}
-use Rattle.world.proofs.RunLaws.{laws_of}
+use Rattle.world.specs.Runs.{Step, all_events}
 use Rattle.replay.specs.declared.endings.RunResult.{RunResult}
 use Rattle.replay.specs.declared.endings.RunResult.TheVariants.{Whole, BadLine, TooManyLines}
 use Rattle.replay.specs.declared.endings.Halt.{Halt}
@@ -22,12 +24,12 @@ use Rattle.printed.specs.Outputs.{left_by, steps_text, closing_text, most_lines}
 use Rattle.printed.specs.Printed.{ArePrinted}
 use Rattle.printed.specs.LineSteps.{AreStepsOf}
 use Rattle.printed.specs.Sound.{ReadsBack, IsSoundText}
-use Rattle.printed.specs.Spellings.{AllToldRead}
+use Rattle.printed.specs.Spellings.{WorldReads}
 use Rattle.printed.proofs.PrintedMarks.{schedule_printed}
 use Rattle.printed.proofs.Sound.{what_is_printed_reads_back, what_is_printed_audits}
 use Rattle.replay.specs.Outputs.{Output, onto, output_line, output_behind, output_of}
 use Rattle.replay.specs.LineSteps.{BeginsWith, AreStepsIn}
-use Rattle.replay.specs.Turns.{AllToldReadOf}
+use Rattle.replay.specs.Turns.{WorldReadsOf}
 use Rattle.replay.specs.Replays.{IsStrictWorld, IsLinearizable, StaysStrict}
 use Rattle.replay.proofs.OutputLines.{output_behind-end, output_of-steps}
 use Rattle.replay.proofs.Successions.{follows_steps}
@@ -37,20 +39,33 @@ use Rattle.replay.proofs.Auditing.{sound_alone}
 strict_world : (layout : Layout) → IsLayout layout → (steps : List Step) → IsStrictWorld layout (left_by layout steps)
 strict_world layout is steps =
     let kept : Laws (coding layout) (views_in layout (left_by layout steps).packets) (left_by layout steps) =
-    laws_of (record { layout = layout; steps = steps; disks = [] }) (coding_is_sound layout is) in
-    record { well_formed = kept.well_formed; words = kept.words; strict = kept.strict; aborts_show = kept.aborts; laws = kept }
+    every_views_run (coding layout) (all_events steps) (coding_is_sound layout is) in
+    record {
+      well_formed = kept.well_formed;
+      words = kept.words;
+      strict = kept.strict;
+      aborts_show = kept.aborts;
+      laws = kept;
+      views = record {
+        one_successor = every_one_successor (coding layout) (all_events steps) (coding_is_sound layout is);
+        names_are_chosen = every_name_is_chosen (coding layout) (all_events steps) (coding_is_sound layout is);
+        ends_show = every_proposal_shows (coding layout) (all_events steps) (coding_is_sound layout is);
+      };
+    }
 
 -- the lines that the steps of a schedule print
 printed_steps : (layout : Layout) (schedule : List (List ℕ)) (steps : List Step) → AreStepsOf layout schedule steps → ArePrinted layout steps
 printed_steps layout schedule steps are =
     let shown = schedule_printed layout schedule steps are in
-    record { printed = shown.printed; text_is = shown.text_is; marks_are = sym shown.marks_are }
+    record { printed = shown.printed; text_is = shown.text_is; marks_are = sym shown.marks_are; reports_are = sym shown.reports_are }
 
 -- however far a run comes, what its lines left is printed and strict, and what further lines leave follows it
 pub stays_strict : (input : Input) → StaysStrict input
 stays_strict input = record {
   are_printed = λ layout steps begins. printed_steps layout begins.schedule steps begins.steps_are;
   strict = λ layout steps begins. strict_world layout (accepted_is begins.head layout begins.layout_is) steps;
+  follows_views = λ layout steps begins. every_run_follows (coding layout) (all_events steps)
+      (coding_is_sound layout (accepted_is begins.head layout begins.layout_is));
   follows = λ layout steps more begins. follows_steps layout (coding_is_sound layout (accepted_is begins.head layout begins.layout_is)) steps more;
 }
 
@@ -67,7 +82,7 @@ none_left layout w n (content ∷ rest) whole = absurd (line_left n (nat_lt n mo
 
 -- what was printed of an input that ends as whole is strict
 pub linearizable : (input : Input) (steps : List Step) (ending : Result RunResult Halt) → ending ≡ Ok Whole → AreStepsIn input steps ending
-    → (output_of steps input).verdict ≡ Some Whole → AllToldReadOf input steps → IsLinearizable input (output_of steps input).text
+    → (output_of steps input).verdict ≡ Some Whole → WorldReadsOf input steps → IsLinearizable input (output_of steps input).text
 linearizable input steps ending all are whole told =
     elim are [
       | inl some ↦ begun some.0 some.1 some.2
@@ -87,7 +102,7 @@ linearizable input steps ending all are whole told =
         ∙ ap (λ (rest : List (List ℕ)). text ++ (output_behind layout world (length steps) rest).text) none
         ∙ ap (λ (o : Output). text ++ o.text) (output_behind-end layout world (length steps))
         in
-        let all_told : AllToldRead (left_by layout steps).marks = told b.head (b.schedule ++ b.rest) layout b.input_is b.layout_is in
+        let all_told : WorldReads (left_by layout steps) = told b.head (b.schedule ++ b.rest) layout b.input_is b.layout_is in
         let sound : IsSoundText layout (output_of steps input).text =
         subst (IsSoundText layout) (sym text_is) (what_is_printed_audits b.head layout b.schedule steps b.layout_is b.steps_are few all_told)
         in

@@ -29,7 +29,7 @@ use Rattle.replay.specs.declared.endings.Halt.{Halt}
 use Rattle.printed.specs.Outputs.{most_lines, steps_text}
 use Rattle.replay.specs.Outputs.{Output, onto, output_behind, finished, bad_line, too_many_lines}
 use Rattle.printed.specs.LineSteps.{LeadsTo, AreLinesOfSteps}
-use Rattle.printed.specs.Spellings.{AllToldRead}
+use Rattle.printed.specs.Spellings.{WorldReads}
 use Rattle.printed.proofs.PrintedMarks.{after_step}
 use Rattle.replay.specs.Turns.{Prints, AreLinesOf, PrintsRest, PrintsLine, LineRuns, LineBegins, LineTurnMeans, PieceMeans, TurnMeans, IsTheEnd}
 use Rattle.replay.specs.Readings.{LinesSoFar, ReadsPart}
@@ -41,7 +41,7 @@ use Rattle.replay.proofs.LeftLines.{some_lines, no_lines, taken_lines, first_lin
 
 -- no line was run: what was printed is what stands behind those that were
 PrintsRest-none : (run : Run) (n : ℕ) (left old new : Option (List ℕ)) (r : Result RunResult Halt) (behind : List (List ℕ)) → n ≤ most_lines
-    → AreLinesOf left behind → (r ≡ Ok verdict.Whole → AllToldRead (world_of run).marks)
+    → AreLinesOf left behind → (r ≡ Ok verdict.Whole → WorldReads (world_of run))
     → Prints old new (output_behind run.layout (world_of run) n behind) r → PrintsRest run n left old new r
 PrintsRest-none run n left old new r behind within are told p =
     let none : n ≡ n + 0 = omega arith in
@@ -61,7 +61,7 @@ PrintsRest-none run n left old new r behind within are told p =
 -- the next line was run: what was printed is its text, and what stands behind it
 PrintsRest-one : (before after : Run) (n : ℕ) (left old new : Option (List ℕ)) (r : Result RunResult Halt) (content : List ℕ) (rest : List (List ℕ)) (step : Step)
     → n < most_lines → AreLinesOf left (content ∷ rest) → line_of content ≡ Some step.line → Runs before after step.line step
-    → (r ≡ Ok verdict.Whole → AllToldRead (world_of after).marks)
+    → (r ≡ Ok verdict.Whole → WorldReads (world_of after))
     → Prints old new (onto (step_text (coding before.layout) (world_of before) step) (output_behind before.layout (world_of after) (n + 1) rest)) r
     → PrintsRest before n left old new r
 PrintsRest-one before after n left old new r content rest step within are is runs told p =
@@ -88,7 +88,7 @@ PrintsRest-stopped run n left old halt within =
 
 -- no line is left
 pub PrintsRest-ended : (run : Run) (n : ℕ) (left old new : Option (List ℕ)) (r : Result RunResult Halt) → n ≤ most_lines → IsAtEnd left
-    → (r ≡ Ok verdict.Whole → AllToldRead (world_of run).marks) → Prints old new (finished run.layout (world_of run) n) r
+    → (r ≡ Ok verdict.Whole → WorldReads (world_of run)) → Prints old new (finished run.layout (world_of run) n) r
     → PrintsRest run n left old new r
 PrintsRest-ended run n left old new r within end told p =
     PrintsRest-none run n left old new r [] within (no_lines left end) told
@@ -180,7 +180,7 @@ PrintsRest-line run n left rest old new line r passes p = let first = first_line
 -- the last line was run, and the output closed
 pub PrintsRest-last : (before after : Run) (n : ℕ) (left rest old mid new : Option (List ℕ)) (line : List ℕ) (r : Result RunResult Halt)
     → n < most_lines → Passes left rest (line ∷ []) → IsAtEnd rest → LineRuns before after (content line) old mid
-    → (r ≡ Ok verdict.Whole → AllToldRead (world_of after).marks)
+    → (r ≡ Ok verdict.Whole → WorldReads (world_of after))
     → Prints mid new (finished after.layout (world_of after) (n + 1)) r → PrintsRest before n left old new r
 PrintsRest-last before after n left rest old mid new line r within passes end l told p =
     let text = step_text (coding before.layout) (world_of before) l.step in
@@ -223,7 +223,7 @@ PieceMeans-line run n piece line old new r is p left rest says =
 -- the last line was run, and the output closed
 pub PieceMeans-last : (before after : Run) (n : ℕ) (piece : NextLine) (line : List ℕ) (old mid new : Option (List ℕ)) (r : Result RunResult Halt)
     → n < most_lines → piece ≡ Last line → LineRuns before after (content line) old mid
-    → (r ≡ Ok verdict.Whole → AllToldRead (world_of after).marks)
+    → (r ≡ Ok verdict.Whole → WorldReads (world_of after))
     → Prints mid new (finished after.layout (world_of after) (n + 1)) r → PieceMeans before n piece old new r
 PieceMeans-last before after n piece line old mid new r within is l told p left rest given =
     let says = subst (Says 70000 left rest) is given in

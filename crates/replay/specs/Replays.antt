@@ -13,13 +13,14 @@ use Rattle.fab_base.specs.Layouts.{Layout, Group, group_of}
 use Rattle.protocol.specs.Views.{views_in}
 use Rattle.protocol.specs.Worlds.{World, first_world}
 use Rattle.protocol.specs.Happenings.{happenings_of}
+use Rattle.view_laws.specs.Following.{RunFollows}
 use Rattle.protocol_laws.specs.Laws.{AbortsShow, Laws}
 use Rattle.protocol_laws.specs.Marked.{WordsFit}
 use Rattle.stripe_code.specs.Codes.{coding}
 use Rattle.layout.specs.Texts.{layout_of}
 use Rattle.audit.specs.declared.findings.Finding.TheVariants.{Sound}
 use Rattle.audit.specs.declared.examining.AuditResult.TheVariants.{Judged}
-use Rattle.world.specs.Runs.{Step}
+use Rattle.world.specs.Runs.{Step, all_events}
 use Rattle.fab_base.specs.Texts.{newline}
 use Rattle.replay.specs.declared.endings.RunResult.{RunResult}
 use Rattle.replay.specs.declared.endings.RunResult.TheVariants.{Whole, BadLayout, BadLine, TooManyLines, Refuted}
@@ -35,7 +36,7 @@ use Rattle.printed.specs.Printed.{ArePrinted}
 use Rattle.replay.specs.Turns.{Prints}
 use Rattle.replay.specs.declared.audits.Audited.TheVariants.{Examined}
 use Rattle.replay.specs.AuditFindings.{FindsAlone}
-use Rattle.replay.specs.Histories.{Succeeds}
+use Rattle.replay.specs.Histories.{Succeeds, ViewsHold}
 
 -- the words are this one word
 abbrev pub is_word : List ℕ → List (List ℕ) → Bool
@@ -69,7 +70,7 @@ Refuses usage old new status = ((status ≡ 2) × Appends old new usage) ⊎ (((
 
 -- What lines left is strict: the marks are well formed, and each answer has the word of its operation; the happenings of each stripe are
 -- strict for its marks; and every abort shows its evidence. Beside these all laws of the disk hold of it, for the members that its messages
--- teach.
+-- teach, and all laws of views.
 pub record IsStrictWorld (layout : Layout) (world : World) : Type 0 where
   pub well_formed : IsWellFormed world.marks
   pub words : WordsFit layout world.marks
@@ -77,10 +78,11 @@ pub record IsStrictWorld (layout : Layout) (world : World) : Type 0 where
       → IsStrict group.m layout.block (stripe_marks g s world.marks) (happenings_of world g s)
   pub aborts_show : AbortsShow world
   pub laws : Laws (coding layout) (views_in layout world.packets) world
+  pub views : ViewsHold layout world
 
 -- What was printed is strict. The input has a layout and a schedule, and there is a step for each line of the schedule; the text is
 -- that of the steps and then the happenings of each stripe in the world that they leave, which is strict. Each
--- line of their text is a mark, a refusal or `idle`, and the marks among them are, in order, those of that world. Read as anyone may read
+-- line of their text is a mark, a report, a refusal or `idle`, and the marks and the reports among them are, in order, those of that world. Read as anyone may read
 -- it, the text says just these marks and happenings, and an audit of it behind the layout's text finds it sound, and nothing else.
 pub record IsLinearizable (input : Input) (text : List ℕ) : Type 0 where
   pub head : List ℕ
@@ -100,12 +102,14 @@ pub record IsLinearizable (input : Input) (text : List ℕ) : Type 0 where
   pub is_sound : IsSoundText layout text
   pub audits : FindsAlone (Parted head (map content (raw_lines text))) (Examined (Judged Sound))
 
--- However far a run comes, the lines of the text of its steps are marks, refusals or `idle`, the marks being those that they left by then.
--- What they left is strict, and what further steps leave follows it: no brick takes anything below what it took nothing below, and no
--- version that was lost has surfaced.
+-- However far a run comes, the lines of the text of its steps are marks, reports, refusals or `idle`, the marks and the reports being those that they left by then.
+-- What they left is strict, and each world on the way follows the members that its messages teach. What further steps leave follows it: no brick takes
+-- anything below what it took nothing below, no version that was lost has surfaced, and no choice of a view's members is undone.
 pub record StaysStrict (input : Input) : Type 0 where
   pub are_printed : (layout : Layout) (steps : List Step) → BeginsWith input layout steps → ArePrinted layout steps
   pub strict : (layout : Layout) (steps : List Step) → BeginsWith input layout steps → IsStrictWorld layout (left_by layout steps)
+  pub follows_views : (layout : Layout) (steps : List Step) → BeginsWith input layout steps
+      → RunFollows (coding layout) (views_in layout (left_by layout steps).packets) (all_events steps)
   pub follows : (layout : Layout) (steps more : List Step) → BeginsWith input layout (steps ++ more)
       → Succeeds layout (left_by layout steps) (left_by layout (steps ++ more))
 

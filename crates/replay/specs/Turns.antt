@@ -20,7 +20,7 @@ use Rattle.replay.specs.declared.heads.Head.{Head}
 use Rattle.replay.specs.declared.heads.Head.TheVariants.{Text, Alone}
 use Rattle.replay.specs.Inputs.{Input, Parted, TooLong, Endless, most_layout_bytes, IsInput}
 use Rattle.printed.specs.Outputs.{most_lines, left_by, steps_text}
-use Rattle.printed.specs.Spellings.{AllToldRead}
+use Rattle.printed.specs.Spellings.{WorldReads}
 use Rattle.replay.specs.Outputs.{Output, onto, output_behind, output_of}
 use Rattle.printed.specs.LineSteps.{LeadsTo, AreLinesOfSteps}
 use Rattle.replay.specs.LineSteps.{AreStepsIn}
@@ -31,11 +31,11 @@ abbrev pub Prints : Option (List ℕ) → Option (List ℕ) → Output → Resul
 Prints old new output (Ok one) = (output.verdict ≡ Some one) × Appends old new output.text
 Prints old new output (Err halt) = AppendsFront old new output.text
 
--- in a run of all lines of this input, by these steps, what each mark says of why an operation was aborted has a spelling
-abbrev pub AllToldReadOf : Input → List Step → Type 0
-AllToldReadOf input steps =
+-- in a run of all lines of this input, by these steps, what the marks and the reports tell has a spelling
+abbrev pub WorldReadsOf : Input → List Step → Type 0
+WorldReadsOf input steps =
     (head : List ℕ) (schedule : List (List ℕ)) (layout : Layout) → input ≡ Parted head schedule → layout_of head ≡ Ok layout
-    → AllToldRead (left_by layout steps).marks
+    → WorldReads (left_by layout steps)
 
 -- these are the lines of what is left of the source, where it tells that
 abbrev pub AreLinesOf : Option (List ℕ) → List (List ℕ) → Type 0
@@ -43,7 +43,7 @@ AreLinesOf None contents = ⊤
 AreLinesOf (Some bytes) contents = map content (raw_lines bytes) ≡ contents
 
 -- A run that n lines have left took the steps of the first of the lines that are left, and printed their texts and what ends the
--- output behind them. Where it ran all, what each mark says of why an operation was aborted has a spelling.
+-- output behind them. Where it ran all, what its marks and reports tell has a spelling.
 pub record PrintsRest (run : Run) (n : ℕ) (left old new : Option (List ℕ)) (result : Result RunResult Halt) : Type 0 where
   pub done : List (List ℕ)
   pub behind : List (List ℕ)
@@ -55,7 +55,7 @@ pub record PrintsRest (run : Run) (n : ℕ) (left old new : Option (List ℕ)) (
   pub within : n + length steps ≤ most_lines
   pub printed : Prints old new (onto (steps_text (coding run.layout) (world_of run) steps)
       (output_behind run.layout (world_of last) (n + length steps) behind)) result
-  pub told : result ≡ Ok verdict.Whole → AllToldRead (world_of last).marks
+  pub told : result ≡ Ok verdict.Whole → WorldReads (world_of last)
 
 -- a line was run and printed
 pub record LineRuns (before after : Run) (content : List ℕ) (old new : Option (List ℕ)) : Type 0 where
@@ -113,7 +113,7 @@ pub record PrintsHeaded (head : List ℕ) (left old new : Option (List ℕ)) (re
   pub steps : List Step
   pub steps_are : AreStepsIn (Parted head schedule) steps result
   pub printed : Prints old new (output_of steps (Parted head schedule)) result
-  pub told : result ≡ Ok verdict.Whole → AllToldReadOf (Parted head schedule) steps
+  pub told : result ≡ Ok verdict.Whole → WorldReadsOf (Parted head schedule) steps
 
 -- What was read before the schedule of an input: a text within the limit, and the line that ends it; or what
 -- else the input is.
@@ -130,4 +130,4 @@ pub record PrintsInput (source old new : Option (List ℕ)) (result : Result Run
   pub steps : List Step
   pub steps_are : AreStepsIn input steps result
   pub printed : Prints old new (output_of steps input) result
-  pub told : result ≡ Ok verdict.Whole → AllToldReadOf input steps
+  pub told : result ≡ Ok verdict.Whole → WorldReadsOf input steps

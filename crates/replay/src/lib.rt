@@ -9,6 +9,7 @@ mod endings;
 mod heads;
 mod programs;
 mod schedules;
+mod spellings;
 mod texts;
 mod turns;
 

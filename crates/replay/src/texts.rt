@@ -6,8 +6,9 @@ ghost use Rattle.world.specs.Runs.{world_of};
 ghost use Rattle.world.specs.Walks.{AreEntriesOf};
 ghost use Rattle.transcript.specs.Kinds.{is_begin, is_answered, is_aborted, is_crash};
 ghost use Rattle.printed.specs.Outputs.{happened_text, stripes_text, stripes_of, groups_text, count_text, closing_text};
-ghost use Rattle.printed.specs.Spellings.{cause_told, ToldReads, AllToldRead};
+ghost use Rattle.printed.specs.Spellings.{cause_told, ToldReads, AllToldRead, WorldReads};
 
+use crate::spellings::look_at_reports;
 use fab_base::{Answer, Cause, GroupId, NoMem, StripeNo};
 use reg_model::{Happening, Mark};
 use std::alloc::Global;
@@ -184,13 +185,14 @@ fn count_text(alloc: Global, lines: u64, marks: &[Mark]) -> Result<String, NoMem
     )?)
 }
 
-/// What closes the output after this many lines. What the marks that it counts say of why operations were aborted has a spelling.
+/// What closes the output after this many lines. What the marks that it counts tell has a spelling, and so has what bricks reported.
 pub(crate) fn closing_text(alloc: Global, world: &World, lines: u64) -> Result<String, NoMem>
     ensures text { IfOk result (λ text. string_bytes text ≡ closing_text world.now.layout (world_of world.now) lines) }
-    ensures told { IfOk result (λ text. AllToldRead (world_of world.now).marks) }
+    ensures told { IfOk result (λ text. WorldReads (world_of world.now)) }
 {
     let mut text = groups_text(alloc, world)?;
     let counts = count_text(alloc, lines, world.marks())?;
+    look_at_reports(world.reports());
     text.push_str(counts.as_str())?;
     Ok(text)
 }

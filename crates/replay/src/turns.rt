@@ -7,7 +7,7 @@ ghost use Rattle.lines.specs.Lines.{content};
 ghost use Rattle.lines.specs.Reading.{Says, LineReads, taken_by};
 ghost use Rattle.world.specs.Runs.{world_of};
 ghost use Rattle.printed.specs.Outputs.{most_lines};
-ghost use Rattle.printed.specs.Spellings.{AllToldRead};
+ghost use Rattle.printed.specs.Spellings.{WorldReads};
 ghost use Rattle.replay.specs.Outputs.{finished, bad_line};
 ghost use Rattle.replay.specs.Turns.{Prints, LineMeans, LineTurnMeans, PieceMeans, TurnMeans, IsTheEnd};
 
@@ -91,7 +91,7 @@ pub(crate) fn finish<K: Sink>(
     lines: u64,
 ) -> Result<RunResult, Halt>
     ensures content { Prints (K.told sink.old) (K.told sink.new) (finished world.now.layout (world_of world.now) lines) result }
-    ensures told { result ≡ Ok RunResult.Whole → AllToldRead (world_of world.now).marks }
+    ensures told { result ≡ Ok RunResult.Whole → WorldReads (world_of world.now) }
     ensures kept { Kept (K.faults sink.old) (K.faults sink.new) (K.sound sink.old) (K.sound sink.new)
         (result ≡ Err Halt.Sink) }
     ensures cause { result ≢ Err Halt.Source }

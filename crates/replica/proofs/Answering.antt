@@ -6,6 +6,7 @@ use Rattle.fab_disk.specs.declared.disk.Disk as on_disk
 use Rattle.fab_disk.specs.Disk.{IsUntouched}
 use Rattle.fab_disk.specs.Changing.{End, Whole, Cut, NotBegun, Stands, Still}
 use Rattle.fab_disk.proofs.Changing.{widen, still}
+use Rattle.fab_base.specs.Layouts.{Layout}
 use Rattle.messages.specs.declared.replies.Reply.{Reply}
 use Rattle.messages.specs.declared.replies.Reply.TheVariants.{Full}
 use Rattle.frame_store.specs.declared.shapes.Shape.{Shape}
@@ -22,8 +23,7 @@ use Rattle.brick_store.specs.Images.{StandsFor}
 use Rattle.brick_store.specs.Lengths.{ListsBy}
 use Rattle.replica.specs.declared.faults.ReplicaFault.{ReplicaFault}
 use Rattle.replica.specs.declared.faults.ReplicaFault.TheVariants.{Disk, Halted, NoMemory}
-use Rattle.replica.specs.Parts.{part_in}
-use Rattle.replica.specs.Handling.{Runs, Handles, KeepsParts, StandsForNext, NextChange, KeepsNext, end_of, halted_after, answered, seen_as}
+use Rattle.replica.specs.Handling.{Runs, Handles, KeepsAll, StandsForNext, NextChange, KeepsNext, end_of, halted_after, answered, seen_as}
 use Rattle.replica.proofs.Runs.{run_of_none}
 
 differ : {A : Type 0} → false ≡ true → A
@@ -163,8 +163,8 @@ module _ {D A : Type 0} (d : on_disk.Ghosts D) (Follows : Option A → StateOf V
     shape = shape;
     stood = λ told running. runs.stands told;
     stands = λ told. on_ok (Stands d (StandsFor new.shape new.state) new.disk) result (stands_still told);
-    still = on_ok (KeepsParts old.shape.block old.state new.state → (new.state ≡ old.state)
-        × IsUntouched d.seen d.may_leave d.moment d.left_since old.disk new.disk) result (λ same. (state, untouched));
+    still = on_ok ((layout : Layout) → KeepsAll layout old.shape.block old.state new.state → (new.state ≡ old.state)
+        × IsUntouched d.seen d.may_leave d.moment d.left_since old.disk new.disk) result (λ layout same. (state, untouched));
     halted = not_running old result runs;
     only_halted = λ is. absurd (not_halted is);
     halts = halted ∙ same_halted old.halted result not_disk;
@@ -186,10 +186,10 @@ module _ {D A : Type 0} (d : on_disk.Ghosts D) (Follows : Option A → StateOf V
 
 module _ {D : Type 0} (d : on_disk.Ghosts D) (Follows : Option Reply → StateOf Version → Type 0) where
   -- A change of the store, and the reply that says so, if there is one.
-  module _ (g e s : ℕ) (old new : Brick D) (after : StateOf Version) (body : ℕ) (adds : Bool) (appends : ℕ) (reply : Option Reply) (runs : Runs d old)
+  module _ (old new : Brick D) (after : StateOf Version) (body : ℕ) (adds : Bool) (appends : ℕ) (reply : Option Reply) (runs : Runs d old)
       (made : (adds ≡ true → live old.state ≡ old.shape.records → ⊥) → Follows reply after)
       (none : adds ≡ true → live old.state ≡ old.shape.records → Follows (Some (Full (live old.state))) old.state)
-      (moves : part_in old.shape.block after g e s ≡ part_in old.shape.block old.state g e s → ⊥) where
+      (moves : (layout : Layout) → KeepsAll layout old.shape.block old.state after → ⊥) where
     -- it was made, or the disk failed
     room : (answer : Result (Unit {0}) StoreFault) → Answers old new after body adds answer → answer ≢ Err (faults.Full (live old.state)) → adds ≡ true
         → live old.state ≡ old.shape.records → ⊥
@@ -206,7 +206,7 @@ module _ {D : Type 0} (d : on_disk.Ghosts D) (Follows : Option Reply → StateOf
           stood = λ told running. runs.stands told;
           stands = λ told. subst (λ (x : Shape). Stands d (StandsFor x new.state) new.disk) (sym change.ok.shape)
               (subst (λ (st : StateOf Version). Stands d (StandsFor old.shape st) new.disk) (sym change.ok.state) (run.whole refl told));
-          still = λ same. absurd (moves (subst (λ (st : StateOf Version). part_in old.shape.block st g e s ≡ part_in old.shape.block old.state g e s) change.ok.state (same g e s)));
+          still = λ layout same. absurd (moves layout (subst (λ (st : StateOf Version). KeepsAll layout old.shape.block old.state st) change.ok.state same));
           halted = λ h. differ (sym runs.runs ∙ h);
           only_halted = λ h. absurd cc;
           halts = change.answer.halts;

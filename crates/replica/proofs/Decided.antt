@@ -1,5 +1,5 @@
 -- What a member decides for the part that its store shows is the step of the machine.
-use Rattle.std.proofs.Common.{◌≡◌, ℕ, Bool, true, false, cond, List, [], ◌∷◌, ◌++◌, map, Option, Some, refl, sym, ap, subst, ◌∙◌}
+use Rattle.std.proofs.Common.{◌≡◌, ℕ, Bool, true, false, cond, List, [], ◌∷◌, ◌++◌, map, Option, refl, sym, ap, subst, ◌∙◌}
 use Rattle.std.specs.Prelude.{replicate}
 use Rattle.fab_base.specs.declared.stamps.Stamp.{Stamp}
 use Rattle.fab_base.specs.Stamps.{first_stamp}
@@ -22,12 +22,14 @@ use Rattle.protocol.specs.Nodes.{Node, full_at}
 use Rattle.protocol.specs.Replicas.{Replica, Reaction, handle}
 use Rattle.stripe_code.specs.Codes.{block_code}
 use Rattle.replica.specs.declared.plans.Plan.{Plan}
-use Rattle.replica.specs.Parts.{as_version, part_of, log_seen, part_seen, IsBegun, IsPartsOf, IsFirstView}
+use Rattle.replica.specs.Parts.{as_version, part_of, log_seen, part_seen, IsBegun, IsPartsOf}
 use Rattle.replica.specs.Plans.{planned, is_shared, IsChange}
 use Rattle.replica.specs.Reactions.{place_of, part_at, IsReacted, IsStep}
 use Rattle.replica.specs.Calls.{shares_block, part_append, message_append}
 use Rattle.replica.proofs.Sharing.{change_planned, append_planned}
-use Rattle.replica.proofs.Stepping.{Serves, reaction_at, step_served, append_served}
+use Rattle.replica.specs.Members.{Member}
+use Rattle.replica.specs.declared.courses.Course.TheVariants.{Serve}
+use Rattle.replica.proofs.Stepping.{Takes, reaction_at, step_served, append_served}
 
 -- what is decided for the part that a store shows, by the member at this seat of stripes of m blocks of this many bytes
 pub record IsDecided {D : Type 0} (store : Brick D) (layout : Layout) (call : Call) (request : Request) (m seat : ℕ) (plan : Plan) : Type 0 where
@@ -85,8 +87,8 @@ decided store layout call request m seat block seen plan shape long order log re
     begun : IsBegun from (log_seen seen)
     begun = subst (λ (vs : List Version). IsBegun from (map as_version vs)) (sym log) (begun_part store.shape.block stripe)
 
-module _ {D : Type 0} (store : Brick D) (layout : Layout) (me from : BrickId) (call : Call) (request : Request) (m seat : ℕ) (plan : Plan)
-    (is : IsDecided store layout call request m seat plan) where
+module _ {D : Type 0} (store : Brick D) (layout : Layout) (me from : BrickId) (call : Call) (request : Request) (member : Member) (plan : Plan)
+    (is : IsDecided store layout call request member.m member.seat plan) where
   abbrev part : Replica
   part = part_at store.shape.block store.state call
 
@@ -94,28 +96,27 @@ module _ {D : Type 0} (store : Brick D) (layout : Layout) (me from : BrickId) (c
   reaction = planned (full_at store.shape.records (live store.state)) part plan
 
   -- it is the member's reaction
-  reaction_is : reaction ≡ reaction_at layout me from call request store.state m seat
+  reaction_is : reaction ≡ reaction_at layout me from call request store.state member.m member.seat
   reaction_is =
       is.reaction (full_at store.shape.records (live store.state))
-      ∙ (λ k. handle (block_code layout.block) m (full_at (is.records k) (live store.state)) seat (part_at (is.size k) store.state call) request)
+      ∙ (λ k. handle (block_code layout.block) member.m (full_at (is.records k) (live store.state)) member.seat (part_at (is.size k) store.state call) request)
 
   pub change_decided : IsChange store.shape.block (is_shared plan) part plan
   change_decided = change_planned store.shape.block (shares_block request) part plan is.change
 
-  module _ (served : Serves layout me from call request store.state (Some (m, seat))) where
+  module _ (takes : Takes layout me from call request store.state (Serve member)) where
     -- so what follows from it is a step of the machine
-    pub step_decided : IsFirstView store.state → call.view.0 ≡ 1 → (reply : Option Reply) (after : StateOf Version)
-        → IsReacted store.shape.block call store.state reaction reply after
+    pub step_decided : (reply : Option Reply) (after : StateOf Version) → IsReacted store.shape.block call store.state reaction reply after
         → IsStep layout me from (Message.Request call request) store.state (option_map (λ r. Message.Reply call r) reply) after
-    step_decided first in_first reply after reacted =
-        step_served layout me from call request store.state first in_first m seat served reply after
-        (subst (λ (b : ℕ). IsReacted b call store.state (reaction_at layout me from call request store.state m seat) reply after) is.size
+    step_decided reply after reacted =
+        step_served layout me from call request store.state member takes reply after
+        (subst (λ (b : ℕ). IsReacted b call store.state (reaction_at layout me from call request store.state member.m member.seat) reply after) is.size
         (subst (λ (r : Reaction). IsReacted store.shape.block call store.state r reply after) reaction_is reacted))
 
     -- which appends the same
     pub append_decided : (node : Node) → IsPartsOf layout store.state node
         → message_append layout me from node (Message.Request call request) ≡ part_append (is_shared plan) part reaction.replica
     append_decided node parts =
-        append_served layout me from call request store.state node parts m seat served
+        append_served layout me from call request store.state node parts member takes
         ∙ sym (append_planned store.shape.block (shares_block request) part (full_at store.shape.records (live store.state)) plan is.change
         ∙ (λ k. part_append (shares_block request) (part_at (is.size k) store.state call) (reaction_is k).replica))

@@ -2,10 +2,17 @@ pub mod Logs
 pub mod Deciding
 pub mod Modifying
 pub mod Places
+pub mod Viewing
+pub mod Weights
 pub mod Dropping
 pub mod Reacting
 pub mod Answering
 pub mod Runs
 pub mod Sharing
+pub mod Voting
+pub mod CourseSteps
+pub mod Learning
+pub mod Keeping
 pub mod Stepping
 pub mod Decided
+pub mod Requested

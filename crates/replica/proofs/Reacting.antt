@@ -19,9 +19,10 @@ use Rattle.brick_store.specs.Blocks.{log_of, adds_stamp, version_stamp}
 use Rattle.protocol.specs.Replicas.{Replica, Reaction, stays, promised, stored, collected, unless_full, is_held, below, not_below}
 use Rattle.protocol.specs.Nodes.{full_at, put, with_part}
 use Rattle.messages.specs.declared.calls.Call.{Call}
-use Rattle.replica.specs.Parts.{as_version, part_of, part_in}
+use Rattle.replica.specs.Parts.{as_version, part_of, part_in, live_at}
 use Rattle.replica.specs.Reactions.{place_of, part_at, IsReacted}
 use Rattle.replica.proofs.Places.{put_here, put_other, live_put}
+use Rattle.replica.proofs.Weights.{live_in_put, live_in_same}
 use Rattle.replica.proofs.Dropping.{dropped, collected_held, shorter, log_left, drops_added}
 
 differ : {A : Type 0} → false ≡ true → A
@@ -112,8 +113,8 @@ reacted_stays block call reply st = record {
   boot = refl;
   groups = refl;
   live = omega arith;
+  live_in = live_in_same (live_at st) call (stays (part_at block st call) reply) refl refl;
   parts = λ h v t. parts_same (part_in block st) call h v t;
-  others = λ p other. refl;
 }
 
 -- ---- an order stamp
@@ -145,8 +146,10 @@ module _ (block : ℕ) (call : Call) (st : StateOf Kept) (sorted : IsStrictlySor
     live = order_adds (stamp_same stripe.order first_stamp) (stamp_same t first_stamp) (length stripe.added) (live st) (live (ordered (place_of call) t st))
         (later_not_first stripe.order t later)
         (live_put (place_of call) (with_order t stripe) st.stripes sorted);
+    live_in = live_in_put call (with_order t stripe) st sorted (promised (part_at block st call) t reply)
+        (λ now was. order_adds (stamp_same stripe.order first_stamp) (stamp_same t first_stamp) (length stripe.added) was now
+        (later_not_first stripe.order t later));
     parts = parts_put block call (with_order t stripe) st sorted;
-    others = λ p other. put_other (place_of call) p (with_order t stripe) st.stripes other;
   }
 
   pub order_moves : (t : Stamp) → stamp_below stripe.order t ≡ true → part_in block (ordered (place_of call) t st) call.group.0 call.view.0 call.stripe.0 ≡ part_at block st call → ⊥
@@ -184,7 +187,8 @@ module _ (block : ℕ) (call : Call) (st : StateOf Kept) (sorted : IsStrictlySor
         parts = λ h e i.
             subst (λ (r : Replica). part_in block (added (place_of call) v st) h e i ≡ with_part (part_in block st) call r h e i)
             (log_added v) (parts_put block call (with_added v stripe) st sorted h e i);
-        others = λ p other. put_other (place_of call) p (with_added v stripe) st.stripes other;
+        live_in = live_in_put call (with_added v stripe) st sorted (stored (part_at block st call) t bytes)
+            (λ now was sum. omega (arith, sum, length-append stripe.added (v ∷ [])));
       }
 
   pub store_moves : (t : Stamp) (bytes : List ℕ) → part_in block (added (place_of call) (version t bytes) st) call.group.0 call.view.0 call.stripe.0 ≡ part_at block st call → ⊥
@@ -221,7 +225,13 @@ module _ (block : ℕ) (call : Call) (st : StateOf Kept) (sorted : IsStrictlySor
         parts = λ h e i.
             subst (λ (r : Replica). part_in block (states.collected version_stamp (place_of call) t st) h e i ≡ with_part (part_in block st) call r h e i)
             (part_left t) (parts_put block call (with_collected version_stamp t stripe) st sorted h e i);
-        others = λ p other. put_other (place_of call) p (with_collected version_stamp t stripe) st.stripes other;
+        live_in = live_in_put call (with_collected version_stamp t stripe) st sorted (dropped (part_at block st call) t)
+            (λ now was sum. omega (
+              arith,
+              sum,
+              drops_added block t stripe,
+              length-filter_both (is_below t) (λ v. not (stamp_below v.stamp t)) (λ v. refl) stripe.added,
+            ));
       })
 
   -- where something is below the stamp, the part changes

@@ -1,7 +1,8 @@
 -- What a call that handles a message promises of the store.
-use Rattle.std.specs.Prelude.{◌≡◌, ℕ, Bool, true, false, Option, Some, List, Result, Ok, Err, IfOk, OnOk, OnErr}
+use Rattle.std.specs.Prelude.{◌≡◌, ℕ, Bool, true, false, Option, Some, None, List, Result, Ok, Err, IfOk, OnOk, OnErr}
 use Rattle.std.specs.Option.{option_map}
 use Rattle.fab_base.specs.declared.identities.BrickId.{BrickId}
+use Rattle.fab_base.specs.Layouts.{Layout}
 use Rattle.fab_disk.specs.declared.disk.Disk as on_disk
 use Rattle.fab_disk.specs.Disk.{IsUntouched}
 use Rattle.fab_disk.specs.Changing.{End, Whole, Cut, NotBegun, Stands, Change}
@@ -18,7 +19,7 @@ use Rattle.brick_store.specs.Images.{StandsFor}
 use Rattle.brick_store.specs.Lengths.{ListsBy}
 use Rattle.replica.specs.declared.faults.ReplicaFault.{ReplicaFault}
 use Rattle.replica.specs.declared.faults.ReplicaFault.TheVariants.{Disk, Halted, NoMemory}
-use Rattle.replica.specs.Parts.{part_in}
+use Rattle.replica.specs.Parts.{part_in, learnt_in, ballots_in}
 
 -- the brick that a store was made for
 abbrev pub me_of : {D : Type 0} → Brick D → BrickId
@@ -57,9 +58,11 @@ pub record Runs {D : Type 0} (d : on_disk.Ghosts D) (store : Brick D) : Type 0 w
   pub stands : d.tells → Stands d (StandsFor store.shape store.state) store.disk
   pub ordered : IsOrdered store.shape.block store.state
 
--- the parts of all stripes are as they were
-abbrev pub KeepsParts : ℕ → StateOf Version → StateOf Version → Type 0
-KeepsParts block old new = (g e s : ℕ) → part_in block new g e s ≡ part_in block old g e s
+-- what a brick of a layout keeps is as it was: the views that it has learnt, ballots, and the parts of all stripes
+pub record KeepsAll (layout : Layout) (block : ℕ) (old new : StateOf Version) : Type 0 where
+  pub learnt : (g : ℕ) → learnt_in layout new g ≡ learnt_in layout old g
+  pub ballots : (g : ℕ) → ballots_in new g ≡ ballots_in old g
+  pub parts : (g e s : ℕ) → part_in block new g e s ≡ part_in block old g e s
 
 -- The call makes an answer and a state that follow, or is refused.
 pub record Handles {D A : Type 0} (d : on_disk.Ghosts D) (Follows : Option A → StateOf Version → Type 0) (old new : Brick D)
@@ -71,8 +74,8 @@ pub record Handles {D A : Type 0} (d : on_disk.Ghosts D) (Follows : Option A →
   pub stood : d.tells → old.halted ≡ false → Stands d (StandsFor old.shape old.state) old.disk
   -- after Ok the state of the store now stands on its disk
   pub stands : d.tells → OnOk result (Stands d (StandsFor new.shape new.state) new.disk)
-  -- where no stripe's part is changed, nothing is, and no call of the disk was made
-  pub still : OnOk result (KeepsParts old.shape.block old.state new.state → (new.state ≡ old.state)
+  -- where what is kept is as it was, no call of the disk was made
+  pub still : OnOk result ((layout : Layout) → KeepsAll layout old.shape.block old.state new.state → (new.state ≡ old.state)
       × IsUntouched d.seen d.may_leave d.moment d.left_since old.disk new.disk)
   pub halted : old.halted ≡ true → result ≡ Err Halted
   pub only_halted : result ≡ Err Halted → old.halted ≡ true
@@ -85,6 +88,11 @@ answered reply (Err faults.Disk) = Err Disk
 answered reply (Err (faults.Full live)) = Ok (Some (Full live))
 answered reply (Err faults.Halted) = Err Halted
 answered reply (Err faults.NoMemory) = Err NoMemory
+
+-- a call that answers no message
+abbrev pub unanswered : {A : Type 0} → Result (Unit {0}) ReplicaFault → Result (Option A) ReplicaFault
+unanswered (Ok done) = Ok None
+unanswered (Err fault) = Err fault
 
 -- an answer, seen as another
 abbrev pub seen_as : {A B : Type 0} → (A → B) → Result (Option A) ReplicaFault → Result (Option B) ReplicaFault

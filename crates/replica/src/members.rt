@@ -6,7 +6,7 @@ ghost use Rattle.messages.specs.declared.replies.Reply.TheVariants.{Found, Later
 ghost use Rattle.version_log.specs.Versions.{version, IsRising};
 ghost use Rattle.messages.specs.declared.requests.Version.{Version};
 ghost use Rattle.protocol.specs.Replicas.{is_held, is_wanted, is_changed, told_version, top_of, newest_of, looked_up, handle, ordered, order_read, written, modified, modified_block, stays, promised, collected, unless_full};
-ghost use Rattle.protocol.specs.Nodes.{fits_block};
+ghost use Rattle.replica.specs.Courses.{fits_block};
 ghost use Rattle.stripe_code.specs.Codes.{block_code};
 ghost use Rattle.replica.specs.Parts.{as_version, log_seen, part_seen, IsBegun};
 ghost use Rattle.replica.specs.Plans.{settled_reply, planned, IsAboveNewest, IsStorable, IsChange};
@@ -19,7 +19,7 @@ use fab_base::{Bytes, NoMem, Stamp};
 use messages::{Look, Reply, Request, Version, Want};
 use std::alloc::Global;
 
-// Whether the member at this seat is to send its block.
+/// Whether the member at this seat is to send its block.
 fn is_wanted(want: Want, seat: u8) -> bool
     ensures { result ≡ is_wanted want seat }
 {
@@ -29,7 +29,7 @@ fn is_wanted(want: Want, seat: u8) -> bool
     }
 }
 
-// The version to tell: without its bytes where they are not wanted.
+/// The version to tell: without its bytes where they are not wanted.
 fn told(
     alloc: Global,
     wanted: bool,
@@ -50,7 +50,7 @@ fn told(
     }
 }
 
-// The greater of the order stamp and the newest version's.
+/// The greater of the order stamp and the newest version's.
 #[tactic(auto, unfolding(protocol::specs::Replicas::top_of))]
 fn top(part: &State<'_>) -> Stamp
     ensures { (start : Bool) → result ≡ top_of (part_seen part.now start) }
@@ -68,14 +68,14 @@ fn top(part: &State<'_>) -> Stamp
     }
 }
 
-// Whether the member has a version of this stamp.
+/// Whether the member has a version of this stamp.
 fn is_held(part: &State<'_>, stamp: Stamp) -> bool
     ensures { result ≡ is_held stamp (log_seen part.now) }
 {
     part.at(stamp).is_some()
 }
 
-// The version that is looked for.
+/// The version that is looked for.
 fn look_up<'a>(part: &'a State<'_>, look: Look) -> Option<(Stamp, &'a Bytes)>
     requires { IsRising part.now.log }
     ensures { option_map (λ v. as_version (version v.0 v.1.now)) result ≡ looked_up look (log_seen part.now) }
@@ -89,7 +89,7 @@ fn look_up<'a>(part: &'a State<'_>, look: Look) -> Option<(Stamp, &'a Bytes)>
     }
 }
 
-// A promise, with the reply that says so. One of the very stamp that is kept needs no change.
+/// A promise, with the reply that says so. One of the very stamp that is kept needs no change.
 fn promise(part: &State<'_>, stamp: Stamp, reply: Reply) -> Plan
     requires { stamp_below stamp part.now.order ≡ false }
     ensures plan { (full : Option ℕ) (start : Bool) → planned full (part_seen part.now start) result
@@ -103,7 +103,7 @@ fn promise(part: &State<'_>, stamp: Stamp, reply: Reply) -> Plan
     }
 }
 
-// Tell the order stamp and the newest version.
+/// Tells the order stamp and the newest version.
 fn read(alloc: Global, part: &State<'_>, wanted: bool) -> Result<Plan, NoMem>
     ensures plan { IfOk result (λ plan. (full : Option ℕ) (start : Bool) → planned full (part_seen part.now start) plan
         ≡ stays (part_seen part.now start) (Found part.now.order (told_version wanted (newest_of (log_seen part.now))))) }
@@ -116,7 +116,7 @@ fn read(alloc: Global, part: &State<'_>, wanted: bool) -> Result<Plan, NoMem>
     }))
 }
 
-// Promise to take nothing below the stamp, unless something later was promised or stored.
+/// Promises to take nothing below the stamp, unless something later was promised or stored.
 fn order(part: &State<'_>, stamp: Stamp) -> Plan
     ensures plan { (full : Option ℕ) (start : Bool) → planned full (part_seen part.now start) result
         ≡ ordered full (part_seen part.now start) stamp }
@@ -129,7 +129,7 @@ fn order(part: &State<'_>, stamp: Stamp) -> Plan
     promise(part, stamp, Reply::Ordered)
 }
 
-// Promise, and tell the version that is looked for, unless something later was promised or stored.
+/// Promises, and tells the version that is looked for, unless something later was promised or stored.
 fn order_read(
     alloc: Global,
     part: &State<'_>,
@@ -150,7 +150,7 @@ fn order_read(
     Ok(promise(part, stamp, Reply::OrderedRead { found }))
 }
 
-// The reply to a request to store a version that is held already, or that is below what was promised or stored.
+/// The reply to a request to store a version that is held already, or that is below what was promised or stored.
 fn settled_reply(part: &State<'_>, stamp: Stamp) -> Option<Reply>
     ensures value { (start : Bool) → result ≡ settled_reply (part_seen part.now start) stamp }
     ensures above { IfNone result (IsAboveNewest (log_seen part.now) stamp) }
@@ -165,7 +165,7 @@ fn settled_reply(part: &State<'_>, stamp: Stamp) -> Option<Reply>
     None
 }
 
-// Store a version, unless something later was promised or stored. One that is held is stored already.
+/// Stores a version, unless something later was promised or stored. One that is held is stored already.
 fn write(alloc: Global, part: &State<'_>, stamp: Stamp, block: &Bytes) -> Result<Plan, NoMem>
     ensures plan { IfOk result (λ plan. (full : Option ℕ) (start : Bool) → planned full (part_seen part.now start) plan
         ≡ written full (part_seen part.now start) stamp block.now) }
@@ -177,7 +177,7 @@ fn write(alloc: Global, part: &State<'_>, stamp: Stamp, block: &Bytes) -> Result
     Ok(Plan::Store(stamp, Some(block.copy(alloc)?)))
 }
 
-// The block of a version whose base has this one, once a data block changed. None where it is that of the base.
+/// The block of a version whose base has this one, once a data block changed. None where it is that of the base.
 fn changed_block(
     alloc: Global,
     member: Member,
@@ -206,8 +206,8 @@ fn changed_block(
     Ok(Some(changed))
 }
 
-// Store a version that differs from its base by what a data block changed by, where the base is the newest version, unless something later was
-// promised or stored. One that is held is stored already.
+/// Stores a version that differs from its base by what a data block changed by, where the base is the newest version, unless something later was
+/// promised or stored. One that is held is stored already.
 fn modify(
     alloc: Global,
     member: Member,
@@ -238,7 +238,7 @@ fn modify(
     Ok(Plan::Store(stamp, block))
 }
 
-// Drop the versions below one that is held. Where that is not held, or none is below it, nothing is to be done.
+/// Drops the versions below one that is held. Where that is not held, or none is below it, nothing is to be done.
 fn collect(part: &State<'_>, stamp: Stamp) -> Plan
     ensures plan { (full : Option ℕ) (start : Bool) → IsBegun start (log_seen part.now) → planned full (part_seen part.now start) result
         ≡ collected (part_seen part.now start) stamp }

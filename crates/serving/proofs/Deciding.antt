@@ -18,10 +18,11 @@ use Rattle.quorum.specs.Quorums.{quorum_of}
 use Rattle.reg_model.specs.Registers.{block_of, read_of}
 use Rattle.protocol.specs.declared.phases.Counted.{Counted}
 use Rattle.protocol.specs.declared.phases.FullMember.{FullMember}
+use Rattle.protocol.specs.declared.phases.Mover.{Mover}
 use Rattle.protocol.specs.declared.phases.Refuser.{Refuser}
 use Rattle.protocol.specs.declared.phases.Phase.{Phase}
 use Rattle.protocol.specs.declared.phases.Phase.TheVariants.{Looks, LooksAt, Orders, OrdersAt, Recovers, Descends, Modifies, Bases, Stores}
-use Rattle.protocol.specs.Coordinators.{Coordinator, Next, Waits, Sends, Makes, Ends, call_same, told_length, answers_phase, has_seat, new_seat, answering_seat, counts_at, found_bytes, bytes_at, pieces_of, pieces_at, fast_version, fast_version_at, common_version_at, some_behind, greatest_refuser, lowest_full, greatest_found, in_phase, restoring, block_written, modifying, reordering, forgetting, most_rounds, aborted_by, unless_told_full, unless_refused, once_ordered, answered_fast, answered_fast_at, read_back, modified_if, once_modified, rebuilt, answer_with, decided, with_reply, counted_at, on_reply}
+use Rattle.protocol.specs.Coordinators.{Coordinator, Next, Waits, Sends, Makes, Ends, call_same, told_length, answers_phase, has_seat, new_seat, answering_seat, counts_at, found_bytes, bytes_at, pieces_of, pieces_at, fast_version, fast_version_at, common_version_at, some_behind, greatest_refuser, lowest_full, greatest_found, in_phase, restoring, block_written, modifying, reordering, forgetting, most_rounds, aborted_by, lowest_mover, unless_told_moved, unless_told_full, unless_refused, once_ordered, answered_fast, answered_fast_at, read_back, modified_if, once_modified, rebuilt, answer_with, decided, with_reply, counted_at, on_reply}
 use Rattle.stripe_code.specs.Codes.{block_code}
 use Rattle.stripe_code.proofs.Changes.{length-block_delta}
 use Rattle.serving.proofs.CodeSizes.{length-decoded, length-after}
@@ -103,12 +104,12 @@ module _ (layout : Layout) (few : layout.block ≤ 4096) where
   -- a phase begins, in which no reply counts yet
   phase_begun : (c : Coordinator) (phase : Phase) → CallFits layout c → PhaseFits c.group.m layout.block c.content phase → CallFits layout (in_phase c phase)
   phase_begun c phase fits asks =
-      record { group = fits.group; has = fits.has; given = fits.given; content = fits.content; phase = asks; counted = tt }
+      record { group = fits.group; view = fits.view; has = fits.has; given = fits.given; content = fits.content; phase = asks; counted = tt }
 
   -- the replies are forgotten
   forgotten : (c : Coordinator) → CallFits layout c → CallFits layout (forgetting c)
   forgotten c fits =
-      record { group = fits.group; has = fits.has; given = fits.given; content = fits.content; phase = fits.phase; counted = tt }
+      record { group = fits.group; view = fits.view; has = fits.has; given = fits.given; content = fits.content; phase = fits.phase; counted = tt }
 
   -- what is read back, and stored again
   decoded_long : (c : Coordinator) (pieces : List _) → length ((block_code layout.block).decode c.group.m pieces) ≡ c.group.m * layout.block
@@ -119,7 +120,7 @@ module _ (layout : Layout) (few : layout.block ≤ 4096) where
   restored c v pieces fits =
       let long = length-after c.group.m layout.block c.ask.op ((block_code layout.block).decode c.group.m pieces) fits.has fits.given (decoded_long c pieces) in
       let room = fits.group.room in
-      record { group = fits.group; has = fits.has; given = fits.given; content = omega (arith, long, room); phase = tt; counted = tt }
+      record { group = fits.group; view = fits.view; has = fits.has; given = fits.given; content = omega (arith, long, room); phase = tt; counted = tt }
 
   -- a data block is modified
   modified : (c : Coordinator) (v : Stamp) (j : ℕ) → CallFits layout c → j < c.group.m → CallFits layout (modifying (block_code layout.block) c v j)
@@ -128,6 +129,7 @@ module _ (layout : Layout) (few : layout.block ≤ 4096) where
       = length-block_delta layout.block (bytes_at j c.counted) (block_written c.ask.op) in
       record {
         group = fits.group;
+        view = fits.view;
         has = fits.has;
         given = fits.given;
         content = omega (arith, long, few);
@@ -135,10 +137,18 @@ module _ (layout : Layout) (few : layout.block ≤ 4096) where
         counted = tt;
       }
 
-  -- a member that refuses, or whose store is full, ends the operation; or there is another round
-  or_full : (full : Option FullMember) (next : Next) → NextFits layout next → NextFits layout (unless_told_full full next)
-  or_full None next fits = fits
-  or_full (Some f) next fits = refl
+  -- a member that serves the view no more, whose store is full, or that refuses, ends the operation; or there is another round
+  unless_full : (full : Option FullMember) (next : Next) → NextFits layout next → NextFits layout (unless_told_full full next)
+  unless_full None next fits = fits
+  unless_full (Some f) next fits = refl
+
+  unless_moved : (mover : Option Mover) (next : Next) → NextFits layout next → NextFits layout (unless_told_moved mover next)
+  unless_moved None next fits = fits
+  unless_moved (Some m) next fits = refl
+
+  or_full : (c : Coordinator) (next : Next) → NextFits layout next
+      → NextFits layout (unless_told_moved (lowest_mover c.counted) (unless_told_full (lowest_full c.counted) next))
+  or_full c next fits = unless_moved (lowest_mover c.counted) _ (unless_full (lowest_full c.counted) next fits)
 
   or_refused : (refuser : Option Refuser) (next : Next) → NextFits layout next → NextFits layout (unless_refused refuser next)
   or_refused None next fits = fits
@@ -150,7 +160,7 @@ module _ (layout : Layout) (few : layout.block ≤ 4096) where
   or_again None c (Some r) next asks fits = refl
   or_again (Some t) c (Some r) next asks fits =
       cond_both (nat_lt c.round most_rounds) (Sends (reordering c t)) (aborted_by r) (NextFits layout)
-      (λ left. record { group = asks.group; has = asks.has; given = asks.given; content = asks.content; phase = asks.phase; counted = tt })
+      (λ left. record { group = asks.group; view = asks.view; has = asks.has; given = asks.given; content = asks.content; phase = asks.phase; counted = tt })
       (λ last. refl)
 
   -- a read is answered at once, or recovers
@@ -205,29 +215,29 @@ module _ (layout : Layout) (few : layout.block ≤ 4096) where
       → NextFits layout (decided layout.block (block_code layout.block) fresh (record c { phase = phase }))
   unfolding decided
   decided_in fresh c Looks fits =
-      or_full (lowest_full c.counted) _ (fast_fits (record c { phase = Looks }) (fast_version c.counted) fits)
+      or_full c _ (fast_fits (record c { phase = Looks }) (fast_version c.counted) fits)
   decided_in fresh c (LooksAt j) fits =
-      or_full (lowest_full c.counted) _ (fast_fits_at (record c { phase = LooksAt j }) j (fast_version_at j c.counted) fits)
+      or_full c _ (fast_fits_at (record c { phase = LooksAt j }) j (fast_version_at j c.counted) fits)
   decided_in fresh c Orders fits =
       let it : Coordinator = record c { phase = Orders } in
-      or_full (lowest_full c.counted) _ (or_again fresh it (greatest_refuser c.counted) _ fits (phase_begun it Stores fits tt))
+      or_full c _ (or_again fresh it (greatest_refuser c.counted) _ fits (phase_begun it Stores fits tt))
   decided_in fresh c (OrdersAt j) fits =
       let it : Coordinator = record c { phase = OrdersAt j } in
-      or_full (lowest_full c.counted) _
+      or_full c _
       (or_again fresh it (greatest_refuser c.counted) _ fits (modified_fits it j (common_version_at j c.counted) fits fits.phase))
   decided_in fresh c Recovers fits =
       let it : Coordinator = record c { phase = Recovers } in
-      or_full (lowest_full c.counted) _ (or_again fresh it (greatest_refuser c.counted) _ fits (read_fits it (greatest_found c.counted) fits))
+      or_full c _ (or_again fresh it (greatest_refuser c.counted) _ fits (read_fits it (greatest_found c.counted) fits))
   decided_in fresh c (Descends bound) fits =
-      or_full (lowest_full c.counted) _
+      or_full c _
       (or_refused (greatest_refuser c.counted) _ (read_fits (record c { phase = Descends bound }) (greatest_found c.counted) fits))
   decided_in fresh c (Modifies base j) fits =
-      or_full (lowest_full c.counted) _
+      or_full c _
       (or_refused (greatest_refuser c.counted) _ (once_modified_fits (record c { phase = Modifies base j }) base fits))
   decided_in fresh c (Bases base) fits =
-      or_full (lowest_full c.counted) _ (or_refused (greatest_refuser c.counted) _ (rebuilt_fits (record c { phase = Bases base }) base fits))
+      or_full c _ (or_refused (greatest_refuser c.counted) _ (rebuilt_fits (record c { phase = Bases base }) base fits))
   decided_in fresh c Stores fits =
-      or_full (lowest_full c.counted) _ (or_refused (greatest_refuser c.counted) _ (answered_fits c.ask.op c.content fits.content))
+      or_full c _ (or_refused (greatest_refuser c.counted) _ (answered_fits c.ask.op c.content fits.content))
 
   -- one more reply counts
   reply_counted : (c : Coordinator) (seat : ℕ) (from : BrickId) (reply : Reply) → CallFits layout c
@@ -235,6 +245,7 @@ module _ (layout : Layout) (few : layout.block ≤ 4096) where
   reply_counted c seat from reply fits answers =
       record {
         group = fits.group;
+        view = fits.view;
         has = fits.has;
         given = fits.given;
         content = fits.content;

@@ -6,6 +6,7 @@ mod Doing
 mod Ends
 mod Everywhere
 mod Fitting
+mod Lists
 pub mod Looks
 mod Members
 mod OneTurn
@@ -14,4 +15,5 @@ mod Shown
 mod Spelled
 mod Stepping
 mod Taking
+mod Voting
 mod Waiting

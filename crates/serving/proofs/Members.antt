@@ -2,7 +2,7 @@
 use Rattle.std.proofs.Common.{◌≡◌, ℕ, ◌≤◌, Bool, true, false, List, [], ◌∷◌, length, Option, Some, None, refl, arith}
 use Rattle.std.specs.Prelude.{not, nat_lt, filter, if◌then◌else◌}
 use Rattle.std.specs.Option.{IfSome}
-use Rattle.std.proofs.lemmas.Bool.{cond_both, eqb-true, le-leb}
+use Rattle.std.proofs.lemmas.Bool.{cond_both, le-leb}
 use Rattle.fab_base.specs.declared.stamps.Stamp.{Stamp}
 use Rattle.fab_base.specs.Stamps.{stamp_below, stamp_same}
 use Rattle.messages.specs.declared.replies.Reply.{Reply}
@@ -12,7 +12,6 @@ use Rattle.messages.specs.declared.requests.Look.TheVariants.{Below, At}
 use Rattle.messages.specs.declared.requests.Request.{Request}
 use Rattle.messages.specs.declared.requests.Request.TheVariants as requests
 use Rattle.messages.specs.declared.requests.Version.{Version}
-use Rattle.protocol.specs.Nodes.{fits_block}
 use Rattle.protocol.specs.Replicas.{Replica, Reaction, handle, newest_of, told_version, looked_up, stays, unless_full, promised, stored, modified_on, modified_block, is_held, top_of, below, is_wanted, is_changed}
 use Rattle.stripe_code.specs.Codes.{block_code}
 use Rattle.stripe_code.proofs.Changes.{length-modified_block}
@@ -20,6 +19,11 @@ use Rattle.serving.specs.Spellings.{has_short_block, reply_fits}
 use Rattle.brick_state.proofs.Listings.{all_filter}
 use Rattle.serving.proofs.Everywhere.{all_append}
 use Rattle.serving.proofs.Fitting.{IsShort, AreShort, ReactionFits}
+
+-- what a request stores, if it stores a block, has the length of one
+abbrev pub StoresBlock : ℕ → Request → Type 0
+StoresBlock block (requests.Write t bytes) = length bytes ≡ block
+StoresBlock block request = Unit {0}
 
 module _ (block : ℕ) (few : block ≤ 4096) where
   -- the newest version of a log, and the one that is looked for, are short
@@ -96,7 +100,7 @@ module _ (block : ℕ) (few : block ≤ 4096) where
 
   -- what the member at a seat does
   pub handled_fits : (m : ℕ) (full : Option ℕ) (seat : ℕ) (replica : Replica) (request : Request) → AreShort block replica.log
-      → fits_block block m seat request ≡ true → ReactionFits block (handle (block_code block) m full seat replica request)
+      → StoresBlock block request → ReactionFits block (handle (block_code block) m full seat replica request)
   unfolding handle
   handled_fits m full seat replica (requests.Read want) short fits =
       stays_fits replica (replies.Found replica.order (told_version (is_wanted want seat) (newest_of replica.log))) short
@@ -110,10 +114,9 @@ module _ (block : ℕ) (few : block ≤ 4096) where
       (full_fits full replica (promised replica t reply) short
       (promised_fits replica t reply short (told_short (is_wanted want seat) (looked_up look replica.log) (looked_short look replica.log short))))
   handled_fits m full seat replica (requests.Write t bytes) short fits =
-      let long : length bytes ≡ block = eqb-true (length bytes) block fits in
       unless_held replica t (if stamp_below t (top_of replica) then stays replica (replies.Later (top_of replica)) else unless_full full replica (stored replica t bytes)) short
       (unless_later replica t (unless_full full replica (stored replica t bytes)) short
-      (full_fits full replica (stored replica t bytes) short (stored_fits replica t bytes short (omega (arith, long)))))
+      (full_fits full replica (stored replica t bytes) short (stored_fits replica t bytes short (omega (arith, fits)))))
   handled_fits m full seat replica (requests.Modify t base j delta) short fits =
       let on_base : Reaction = modified_on (block_code block) m full seat replica t base j delta (newest_of replica.log) in
       unless_held replica t (if stamp_below t (top_of replica) then stays replica (replies.Later (top_of replica)) else on_base) short

@@ -1,5 +1,5 @@
 -- Turns that were taken so far, and how a run of turns ends.
-use Rattle.std.proofs.Common.{◌≡◌, ◌⊎◌, ℕ, ◌+◌, ◌<◌, List, [], ◌∷◌, ◌++◌, length, Result, Ok, Err, IsOk, refl, sym, ap, ◌∙◌, subst, length-append, add-zero, inl, inr, arith}
+use Rattle.std.proofs.Common.{◌≡◌, ◌⊎◌, ℕ, ◌+◌, ◌<◌, List, [], ◌∷◌, ◌++◌, length, Result, Ok, Err, IsOk, refl, sym, ap, ◌∙◌, subst, length-append, add-zero, inl, inr}
 use Rattle.fab_base.specs.declared.identities.BrickId.{BrickId}
 use Rattle.protocol.specs.Nodes as machine
 use Rattle.fab_base.specs.Layouts.{Layout}

@@ -1,27 +1,38 @@
--- A brick that the image of a disk shows, and that has no operation open, is a brick of the layout.
-use Rattle.std.proofs.Common.{◌≡◌, ℕ, ◌≤◌, Bool, true, false, List, [], ◌∷◌, length, map, take, replicate, Option, Some, None, refl, sym, subst, ap, ◌∙◌, arith, length-take}
+-- A brick that the image of a disk shows, that has no operation open, and whose proposal is of its layout, is a brick of the layout.
+use Rattle.std.proofs.Common.{◌≡◌, ℕ, ◌≤◌, Bool, true, false, List, [], ◌∷◌, length, map, take, replicate, Option, Some, None, sym, subst, ap, ⊎_elim, arith, length-take}
 use Rattle.std.specs.Prelude.{◌==◌, if◌then◌else◌, unwrap_or}
-use Rattle.std.specs.List.{AllByRecursion}
+use Rattle.std.specs.Option.{IfSome, option_map, option_and_then}
+use Rattle.std.specs.List.{AllByRecursion, list_all}
 use Rattle.std.specs.Map.{lookup}
 use Rattle.std.specs.BTreeMap.{is_at}
-use Rattle.std.proofs.lemmas.Bool.{cond_both}
+use Rattle.std.proofs.lemmas.Bool.{cond_both, and_parts}
 use Rattle.std.proofs.lemmas.List.{length-replicate}
-use Rattle.fab_base.specs.Layouts.{Layout, Group, group_of}
+use Rattle.fab_base.specs.declared.identities.BrickId.{BrickId}
+use Rattle.fab_base.specs.declared.member_lists.View.{View}
+use Rattle.fab_base.specs.Layouts.{Layout, Group, group_of, first_view}
 use Rattle.version_log.specs.Versions.{Version as Kept, version}
 use Rattle.frame_store.specs.declared.shapes.Shape.{Shape}
 use Rattle.frame_store.specs.Images.{block_in}
 use Rattle.brick_state.specs.Entries.{Entry}
-use Rattle.brick_state.specs.States.{Place, StripeOf, StateOf, place_cmp, first_stripe, stripe_at}
-use Rattle.brick_store.specs.Blocks.{resolved, resolved_stripe, log_of}
+use Rattle.brick_state.specs.States.{Place, StripeOf, StateOf, place_cmp, first_stripe, stripe_at, group_at}
+use Rattle.brick_store.specs.Blocks.{resolved, resolved_stripe, log_of, learnt_view, accepted_of}
 use Rattle.brick_store.specs.Images.{block_at, state_in, StandsFor}
-use Rattle.layout.specs.Limits.{IsLayout}
-use Rattle.protocol.specs.Views.{Learnt, members_of, first_learnt}
+use Rattle.layout.specs.Limits.{IsLayout, IsGroup}
+use Rattle.synod_laws.specs.Synods.{Kept as KeptBallots, last_of}
+use Rattle.protocol.specs.Views.{Learnt, members_of, first_learnt, is_view, may_be_taught}
+use Rattle.protocol.specs.declared.phases.Counted.{Counted}
 use Rattle.protocol.specs.Coordinators.{Coordinator}
+use Rattle.protocol.specs.Proposals.{Proposal, answers_ballot}
 use Rattle.protocol.specs.Nodes.{Node, no_calls}
 use Rattle.protocol.specs.Replicas.{Replica}
-use Rattle.replica.specs.Parts.{as_version, part_in, learnt_or, IsPartsOf, IsFirstView}
+use Rattle.replica.specs.Parts.{as_version, part_in, learnt_or, may_be_accepted, IsPartsOf, ListsStand}
+use Rattle.view_synod.specs.Proposers.{may_be_asked}
+use Rattle.serving.specs.Spellings.{has_some}
+use Rattle.serving.specs.Views.{IsProposalOf}
 use Rattle.serving.proofs.Everywhere.{all_append, all_map}
-use Rattle.serving.proofs.Fitting.{AreBricks, IsShort, AreShort, NodeFits}
+use Rattle.serving.proofs.Fitting.{IsShort, AreShort, NamesSome, TellsSome, ViewFits, ProposalFits, NodeFits}
+use Rattle.serving.proofs.Lists.{names_some, view_fits, first_fits}
+use Rattle.serving.proofs.Voting.{answer_names}
 
 -- ---- what lies in the slots of an image
 
@@ -81,27 +92,74 @@ logs_short shape st image stands g e s =
     subst (λ (z : StateOf Kept). AreShort shape.block (part_in shape.block z g e s).log) stands.state
     (log_short shape.block (stripe_at (state_in shape stands.frames image) (g, e, s)) (resolved_short shape image _ (g, e, s)))
 
--- ---- the members of a first view
+-- ---- lists of members
 
-members_below : (layout : Layout) → IsLayout layout → (g : ℕ) (group : Option Group) → group_of layout g ≡ group → AreBricks layout (members_of group)
-members_below layout is g None at = tt
-members_below layout is g (Some group) at = (is.each g group at).below
+-- the view that a store has learnt of a group: the layout's first, or a later one whose lists may keep the group
+learnt_fits : (layout : Layout) (g : ℕ) (group : Group) → IsGroup layout.block layout.bricks group → group_of layout g ≡ Some group
+    → (known : Option (View × Bool)) → may_be_taught group.m layout.bricks (option_map (λ k. k.0) known) ≡ true
+    → ViewFits layout (learnt_or (first_learnt layout g) known).view
+learnt_fits layout g group is at None stands =
+    subst (λ (o : Option Group). ViewFits layout (first_view (members_of o))) (sym at) (first_fits layout group is)
+learnt_fits layout g group is at (Some known) stands = view_fits layout group.m known.0 is.limits.some_block stands
 
-pub first_members : (layout : Layout) → IsLayout layout → (st : StateOf Kept) (node : Node) → IsPartsOf layout st node → IsFirstView st → (g : ℕ)
-    → AreBricks layout (node.learnt g).view.members
-first_members layout is st node parts first g =
-    let learnt : node.learnt g ≡ first_learnt layout g = parts.learnt g ∙ ap (learnt_or (first_learnt layout g)) (first g) in
-    subst (λ (l : Learnt). AreBricks layout l.view.members) (sym learnt) (members_below layout is g (group_of layout g) refl)
+-- the list that it has accepted
+accepted_names : (m bricks : ℕ) (ballots : KeptBallots (List BrickId)) → 1 ≤ m → may_be_accepted m bricks (option_and_then (λ b. b.1) ballots) ≡ true
+    → NamesSome (last_of ballots)
+accepted_names m bricks None some stands = tt
+accepted_names m bricks (Some (promised, None)) some stands = tt
+accepted_names m bricks (Some (promised, Some accepted)) some stands = names_some m bricks accepted.1 some stands
+
+-- ---- a proposal
+
+-- the replies that count in it
+told_names : (m bricks : ℕ) (asks : Option (List BrickId)) → 1 ≤ m → (counted : List Counted)
+    → list_all (λ c. answers_ballot m bricks asks c.reply) counted ≡ true → AllByRecursion TellsSome counted
+told_names m bricks asks some [] all = tt
+told_names m bricks asks some (c ∷ counted) all =
+    let parts = and_parts (answers_ballot m bricks asks c.reply) (list_all (λ d. answers_ballot m bricks asks d.reply) counted) all in
+    (answer_names m bricks asks c.reply some parts.0, told_names m bricks asks some counted parts.1)
+
+asked_names : (m bricks : ℕ) (asks : Option (List BrickId)) → 1 ≤ m → may_be_asked m bricks asks ≡ true
+    → IfSome asks (λ members. has_some members ≡ true)
+asked_names m bricks None some may = tt
+asked_names m bricks (Some members) some may = names_some m bricks members some may
+
+proposal_fits : (layout : Layout) → IsLayout layout → (p : Proposal) → IsProposalOf layout p → ProposalFits layout p
+proposal_fits layout is p its =
+    let group_is : IsGroup layout.block layout.bricks its.group = is.each p.call.group.0 its.group its.at in
+    let some : 1 ≤ p.m = its.under_way.limits.some_block in
+    record {
+      m = some;
+      view = ⊎_elim (λ (first : p.view ≡ first_view its.group.members). subst (ViewFits layout) (sym first) (first_fits layout its.group group_is))
+          (λ (later : is_view its.group.m layout.bricks p.view ≡ true). view_fits layout its.group.m p.view group_is.limits.some_block later) its.view;
+      own = names_some p.m layout.bricks p.own some its.under_way.own;
+      asks = asked_names p.m layout.bricks p.asks some its.under_way.asked;
+      counted = told_names p.m layout.bricks p.asks some p.counted its.under_way.answers;
+    }
 
 -- ---- a brick
 
 pub shown_fits : (layout : Layout) → IsLayout layout → (shape : Shape) → shape.block ≡ layout.block → (st : StateOf Kept) (image : List ℕ) (node : Node)
-    → StandsFor shape st image → IsPartsOf layout st node → IsFirstView st → node.calls ≡ no_calls → NodeFits layout node
-shown_fits layout is shape size st image node stands parts first idle =
+    → StandsFor shape st image → IsPartsOf layout st node → ListsStand layout st → node.calls ≡ no_calls
+    → ((p : Proposal) → node.proposal ≡ Some p → IsProposalOf layout p) → NodeFits layout node
+shown_fits layout is shape size st image node stands parts lists idle proposing =
     record {
-      members = first_members layout is st node parts first;
+      views = λ g group at.
+          subst (λ (l : Learnt). ViewFits layout l.view) (sym (parts.learnt g))
+          (learnt_fits layout g group (is.each g group at) at (group_at st g).known (kept_lists g group at).0);
+      accepted = λ g group at.
+          subst (λ (kept : KeptBallots (List BrickId)). NamesSome (last_of kept)) (sym (parts.ballots g))
+          (accepted_names group.m layout.bricks (group_at st g).ballots (is.each g group at).limits.some_block (kept_lists g group at).1);
       logs = λ g e s.
           subst (λ (r : Replica). AreShort layout.block r.log) (sym (parts.replicas g e s))
           (subst (λ (n : ℕ). AreShort n (part_in n st g e s).log) size (logs_short shape st image stands g e s));
       calls = λ k c at. let none : node.calls k ≡ None = ap (λ (calls : ℕ → Option Coordinator). calls k) idle in cc;
+      proposal = λ p at. proposal_fits layout is p (proposing p at);
     }
+  where
+    kept_lists : (g : ℕ) (group : Group) → group_of layout g ≡ Some group
+        → (may_be_taught group.m layout.bricks (learnt_view (group_at st g)) ≡ true)
+        × (may_be_accepted group.m layout.bricks (accepted_of (group_at st g)) ≡ true)
+    kept_lists g group at =
+        and_parts (may_be_taught group.m layout.bricks (learnt_view (group_at st g)))
+        (may_be_accepted group.m layout.bricks (accepted_of (group_at st g))) (lists g group at)

@@ -1,36 +1,49 @@
 -- A step of a brick of the layout leaves one, and sends and answers what has a spelling, whatever message came from a brick, and whatever was asked.
-use Rattle.std.proofs.Common.{◌≡◌, ℕ, ◌*◌, ◌<◌, ◌≤◌, Bool, true, false, List, length, Option, Some, None, refl, subst, arith}
-use Rattle.std.specs.Prelude.{not, nat_eq, nat_lt, if◌then◌else◌}
+use Rattle.std.proofs.Common.{◌≡◌, ℕ, ◌+◌, ◌*◌, ◌<◌, ◌≤◌, Bool, true, false, List, length, Option, Some, None, refl, replicate, subst, arith}
+use Rattle.std.specs.Prelude.{not, is_some, nat_eq, nat_lt, ◌-◌, ◌&&◌, ◌||◌, if◌then◌else◌, max}
 use Rattle.std.specs.Option.{IfSome, option_map}
-use Rattle.std.proofs.lemmas.Bool.{cond_both, eqb-true, ltb-true, and_parts}
+use Rattle.std.proofs.lemmas.Bool.{cond_both, eqb-true, eqb-false, ltb-true, and_parts, or_parts, not-false, false≢true}
+use Rattle.std.proofs.lemmas.List.{length-replicate}
 use Rattle.std.proofs.lemmas.Option.{same_Some}
 use Rattle.fab_base.specs.declared.asks.Ask.{Ask}
 use Rattle.fab_base.specs.declared.asks.Op.{Op}
 use Rattle.fab_base.specs.declared.asks.Op.TheVariants.{ReadBlock, WriteBlock, ReadStripe, WriteStripe}
 use Rattle.fab_base.specs.declared.answers.Refusal.{Refusal}
 use Rattle.fab_base.specs.declared.identities.BrickId.{BrickId}
-use Rattle.fab_base.specs.Layouts.{Layout, Group, group_of, seat_in}
+use Rattle.fab_base.specs.declared.identities.GroupId.{GroupId}
+use Rattle.fab_base.specs.declared.member_lists.View.{View}
+use Rattle.fab_base.specs.declared.stamps.Ballot.{Ballot}
+use Rattle.fab_base.specs.Layouts.{Layout, Group, group_of}
 use Rattle.messages.specs.declared.calls.Call.{Call}
 use Rattle.messages.specs.declared.clients.ClientAnswer.TheVariants.{Refused}
 use Rattle.messages.specs.declared.packets.Message.{Message}
 use Rattle.messages.specs.declared.packets.Message.TheVariants as messages
 use Rattle.messages.specs.declared.packets.Packet.{Packet}
 use Rattle.messages.specs.declared.replies.Reply.{Reply}
+use Rattle.messages.specs.declared.replies.Reply.TheVariants.{Moved}
 use Rattle.messages.specs.declared.requests.Request.{Request}
+use Rattle.messages.specs.declared.requests.Request.TheVariants as requests
 use Rattle.layout.specs.Limits.{IsLayout, IsGroup}
 use Rattle.protocol.specs.Settings.{are_bytes}
-use Rattle.protocol.specs.Views.{kept_by}
+use Rattle.quorum.specs.Memberships.{is_membership}
+use Rattle.synod_laws.specs.Synods.{Kept, last_of}
+use Rattle.protocol.specs.Views.{Learnt, kept_by, is_later, learns, first_kept, view_told}
+use Rattle.protocol.specs.Ballots.{Voted, moved_to}
 use Rattle.protocol.specs.Coordinators.{Coordinator, Next, Ignores, Waits, Sends, Makes, Ends, on_reply}
-use Rattle.protocol.specs.Nodes.{Node, put, no_step, has_block, has_length, refusal_in, refusal_of, first_phase, fresh_stamp, given_content, new_coordinator, began, invoked, replica_at, full_at, reply_packets, reacted, requested_at, is_served, fits_block, fitting_seat, seat_served, requested_in, requested, known_after, carried_out, replied_at, replied, received, ticked, most_open, is_spent}
-use Rattle.protocol.specs.Replicas.{Reaction, handle}
+use Rattle.protocol.specs.Nodes.{Node, NodeStep, put, no_step, view_at, has_accepted, has_block, has_length, refusal_in, refusal_of, first_phase, fresh_stamp, given_content, new_coordinator, began, invoked, replica_at, full_at, reply_packets, reacted, requested_at, is_now, has_successor, fits, seat_now, is_void, moved_at, served_unless, vote_at, voted_on, requested_as, requested_in, requested, with_learnt, node_taught, may_teach, node_learnt, known_after, with_call, with_known, with_round, carried_out, with_proposal, carried_ballot, replied_ballot, replied_at, counts_here, view_counted, then_taught, replied, lists_fit, heard, received, ticked, ballot_resent, resent_up_to, most_open, is_spent}
+use Rattle.protocol.specs.Proposals.{Proposal, Voting, Ignored, Waited, Asks, Ended, voted}
+use Rattle.protocol.specs.Replicas.{Replica, Reaction, fresh_replica, handle}
 use Rattle.protocol.proofs.Served.{parts_each}
 use Rattle.protocol.proofs.Tables.{put_each}
 use Rattle.stripe_code.specs.Codes.{block_code, coding}
-use Rattle.serving.specs.Spellings.{reply_fits, answer_fits, has_spelling}
-use Rattle.serving.proofs.Fitting.{AreBricks, AreShort, GroupFits, PhaseFits, CallFits, PacketsFit, NextFits, ReactionFits, NodeFits, StepFits}
-use Rattle.serving.proofs.Members.{handled_fits}
-use Rattle.serving.proofs.Asking.{phase_fits, collect_fits, all_again}
+use Rattle.serving.specs.Spellings.{has_some, reply_fits, answer_fits, has_spelling}
+use Rattle.serving.proofs.Everywhere.{all_append}
+use Rattle.serving.proofs.Fitting.{AreShort, NamesSome, ViewFits, GroupFits, PhaseFits, CallFits, ProposalFits, VotingFits, PacketFits, PacketsFit, NextFits, ReactionFits, VoteFits, NodeFits, StepFits}
+use Rattle.serving.proofs.Lists.{names_some, view_fits}
+use Rattle.serving.proofs.Members.{StoresBlock, handled_fits}
+use Rattle.serving.proofs.Asking.{phase_fits, collect_fits, all_again, ballot_fits, ballot_again, end_fits}
 use Rattle.serving.proofs.Deciding.{replied_fits}
+use Rattle.serving.proofs.Voting.{voted_fits, moved_fits, vote_fits}
 
 -- a test that did not refuse
 passed : (test : Bool) (reason : Refusal) (rest : Option Refusal) → (if not test then Some reason else rest) ≡ None → (test ≡ true) × (rest ≡ None)
@@ -54,17 +67,43 @@ pub refusal_said : (layout : Layout) (node : Node) (ask : Ask) → IsSaid (refus
 unfolding refusal_of
 refusal_said layout node ask = said_in layout node ask (group_of layout ask.group.0)
 
+-- a request that is not void: of a view from 1 on, and what it names fits
+record IsMeant (layout : Layout) (me : BrickId) (node : Node) (call : Call) (request : Request) (group : Group) : Type 0 where
+  view : 1 ≤ call.view.0
+  fitting : fits layout group.m call request (seat_now me node call group) ≡ true
+
+meant : (layout : Layout) (me : BrickId) (node : Node) (call : Call) (request : Request) (group : Group)
+    → is_void layout me node call request group ≡ false → IsMeant layout me node call request group
+meant layout me node call request group isnt =
+    let fit : Bool = fits layout group.m call request (seat_now me node call group) in
+    let seatless : Bool = is_now node call && not (is_some (seat_now me node call group)) in
+    let stripe = or_parts (not (nat_lt call.stripe.0 group.stripes)) _ isnt in
+    let view = or_parts (nat_eq call.view.0 0) _ stripe.1 in
+    let known = or_parts (nat_lt (view_at node call.group.0) call.view.0) (seatless || not fit) view.1 in
+    let seat = or_parts seatless (not fit) known.1 in
+    let some = eqb-false call.view.0 0 view.0 in
+    record { view = omega (arith, some); fitting = not-false fit seat.1 }
+
+-- what is stored then is a block
+stores_block : (layout : Layout) (m : ℕ) (call : Call) (request : Request) (seat : Option ℕ) → fits layout m call request seat ≡ true
+    → StoresBlock layout.block request
+stores_block layout m call (requests.Write t bytes) seat fit = eqb-true (length bytes) layout.block fit
+stores_block layout m call request seat fit = tt
+
+-- what an unbegun part of a stripe has is short
+fresh_short : (block view : ℕ) → AreShort block (fresh_replica block view).log
+fresh_short block view =
+    cond_both (nat_eq view 1) _ _ (λ (r : Replica). AreShort block r.log) (λ first. (let long : length {A = ℕ} (replicate block 0) ≡ block = length-replicate block 0 in omega (arith, long), tt)) (λ later. tt)
+
 module _ (layout : Layout) (is : IsLayout layout) (me : BrickId) where
   -- a step that changes nothing
   still : (node : Node) → NodeFits layout node → StepFits layout (no_step node)
   still node fits = record { node = fits; packets = tt; answers = tt }
 
-  -- a group of the layout, kept by bricks of it
-  kept_fits : (g : ℕ) (group : Group) (members : List BrickId) → group_of layout g ≡ Some group → AreBricks layout members
-      → GroupFits layout (kept_by members group)
-  kept_fits g group members at below =
-      let its : IsGroup layout.block layout.bricks group = is.each g group at in
-      record { few = its.limits.few_blocks; room = its.room; members = below }
+  -- a group of the layout, whatever bricks of it keep it
+  kept_fits : (g : ℕ) (group : Group) (members : List BrickId) → group_of layout g ≡ Some group → GroupFits layout (kept_by members group)
+  kept_fits g group members at =
+      let its : IsGroup layout.block layout.bricks group = is.each g group at in record { few = its.limits.few_blocks; room = its.room }
 
   -- one open operation changes
   with_open : (node : Node) (k : ℕ) (call : Option Coordinator) → NodeFits layout node → ((c : Coordinator) → call ≡ Some c → CallFits layout c)
@@ -72,8 +111,32 @@ module _ (layout : Layout) (is : IsLayout layout) (me : BrickId) where
   with_open node k call fits own q =
       put_each (λ j x. (c : Coordinator) → x ≡ Some c → CallFits layout c) node.calls k call own (λ j other c at. fits.calls j c at) q
 
+  opens : (node : Node) (known busy k : ℕ) (call : Option Coordinator) → NodeFits layout node → ((c : Coordinator) → call ≡ Some c → CallFits layout c)
+      → NodeFits layout (with_call node known busy k call)
+  opens node known busy k call fits own =
+      record { views = fits.views; accepted = fits.accepted; logs = fits.logs; calls = with_open node k call fits own; proposal = fits.proposal }
+
   this_open : (d : Coordinator) → CallFits layout d → (c : Coordinator) → Some d ≡ Some c → CallFits layout c
   this_open d fits c same = subst (CallFits layout) (same_Some d c same) fits
+
+  -- the proposal changes
+  proposes : (node : Node) (proposal : Option Proposal) → NodeFits layout node → ((p : Proposal) → proposal ≡ Some p → ProposalFits layout p)
+      → NodeFits layout (with_proposal node proposal)
+  proposes node proposal fits own =
+      record { views = fits.views; accepted = fits.accepted; logs = fits.logs; calls = fits.calls; proposal = own }
+
+  this_proposal : (q : Proposal) → ProposalFits layout q → (p : Proposal) → Some q ≡ Some p → ProposalFits layout p
+  this_proposal q fits p same = subst (ProposalFits layout) (same_Some q p same) fits
+
+  -- it knows a time
+  knows : (node : Node) (known : ℕ) → NodeFits layout node → NodeFits layout (with_known node known)
+  knows node known fits =
+      record { views = fits.views; accepted = fits.accepted; logs = fits.logs; calls = fits.calls; proposal = fits.proposal }
+
+  -- and a round
+  rounds : (node : Node) (reply : Reply) → NodeFits layout node → NodeFits layout (with_round node reply)
+  rounds node reply fits =
+      record { views = fits.views; accepted = fits.accepted; logs = fits.logs; calls = fits.calls; proposal = fits.proposal }
 
   -- ---- an operation begins
 
@@ -98,11 +161,12 @@ module _ (layout : Layout) (is : IsLayout layout) (me : BrickId) where
       let stripe = passed _ _ _ free in
       let has = passed _ _ _ stripe.1 in
       let given = passed _ _ _ has.1 in
-      let keeps : GroupFits layout (kept_by (node.learnt ask.group.0).view.members group)
-      = kept_fits ask.group.0 group (node.learnt ask.group.0).view.members at (fits.members ask.group.0) in
-      let c : Coordinator = new_coordinator (kept_by (node.learnt ask.group.0).view.members group) me now node ask in
+      let view : View = (node.learnt ask.group.0).view in
+      let keeps : GroupFits layout (kept_by view.members group) = kept_fits ask.group.0 group view.members at in
+      let c : Coordinator = new_coordinator (kept_by view.members group) me now node ask in
       let call : CallFits layout c = record {
         group = keeps;
+        view = fits.views ask.group.0 group at;
         has = has.0;
         given = given.0;
         content = given_short group.m layout.block ask.op given.0 keeps.room;
@@ -110,7 +174,13 @@ module _ (layout : Layout) (is : IsLayout layout) (me : BrickId) where
         counted = tt;
       } in
       record {
-        node = record { members = fits.members; logs = fits.logs; calls = with_open node c.call.seq (Some c) fits (this_open c call) };
+        node = record {
+          views = fits.views;
+          accepted = fits.accepted;
+          logs = fits.logs;
+          calls = with_open node c.call.seq (Some c) fits (this_open c call);
+          proposal = fits.proposal;
+        };
         packets = phase_fits layout is.few_bytes me c call;
         answers = tt;
       }
@@ -133,31 +203,18 @@ module _ (layout : Layout) (is : IsLayout layout) (me : BrickId) where
   reacted_fits from node call reaction below fits reacts =
       record {
         node = record {
-          members = fits.members;
+          views = fits.views;
+          accepted = fits.accepted;
           logs = parts_each (λ g e s part. AreShort layout.block part.log) node call reaction reacts.log fits.logs;
           calls = fits.calls;
+          proposal = fits.proposal;
         };
         packets = replies_fit from call reaction.reply below reacts.reply;
         answers = tt;
       }
 
-  -- a seat that a request is served at stores what is a block
-  abbrev StoresBlock : ℕ → Request → Option ℕ → Type 0
-  StoresBlock m request seat = IfSome seat (λ k. fits_block layout.block m k request ≡ true)
-
-  fitting : (m : ℕ) (request : Request) (seat : Option ℕ) → StoresBlock m request (fitting_seat layout.block m request seat)
-  fitting m request None = tt
-  fitting m request (Some seat) =
-      cond_both (fits_block layout.block m seat request) (Some seat) None (StoresBlock m request) (λ fits. fits) (λ void. tt)
-
-  served_fitting : (node : Node) (call : Call) (request : Request) (group : Group)
-      → StoresBlock group.m request (seat_served layout me node call request group)
-  served_fitting node call request group =
-      cond_both (is_served group node call) (fitting_seat layout.block group.m request (seat_in group.members me.0)) None (StoresBlock group.m request)
-      (λ there. fitting group.m request (seat_in group.members me.0)) (λ none. tt)
-
   requested_fits_at : (m : ℕ) (from : BrickId) (node : Node) (call : Call) (request : Request) (seat : Option ℕ) → from.0 < layout.bricks
-      → NodeFits layout node → StoresBlock m request seat → StepFits layout (requested_at (coding layout) m me from node call request seat)
+      → NodeFits layout node → StoresBlock layout.block request → StepFits layout (requested_at (coding layout) m me from node call request seat)
   requested_fits_at m from node call request None below fits stores = still node fits
   requested_fits_at m from node call request (Some seat) below fits stores =
       reacted_fits from node call
@@ -165,62 +222,231 @@ module _ (layout : Layout) (is : IsLayout layout) (me : BrickId) where
       (handled_fits layout.block is.few_bytes m (full_at layout.records node.live) seat (replica_at node call) request
       (fits.logs call.group.0 call.view.0 call.stripe.0) stores)
 
-  requested_fits_in : (from : BrickId) (node : Node) (call : Call) (request : Request) (group : Option Group) → from.0 < layout.bricks
-      → NodeFits layout node → StepFits layout (requested_in (coding layout) me from node call request group)
-  requested_fits_in from node call request None below fits = still node fits
-  requested_fits_in from node call request (Some group) below fits =
-      requested_fits_at group.m from node call request (seat_served layout me node call request group) below fits
-      (served_fitting node call request group)
+  -- a brick that serves the view no more tells a later one, which it has learnt, or that it accepted a list
+  moves_fit : (node : Node) (call : Call) → 1 ≤ call.view.0 → ViewFits layout (node.learnt call.group.0).view
+      → IfSome (moved_at node call) (λ reply. reply_fits reply ≡ true)
+  moves_fit node call some fits =
+      cond_both (nat_lt call.view.0 (view_at node call.group.0)) (Some (moved_to (node.learnt call.group.0).view))
+      (if has_accepted node call.group.0 then Some (Moved (record { 0 = call.view.0 + 1 }) None) else None)
+      (λ (r : Option Reply). IfSome r (λ reply. reply_fits reply ≡ true))
+      (λ later.
+      moved_fits layout (node.learnt call.group.0).view fits
+      (let above = ltb-true call.view.0 (view_at node call.group.0) later in omega (arith, some, above)))
+      (λ own.
+      cond_both (has_accepted node call.group.0) (Some (Moved (record { 0 = call.view.0 + 1 }) None)) None
+      (λ (r : Option Reply). IfSome r (λ reply. reply_fits reply ≡ true)) (λ has. refl) (λ free. tt))
+
+  served_fits : (m : ℕ) (from : BrickId) (node : Node) (call : Call) (request : Request) (seat : Option ℕ) (moved : Option Reply)
+      → from.0 < layout.bricks → NodeFits layout node → StoresBlock layout.block request → IfSome moved (λ reply. reply_fits reply ≡ true)
+      → StepFits layout (served_unless (coding layout) m me from node call request seat moved)
+  served_fits m from node call request seat None below fits stores says = requested_fits_at m from node call request seat below fits stores
+  served_fits m from node call request seat (Some moved) below fits stores says =
+      record { node = fits; packets = replies_fit from call (Some moved) below says; answers = tt }
+
+  -- it votes
+  voted_fits_at : (from : BrickId) (node : Node) (call : Call) (vote : Voted) → from.0 < layout.bricks → NodeFits layout node → VoteFits vote
+      → StepFits layout (voted_on me from node call vote)
+  voted_fits_at from node call vote below fits votes =
+      record {
+        node = record {
+          views = fits.views;
+          accepted = put_each (λ (g : ℕ) (kept : Kept (List BrickId)). (group : Group) → group_of layout g ≡ Some group → NamesSome (last_of kept))
+              node.ballots call.group.0 vote.kept (λ group at. votes.kept) (λ g other. fits.accepted g);
+          logs = fits.logs;
+          calls = fits.calls;
+          proposal = fits.proposal;
+        };
+        packets = replies_fit from call (Some vote.reply) below votes.reply;
+        answers = tt;
+      }
+
+  ballot_voted : (from : BrickId) (node : Node) (call : Call) (ballot : Ballot) (asks : Option (List BrickId)) (group : Group) → from.0 < layout.bricks
+      → NodeFits layout node → group_of layout call.group.0 ≡ Some group → 1 ≤ call.view.0 → IfSome asks (λ members. has_some members ≡ true)
+      → StepFits layout (voted_on me from node call (vote_at node call ballot asks))
+  ballot_voted from node call ballot asks group below fits at some asks_some =
+      voted_fits_at from node call (vote_at node call ballot asks) below fits
+      (vote_fits layout call.view.0 (node.learnt call.group.0) (node.ballots call.group.0) ballot asks some (fits.views call.group.0 group at)
+      (fits.accepted call.group.0 group at) asks_some)
+
+  -- what a brick does with a request that is not void: it may serve it, in the view that these members keep
+  serves : (from : BrickId) (node : Node) (call : Call) (request : Request) (group : Group) (members : List BrickId) → from.0 < layout.bricks
+      → NodeFits layout node → group_of layout call.group.0 ≡ Some group → IsMeant layout me node call request (kept_by members group)
+      → StepFits layout (served_unless (coding layout) group.m me from node call request (seat_now me node call (kept_by members group))
+      (moved_at node call))
+  serves from node call request group members below fits at means =
+      served_fits group.m from node call request (seat_now me node call (kept_by members group)) (moved_at node call) below fits
+      (stores_block layout group.m call request (seat_now me node call (kept_by members group)) means.fitting)
+      (moves_fit node call means.view (fits.views call.group.0 group at))
+
+  as_meant : (from : BrickId) (node : Node) (call : Call) (request : Request) (group : Group) (members : List BrickId) → from.0 < layout.bricks
+      → NodeFits layout node → group_of layout call.group.0 ≡ Some group → IsMeant layout me node call request (kept_by members group)
+      → StepFits layout (requested_as (coding layout) (kept_by members group) me from node call request)
+  as_meant from node call (requests.Read want) group members below fits at means =
+      serves from node call (requests.Read want) group members below fits at means
+  as_meant from node call (requests.Order t) group members below fits at means =
+      serves from node call (requests.Order t) group members below fits at means
+  as_meant from node call (requests.OrderRead t look want) group members below fits at means =
+      serves from node call (requests.OrderRead t look want) group members below fits at means
+  as_meant from node call (requests.Write t bytes) group members below fits at means =
+      serves from node call (requests.Write t bytes) group members below fits at means
+  as_meant from node call (requests.Modify t base j delta) group members below fits at means =
+      serves from node call (requests.Modify t base j delta) group members below fits at means
+  as_meant from node call (requests.Collect t) group members below fits at means =
+      requested_fits_at group.m from node call (requests.Collect t) (seat_now me node call (kept_by members group)) below fits tt
+  as_meant from node call (requests.OldRead bound) group members below fits at means = still node fits
+  as_meant from node call (requests.Prepare ballot) group members below fits at means =
+      ballot_voted from node call ballot None group below fits at means.view tt
+  as_meant from node call (requests.Accept ballot asked) group members below fits at means =
+      ballot_voted from node call ballot (Some asked) group below fits at means.view
+      (names_some group.m layout.bricks asked (is.each call.group.0 group at).limits.some_block
+      (and_parts (has_successor call) (is_membership group.m layout.bricks asked) means.fitting).1)
+
+  requested_fits_in : (from : BrickId) (node : Node) (call : Call) (request : Request) (members : List BrickId) (group : Option Group)
+      → group_of layout call.group.0 ≡ group → from.0 < layout.bricks → NodeFits layout node
+      → StepFits layout (requested_in (coding layout) me from node call request (option_map (kept_by members) group))
+  requested_fits_in from node call request members None at below fits = still node fits
+  requested_fits_in from node call request members (Some group) at below fits =
+      let kept : Group = kept_by members group in
+      cond_both (is_void layout me node call request kept) (no_step node) (requested_as (coding layout) kept me from node call request) (StepFits layout)
+      (λ void. still node fits) (λ isnt. as_meant from node call request group members below fits at (meant layout me node call request kept isnt))
 
   requested_fits : (from : BrickId) (node : Node) (call : Call) (request : Request) → from.0 < layout.bricks → NodeFits layout node
       → StepFits layout (requested (coding layout) me from node call request)
   unfolding requested
-  requested_fits from node call request below fits = requested_fits_in from node call request _ below fits
+  requested_fits from node call request below fits =
+      requested_fits_in from node call request (node.learnt call.group.0).view.members (group_of layout call.group.0) refl below fits
+
+  -- ---- a view is learnt
+
+  -- what a brick keeps of views, ballots and stripes once it has learnt a view
+  learnt_fits : (g : ℕ) (node : Node) (learnt : Learnt) → NodeFits layout node
+      → ((group : Group) → group_of layout g ≡ Some group → ViewFits layout learnt.view) → NodeFits layout (with_learnt layout.block g node learnt)
+  learnt_fits g node learnt fits own =
+      let first : ℕ = first_kept learnt in
+      record {
+        views = put_each (λ (h : ℕ) (l : Learnt). (group : Group) → group_of layout h ≡ Some group → ViewFits layout l.view) node.learnt g learnt own
+            (λ h other. fits.views h);
+        accepted = put_each (λ (h : ℕ) (kept : Kept (List BrickId)). (group : Group) → group_of layout h ≡ Some group → NamesSome (last_of kept))
+            node.ballots g (if nat_eq learnt.view.number.0 (view_at node g) then node.ballots g else None)
+            (λ group at.
+            cond_both (nat_eq learnt.view.number.0 (view_at node g)) (node.ballots g) None (λ (kept : Kept (List BrickId)). NamesSome (last_of kept))
+            (λ same. fits.accepted g group at) (λ other. tt))
+            (λ h other. fits.accepted h);
+        logs = put_each (λ (h : ℕ) (parts : ℕ → ℕ → Replica). (e s : ℕ) → AreShort layout.block (parts e s).log) node.replicas g
+            (λ e s. if nat_lt e first then fresh_replica layout.block e else node.replicas g e s)
+            (λ e s.
+            cond_both (nat_lt e first) (fresh_replica layout.block e) (node.replicas g e s) (λ (r : Replica). AreShort layout.block r.log)
+            (λ dropped. fresh_short layout.block e) (λ kept. fits.logs g e s))
+            (λ h other. fits.logs h);
+        calls = fits.calls;
+        proposal = fits.proposal;
+      }
+
+  taught_node : (g : ℕ) (node : Node) (view : View) → NodeFits layout node → ViewFits layout view → NodeFits layout (node_taught layout.block g node view)
+  unfolding node_taught learns
+  taught_node g node view fits taught =
+      cond_both (is_later (node.learnt g) view) (with_learnt layout.block g node (learns (node.learnt g) view)) node (NodeFits layout)
+      (λ later.
+      learnt_fits g node (learns (node.learnt g) view) fits
+      (λ group at.
+      cond_both (is_later (node.learnt g) view) (record { view = view; synced = false }) (node.learnt g) (λ (l : Learnt). ViewFits layout l.view)
+      (λ again. taught) (λ not. fits.views g group at)))
+      (λ not. fits)
+
+  -- the lists of a view that may be taught may keep its group
+  may_fit : (g : ℕ) (view : View) (group : Option Group) → group_of layout g ≡ group → may_teach layout (Some view) group ≡ true → ViewFits layout view
+  may_fit g view None at may = absurd (false≢true may)
+  may_fit g view (Some group) at may = view_fits layout group.m view (is.each g group at).limits.some_block may
+
+  named_fits : (node : Node) (group : GroupId) (view : View) → NodeFits layout node → NodeFits layout (node_learnt layout node group view)
+  unfolding node_learnt
+  named_fits node group view fits =
+      cond_both (may_teach layout (Some view) (group_of layout group.0)) (node_taught layout.block group.0 node view) node (NodeFits layout)
+      (λ may. taught_node group.0 node view fits (may_fit group.0 view (group_of layout group.0) refl may)) (λ void. fits)
+
+  -- a step, once the brick was taught a view too
+  then_fits : (g : ℕ) (view : Option View) (step : NodeStep) → IfSome view (ViewFits layout) → StepFits layout step
+      → StepFits layout (then_taught layout.block g view step)
+  then_fits g None step told fits = record { node = fits.node; packets = fits.packets; answers = fits.answers }
+  then_fits g (Some view) step told fits =
+      record { node = taught_node g step.node view fits.node told; packets = fits.packets; answers = fits.answers }
 
   -- ---- a reply
 
   carried_fits : (node : Node) (known : ℕ) (c : Coordinator) (next : Next) → NodeFits layout node → CallFits layout c → NextFits layout next
       → StepFits layout (carried_out (coding layout) me node known c next)
-  carried_fits node known c Ignores fits call next = record { node = record { members = fits.members; logs = fits.logs; calls = fits.calls }; packets = tt; answers = tt }
+  carried_fits node known c Ignores fits call next = record { node = knows node known fits; packets = tt; answers = tt }
   carried_fits node known c (Waits d) fits call next =
-      record {
-        node = record { members = fits.members; logs = fits.logs; calls = with_open node c.call.seq (Some d) fits (this_open d next) };
-        packets = tt;
-        answers = tt;
-      }
+      record { node = opens node known node.busy c.call.seq (Some d) fits (this_open d next); packets = tt; answers = tt }
   carried_fits node known c (Sends d) fits call next =
       record {
-        node = record { members = fits.members; logs = fits.logs; calls = with_open node c.call.seq (Some d) fits (this_open d next) };
+        node = opens node (max known d.stamp.time) node.busy c.call.seq (Some d) fits (this_open d next);
         packets = phase_fits layout is.few_bytes me d next;
         answers = tt;
       }
   carried_fits node known c (Makes d) fits call next =
       record {
-        node = record { members = fits.members; logs = fits.logs; calls = with_open node c.call.seq (Some d) fits (this_open d next) };
+        node = opens node known node.busy c.call.seq (Some d) fits (this_open d next);
         packets = phase_fits layout is.few_bytes me d next;
         answers = tt;
       }
   carried_fits node known c (Ends answer seen stored) fits call next =
       record {
-        node = record { members = fits.members; logs = fits.logs; calls = with_open node c.call.seq None fits (λ d none. cc) };
+        node = opens node known (node.busy - 1) c.call.seq None fits (λ d none. cc);
         packets = collect_fits layout is.few_bytes me c stored call;
         answers = (next, tt);
       }
 
+  -- a reply to the proposal
+  ballot_carried : (node : Node) (p : Proposal) (voting : Voting) → NodeFits layout node → ProposalFits layout p → VotingFits layout voting
+      → StepFits layout (carried_ballot layout me node p voting)
+  ballot_carried node p Ignored fits its votes = still node fits
+  ballot_carried node p (Waited q) fits its votes =
+      record { node = proposes node (Some q) fits (this_proposal q votes); packets = tt; answers = tt }
+  ballot_carried node p (Asks q) fits its votes =
+      record { node = proposes node (Some q) fits (this_proposal q votes); packets = ballot_fits layout is.few_bytes me q votes; answers = tt }
+  ballot_carried node p (Ended call ended) fits its votes =
+      record { node = proposes node None fits (λ q none. cc); packets = end_fits layout is.few_bytes me p ended its votes; answers = tt }
+
+  ballot_replied : (from : BrickId) (node : Node) (call : Call) (reply : Reply) (proposal : Option Proposal) → NodeFits layout node
+      → ((p : Proposal) → proposal ≡ Some p → ProposalFits layout p) → StepFits layout (replied_ballot layout me from node call reply proposal)
+  ballot_replied from node call reply None fits its = still node fits
+  ballot_replied from node call reply (Some p) fits its =
+      ballot_carried node p (voted layout.bricks p from call reply) fits (its p refl) (voted_fits layout p from call reply (its p refl))
+
   replied_fits_at : (now : ℕ) (from : BrickId) (node : Node) (call : Call) (reply : Reply) (its : Option Coordinator) → NodeFits layout node
       → ((c : Coordinator) → its ≡ Some c → CallFits layout c) → StepFits layout (replied_at (coding layout) me now from node call reply its)
   replied_fits_at now from node call reply None fits call_fits =
-      record { node = record { members = fits.members; logs = fits.logs; calls = fits.calls }; packets = tt; answers = tt }
+      let known : Node = with_known node (known_after node.known reply) in
+      ballot_replied from known call reply node.proposal (knows node (known_after node.known reply) fits) fits.proposal
   replied_fits_at now from node call reply (Some c) fits call_fits =
       let known : ℕ = known_after node.known reply in
       let fresh = fresh_stamp me c.call.view now node.boot known in
       carried_fits node known c (on_reply layout.block (block_code layout.block) fresh c from call reply) fits (call_fits c refl)
       (replied_fits layout is.few_bytes fresh c from call reply (call_fits c refl))
 
-  answered_fits : (now : ℕ) (from : BrickId) (node : Node) (call : Call) (reply : Reply) → NodeFits layout node
+  -- the lists that it tells of a view may keep the group, where it is not left out
+  told_fits : (g : ℕ) (view : Option View) → (not (is_some view) || may_teach layout view (group_of layout g)) ≡ true → IfSome view (ViewFits layout)
+  told_fits g None may = tt
+  told_fits g (Some view) may = may_fit g view (group_of layout g) refl may
+
+  answered_fits : (now : ℕ) (from : BrickId) (node : Node) (call : Call) (reply : Reply) → NodeFits layout node → lists_fit layout call reply ≡ true
       → StepFits layout (replied (coding layout) me now from node call reply)
   unfolding replied
-  answered_fits now from node call reply fits = replied_fits_at now from node call reply (node.calls call.seq) fits (fits.calls call.seq)
+  answered_fits now from node call reply fits may =
+      then_fits call.group.0 (view_counted layout from node call reply)
+      (replied_at (coding layout) me now from (with_round node reply) call reply (node.calls call.seq))
+      (cond_both (counts_here layout from call reply node.proposal (node.calls call.seq)) (view_told reply) None
+      (λ (v : Option View). IfSome v (ViewFits layout)) (λ counts. told_fits call.group.0 (view_told reply) may) (λ not. tt))
+      (replied_fits_at now from (with_round node reply) call reply (node.calls call.seq) (rounds node reply fits) (fits.calls call.seq))
+
+  heard_fits : (now : ℕ) (from : BrickId) (node : Node) (call : Call) (reply : Reply) → NodeFits layout node
+      → StepFits layout (heard (coding layout) me now from node call reply)
+  heard_fits now from node call reply fits =
+      let left : Node = with_known (with_round node reply) (known_after node.known reply) in
+      cond_both (lists_fit layout call reply) (replied (coding layout) me now from node call reply) (no_step left) (StepFits layout)
+      (λ may. answered_fits now from node call reply fits may)
+      (λ void. still left (knows (with_round node reply) (known_after node.known reply) (rounds node reply fits)))
 
   -- ---- a message from a brick, and a tick
 
@@ -228,7 +454,9 @@ module _ (layout : Layout) (is : IsLayout layout) (me : BrickId) where
       → StepFits layout (received (coding layout) me now node (record { from = from; to = to; message = message }))
   unfolding received
   received_as now node from to (messages.Request call request) below fits = requested_fits from node call request below fits
-  received_as now node from to (messages.Reply call reply) below fits = answered_fits now from node call reply fits
+  received_as now node from to (messages.Reply call reply) below fits = heard_fits now from node call reply fits
+  received_as now node from to (messages.Learn group view) below fits =
+      still (node_learnt layout node group view) (named_fits node group view fits)
   received_as now node from to message below fits = still node fits
 
   pub received_fits : (now : ℕ) (node : Node) (packet : Packet) → packet.from.0 < layout.bricks → NodeFits layout node
@@ -237,4 +465,6 @@ module _ (layout : Layout) (is : IsLayout layout) (me : BrickId) where
 
   pub ticked_fits : (node : Node) → NodeFits layout node → PacketsFit layout (ticked (coding layout) me node)
   unfolding ticked
-  ticked_fits node fits = all_again layout is.few_bytes me node.calls fits.calls node.seq
+  ticked_fits node fits =
+      all_append (PacketFits layout) (resent_up_to (coding layout) me node.calls node.seq) (ballot_resent me node.proposal)
+      (all_again layout is.few_bytes me node.calls fits.calls node.seq) (ballot_again layout is.few_bytes me node.proposal fits.proposal)

@@ -1,11 +1,14 @@
 -- No client waits for a call that was not made yet.
 use Rattle.std.proofs.Common.{◌≡◌, ℕ, ◌+◌, ◌<◌, ◌≤◌, Bool, true, false, if◌then◌else◌, nat_eq, nat_le, List, [], ◌∷◌, Option, Some, None, Result, Ok, Err, option_map, refl, sym, ap, ◌∙◌, subst, inl, inr, arith, cond}
+use Rattle.std.proofs.lemmas.Bool.{cond_both}
 use Rattle.std.proofs.lemmas.Bool.Decides.{nat_tests}
 use Rattle.fab_base.specs.declared.asks.Ask.{Ask}
 use Rattle.fab_base.specs.declared.answers.Refusal.{Refusal}
 use Rattle.fab_base.specs.declared.identities.BrickId.{BrickId}
-use Rattle.fab_base.specs.Layouts.{Group, group_of}
-use Rattle.protocol.specs.Views.{kept_by}
+use Rattle.fab_base.specs.declared.identities.GroupId.{GroupId}
+use Rattle.fab_base.specs.declared.member_lists.View.{View}
+use Rattle.fab_base.specs.Layouts.{Layout, Group, group_of}
+use Rattle.protocol.specs.Views.{kept_by, is_later, learns}
 use Rattle.messages.specs.declared.calls.Call.{Call}
 use Rattle.messages.specs.declared.packets.Message.{Message}
 use Rattle.messages.specs.declared.packets.Message.TheVariants as message
@@ -13,7 +16,9 @@ use Rattle.messages.specs.declared.requests.Request.{Request}
 use Rattle.messages.specs.declared.replies.Reply.{Reply}
 use Rattle.protocol.specs.declared.tellings.Answered.{Answered}
 use Rattle.protocol.specs.Coordinators.{Coordinator, Next, Ignores, Waits, Sends, Makes, Ends, on_reply}
-use Rattle.protocol.specs.Nodes.{Node, put, group_at, seat_served, requested_at, requested_in, requested, known_after, fresh_stamp, carried_out, replied_at, replied, received, began, invoked, refusal_in, refusal_of, ticked}
+use Rattle.protocol.specs.Nodes.{Node, NodeStep, put, group_at, requested, with_learnt, node_taught, node_taught_by, may_teach, node_learnt, known_after, fresh_stamp, with_known, with_round, carried_out, carried_ballot, replied_ballot, replied_at, view_counted, replied, lists_fit, heard, received, began, invoked, refusal_in, refusal_of, ticked}
+use Rattle.protocol.specs.Proposals.{Proposal, Voting, Ignored, Waited, Asks, Ended, voted}
+use Rattle.protocol.proofs.Served.{request_each}
 use Rattle.protocol.specs.Settings.{Setting}
 use Rattle.fab_io.specs.declared.links.Datagram.{Datagram}
 use Rattle.serving.specs.declared.clients.Client.{Client}
@@ -25,18 +30,31 @@ use Rattle.serving.specs.Ports.{ports_of}
 use Rattle.serving.specs.Serves.{Does}
 use Rattle.serving.specs.Servings.{Serving, HasNoClient, Served, served, asked_by, idle, to_ports, still_waiting}
 
--- a message makes a brick make no call
-requested_at-seq : (setting : Setting) (m : ℕ) (me from : BrickId) (node : Node) (call : Call) (request : Request) (seat : Option ℕ)
-    → (requested_at setting m me from node call request seat).node.seq ≡ node.seq
-requested_at-seq setting m me from node call request None = refl
-requested_at-seq setting m me from node call request (Some seat) = refl
+-- a request makes a brick make no call
+requested-seq : (setting : Setting) (me from : BrickId) (node : Node) (call : Call) (request : Request)
+    → (requested setting me from node call request).node.seq ≡ node.seq
+requested-seq setting me from node call request =
+    request_each (λ (step : NodeStep). step.node.seq ≡ node.seq) setting me from node call request refl (λ reply moved. refl)
+    (λ group seat at served. refl) (λ group ballot asks at. refl)
 
-requested_in-seq : (setting : Setting) (me from : BrickId) (node : Node) (call : Call) (request : Request) (group : Option Group)
-    → (requested_in setting me from node call request group).node.seq ≡ node.seq
-requested_in-seq setting me from node call request None = refl
-requested_in-seq setting me from node call request (Some group) =
-    requested_at-seq setting group.m me from node call request (seat_served setting.layout me node call request group)
+-- nor does a view that it is taught
+node_taught-seq : (block g : ℕ) (node : Node) (view : View) → (node_taught block g node view).seq ≡ node.seq
+unfolding node_taught
+node_taught-seq block g node view =
+    cond_both (is_later (node.learnt g) view) (with_learnt block g node (learns (node.learnt g) view)) node (λ (n : Node). n.seq ≡ node.seq)
+    (λ later. refl) (λ not. refl)
 
+taught_by-seq : (block g : ℕ) (node : Node) (view : Option View) → (node_taught_by block g node view).seq ≡ node.seq
+taught_by-seq block g node None = refl
+taught_by-seq block g node (Some view) = node_taught-seq block g node view
+
+node_learnt-seq : (layout : Layout) (node : Node) (group : GroupId) (view : View) → (node_learnt layout node group view).seq ≡ node.seq
+unfolding node_learnt
+node_learnt-seq layout node group view =
+    cond_both (may_teach layout (Some view) (group_of layout group.0)) (node_taught layout.block group.0 node view) node (λ (n : Node). n.seq ≡ node.seq)
+    (λ may. node_taught-seq layout.block group.0 node view) (λ void. refl)
+
+-- nor a reply
 carried_out-seq : (setting : Setting) (me : BrickId) (node : Node) (known : ℕ) (c : Coordinator) (next : Next)
     → (carried_out setting me node known c next).node.seq ≡ node.seq
 carried_out-seq setting me node known c Ignores = refl
@@ -45,20 +63,44 @@ carried_out-seq setting me node known c (Sends d) = refl
 carried_out-seq setting me node known c (Makes d) = refl
 carried_out-seq setting me node known c (Ends answer seen stored) = refl
 
+carried_ballot-seq : (layout : Layout) (me : BrickId) (node : Node) (p : Proposal) (voting : Voting)
+    → (carried_ballot layout me node p voting).node.seq ≡ node.seq
+carried_ballot-seq layout me node p Ignored = refl
+carried_ballot-seq layout me node p (Waited q) = refl
+carried_ballot-seq layout me node p (Asks q) = refl
+carried_ballot-seq layout me node p (Ended call ended) = refl
+
+replied_ballot-seq : (layout : Layout) (me from : BrickId) (node : Node) (call : Call) (reply : Reply) (proposal : Option Proposal)
+    → (replied_ballot layout me from node call reply proposal).node.seq ≡ node.seq
+replied_ballot-seq layout me from node call reply None = refl
+replied_ballot-seq layout me from node call reply (Some p) = carried_ballot-seq layout me node p (voted layout.bricks p from call reply)
+
 replied_at-seq : (setting : Setting) (me : BrickId) (now : ℕ) (from : BrickId) (node : Node) (call : Call) (reply : Reply) (found : Option Coordinator)
     → (replied_at setting me now from node call reply found).node.seq ≡ node.seq
-replied_at-seq setting me now from node call reply None = refl
+replied_at-seq setting me now from node call reply None =
+    replied_ballot-seq setting.layout me from (with_known node (known_after node.known reply)) call reply node.proposal
 replied_at-seq setting me now from node call reply (Some c) =
     carried_out-seq setting me node (known_after node.known reply) c
     (on_reply setting.layout.block setting.code (fresh_stamp me c.call.view now node.boot (known_after node.known reply)) c from call reply)
 
+heard-seq : (setting : Setting) (me : BrickId) (now : ℕ) (from : BrickId) (node : Node) (call : Call) (reply : Reply)
+    → (heard setting me now from node call reply).node.seq ≡ node.seq
+unfolding replied
+heard-seq setting me now from node call reply =
+    let step : NodeStep = replied_at setting me now from (with_round node reply) call reply (node.calls call.seq) in
+    cond_both (lists_fit setting.layout call reply) (replied setting me now from node call reply) _ (λ (s : NodeStep). s.node.seq ≡ node.seq)
+    (λ may.
+    taught_by-seq setting.layout.block call.group.0 step.node (view_counted setting.layout from node call reply)
+    ∙ replied_at-seq setting me now from (with_round node reply) call reply (node.calls call.seq))
+    (λ void. refl)
+
+-- nor any message
 received-seq : (setting : Setting) (me : BrickId) (now : ℕ) (node : Node) (from to : BrickId) (said : Message)
     → (received setting me now node (record { from = from; to = to; message = said })).node.seq ≡ node.seq
-unfolding received requested replied
-received-seq setting me now node from to (message.Request call request) =
-    requested_in-seq setting me from node call request (group_at setting.layout node call.group.0)
-received-seq setting me now node from to (message.Reply call reply) = replied_at-seq setting me now from node call reply (node.calls call.seq)
-received-seq setting me now node from to (message.Learn group view) = refl
+unfolding received
+received-seq setting me now node from to (message.Request call request) = requested-seq setting me from node call request
+received-seq setting me now node from to (message.Reply call reply) = heard-seq setting me now from node call reply
+received-seq setting me now node from to (message.Learn group view) = node_learnt-seq setting.layout node group view
 received-seq setting me now node from to (message.Synced group view) = refl
 received-seq setting me now node from to (message.Client ask) = refl
 received-seq setting me now node from to (message.ClientReply id answer) = refl

@@ -1,5 +1,5 @@
 -- What a datagram is to a brick.
-use Rattle.std.specs.Prelude.{◌≡◌, ◌⊎◌, ◌<◌, ◌^◌, ℕ, List, Option, Some, None}
+use Rattle.std.specs.Prelude.{◌≡◌, ◌⊎◌, ◌<◌, ◌^◌, ℕ, Option, Some, None}
 use Rattle.fab_base.specs.declared.identities.BrickId.{BrickId}
 use Rattle.fab_io.specs.declared.links.Datagram.{Datagram}
 use Rattle.fab_wire.specs.Spelling.{Spells}

@@ -111,7 +111,7 @@ impl Server {
     {
         match node.on_message(now, packet) {
             Ok(outs) => {
-                let (messages, _, answer) = outs.into_parts();
+                let (messages, _, answer, _) = outs.into_parts();
                 let reply = self.reply_to(answer);
                 self.send_step(link, messages.as_slice(), reply)
             }

@@ -63,7 +63,8 @@ impl Server {
 /// port it came from; a message from another port, and a client's answer, are dropped. A client's invocation may come from any port, and is
 /// answered there: at once where the brick refuses it, else when its operation ends. Each message that the brick sends goes to the port of
 /// its receiver as one datagram. One without a spelling, or for a port past 65,535, would not be sent: a brick that an image of a disk shows,
-/// and that has no operation open when it is called, has none, whatever comes.
+/// that has no operation open when it is called, and whose proposal, if it has one, is of its layout, has none, whatever comes. What the
+/// brick reports of its proposal is told to nobody.
 ///
 /// # Errors
 ///
@@ -80,7 +81,8 @@ pub fn serve<D: Disk, L: Link, C: Clock>(
 ) -> Result<u64, ServeFault>
     ensures served { node.old.brick.halted ≡ false → IsServed (coding node.old.layout) node.old.me (state_of node.old) (state_of node.new)
         (outside (L.waiting link.old) (L.sent link.old) (C.coming clock.old)) (outside (L.waiting link.new) (L.sent link.new) (C.coming clock.new)) turns result }
-    // Where an image of a disk shows the brick, and no operation of it is open, each message can be sent, whatever datagrams come.
+    // Where an image of a disk shows the brick, no operation of it is open, and its proposal is of its layout, each message can be sent, whatever
+    // datagrams come.
     ensures spelled { node.old.brick.halted ≡ false → SendsAll node.old }
     ensures same { IsSameBrick node.old node.new }
     // A brick that is not halted is not, unless its disk failed.

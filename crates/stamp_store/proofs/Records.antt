@@ -1,6 +1,6 @@
 -- A record that is read has the body that was read, and a record's body is read as that record.
 use Rattle.std.proofs.Common.{◌≡◌, ℕ, Bool, true, false, cond, eqb, List, [], ◌++◌, length, Option, Some, None, Result, Ok, Err, refl, sym, ap, ◌∙◌, arith}
-use Rattle.std.specs.Option.{IfSome}
+use Rattle.std.specs.Option.{IfSome, option_map}
 use Rattle.std.proofs.lemmas.Bool.{eqb-true}
 use Rattle.std.proofs.lemmas.List.{append-nil, nil_from_length}
 use Rattle.fab_base.specs.declared.identities.BrickId.{BrickId}
@@ -11,7 +11,7 @@ use Rattle.fab_base.specs.declared.stamps.Stamp.{Stamp}
 use Rattle.fab_base.specs.declared.stamps.Ballot.{Ballot}
 use Rattle.fields.specs.Codecs.{u32_codec}
 use Rattle.fields.specs.Parts.{spelled}
-use Rattle.fields.specs.Reading.{as_at}
+use Rattle.fields.specs.Reading.{◌>>=◌, as_at}
 use Rattle.fields.specs.Laws.{IsMade, made_field}
 use Rattle.stamp_store.proofs.Rows.{Rows, HasRow, with_row, without_rows, rows_read, rows_again}
 use Rattle.stamp_store.specs.declared.kept_records.Kept.{Kept}
@@ -69,6 +69,15 @@ all_read y rest x false some h = absurd cc
 pub whole_is : {X : Type 0} (r : Result (X × List ℕ) ℕ) (x : X) → whole r ≡ one x → r ≡ read_as x []
 whole_is (Err left) x e = absurd cc
 whole_is (Ok read) x e = all_read read.0 read.1 x (eqb (length read.1) 0) refl e
+
+-- what is made of all that is read is all that is read of what is made
+pub whole_made : {X Y : Type 0} (made : X → Y) (r : Result (X × List ℕ) ℕ) → option_map made (whole r) ≡ whole (r >>= λ x. read_as (made x.0) x.1)
+whole_made made (Err left) = refl
+whole_made {X} {Y} made (Ok read) = by (eqb (length read.1) 0)
+  where
+    by : (b : Bool) → option_map made (cond b (one read.0) None) ≡ cond b (one (made read.0)) None
+    by true = refl
+    by false = refl
 
 -- what is read is spelled so
 pub read_spells : (kind : ℕ) (bytes : List ℕ) (kept : Kept) → IsBytes bytes → read_of kind bytes ≡ Some kept → Spells kind bytes kept

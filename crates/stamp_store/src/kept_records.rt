@@ -1,8 +1,9 @@
 //! Records of a brick's store, and their bytes.
 
-ghost use Rattle.std.specs.Prelude.{◌≡◌, ◌++◌, IfOk, IfSome, OnOk, Some};
+ghost use Rattle.std.specs.Prelude.{◌≡◌, ◌++◌, IfOk, IfSome, OnOk, Some, option_map};
 ghost use Rattle.fields.specs.Parts.{spelled, AllFit};
 ghost use Rattle.fields.specs.Reading.{Gives};
+ghost use Rattle.stamp_store.specs.Reading.{whole};
 
 use fab_base::{Ballot, Bytes, GroupId, Members, NoMem, Stamp, StripeNo, View, ViewNo};
 use fields::{Field, Malformed, Reader};
@@ -49,7 +50,7 @@ pub enum Kept {
 impl Kept {
     ghost use Rattle.stamp_store.specs.declared.kept_records.Kept.{Kept};
     ghost use Rattle.stamp_store.specs.Spelling.{kind_of, body_of, HasMembers, Spells};
-    ghost use Rattle.stamp_store.specs.Reading.{kept_parts, kept_at, read_of};
+    ghost use Rattle.stamp_store.specs.Reading.{kept_parts, kept_at, read_of, made_boot, made_order};
 
     /// The record's kind in the store: 1 Boot, 2 View, 3 Ballots, 4 Order.
     pub fn kind(&self) -> u8
@@ -79,6 +80,20 @@ impl Kept {
         ensures only { (kept : Kept) → Spells kind body.now kept → result ≡ Some kept }
     {
         Kept::whole(kind, body)
+    }
+
+    /// The count of openings that these bytes spell as a record of kind 1. None exactly where they spell none.
+    pub fn read_boot(body: &[u8]) -> Option<u32>
+        ensures { option_map made_boot result ≡ read_of 1 body.now }
+    {
+        all_of(body)
+    }
+
+    /// The group, view, stripe and order stamp that these bytes spell as a record of kind 4. None exactly where they spell none.
+    pub fn read_order(body: &[u8]) -> Option<(GroupId, (ViewNo, (StripeNo, Stamp)))>
+        ensures { option_map made_order result ≡ read_of 4 body.now }
+    {
+        all_of(body)
     }
 
     /// The record of a kind that is all of these bytes.
@@ -179,5 +194,22 @@ impl Kept {
                 });
             }
         })
+    }
+}
+
+/// The field that is all of these bytes.
+fn all_of<T: Field>(body: &[u8]) -> Option<T>
+    ensures { result ≡ whole (T.codec.read body.now) }
+{
+    let mut from = Reader { rest: body };
+    match from.take() {
+        Ok(field) => {
+            if from.rest.is_empty() {
+                Some(field)
+            } else {
+                None
+            }
+        }
+        Err(_) => None,
     }
 }

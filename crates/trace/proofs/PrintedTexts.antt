@@ -15,7 +15,15 @@ use Rattle.fab_base.specs.declared.answers.Cause.{Cause}
 use Rattle.fab_base.specs.declared.answers.Cause.TheVariants.{Later, Gone, Full, Moved}
 use Rattle.fab_base.specs.declared.answers.Refusal.{Refusal}
 use Rattle.fab_base.specs.declared.answers.Refusal.TheVariants.{Down, NoStripe, NoQuorum, NoBlock, Length, Busy, Spent}
-use Rattle.fab_base.specs.Stamps.{stamp_text}
+use Rattle.fab_base.specs.declared.identities.BrickId.{BrickId}
+use Rattle.fab_base.specs.declared.stamps.Ballot.{Ballot}
+use Rattle.fab_base.specs.Stamps.{stamp_text, ballot_text}
+use Rattle.protocol.specs.declared.tellings.ViewAnswer.{ViewAnswer}
+use Rattle.protocol.specs.declared.tellings.ViewAnswer.TheVariants as ended
+use Rattle.protocol.specs.declared.tellings.SyncAnswer.{SyncAnswer}
+use Rattle.protocol.specs.declared.tellings.SyncAnswer.TheVariants as synced
+use Rattle.protocol.specs.declared.tellings.Report.{Report}
+use Rattle.protocol.specs.declared.tellings.Report.TheVariants.{View, Sync}
 use Rattle.reg_model.specs.declared.marks.Mark.{Mark}
 use Rattle.reg_model.specs.declared.marks.Mark.TheVariants.{Begin, End, Crash}
 use Rattle.lines.specs.declared.forms.Line.{Line}
@@ -23,7 +31,7 @@ use Rattle.lines.specs.declared.forms.Line.TheVariants as line
 use Rattle.protocol.specs.Settings.{Setting}
 use Rattle.protocol.specs.Worlds.{World, Event, happens}
 use Rattle.fab_base.specs.Texts.{newline, cause_text, refusal_text}
-use Rattle.world.specs.Texts.{place_text, op_text, answer_text, mark_text, marks_text, idle_text, outcome_of, new_marks, outcome_text, event_text, text_of, empty_text, line_text}
+use Rattle.world.specs.Texts.{place_text, op_text, answer_text, mark_text, marks_text, members_text, view_answer_text, sync_answer_text, report_text, reports_text, idle_text, outcome_of, new_marks, new_reports, outcome_text, event_text, text_of, empty_text, line_text}
 use Rattle.world.specs.declared.simulations.Outcome.{Outcome}
 use Rattle.world.specs.declared.simulations.Outcome.TheVariants.{Marks, Refused, Idle}
 use Rattle.trace.specs.Told.{told_in, IsTold, IsStepText, indented, is_inside}
@@ -206,6 +214,47 @@ speaks-marks : (marks : List Mark) → Speaks (marks_text marks)
 speaks-marks [] = speaks-none
 speaks-marks (mark ∷ marks) = speaks-both (mark_text mark) (marks_text marks) (speaks-line (mark_text mark) (mark_line mark)) (speaks-marks marks)
 
+-- a ballot
+inside-ballot : (b : Ballot) → IsInside (ballot_text b)
+inside-ballot b =
+    let boot : List ℕ = decimal b.boot in
+    inside-point b.round (decimal b.brick.0 ++ (codes "." ++ boot)) (inside-point b.brick.0 boot (inside-number b.boot))
+
+-- members, to the end of a line
+members_end : (members : List BrickId) → Ends (members_text members)
+members_end [] = ends_here
+members_end (member ∷ members) = behind (codes " ") _ refl (number member.0 (members_text members) (members_end members))
+
+view_ends : (answer : ViewAnswer) → Ends (view_answer_text answer)
+view_ends (ended.Decided view members) = behind (codes "decided ") _ refl (number view.0 (members_text members) (members_end members))
+view_ends (ended.Outbid ballot) = behind (codes "outbid ") _ refl (behind (ballot_text ballot) newline (inside-ballot ballot) ends_here)
+view_ends (ended.NotSynced brick) = behind (codes "notsynced ") _ refl (number brick.0 newline ends_here)
+view_ends (ended.Moved view) = behind (codes "moved ") _ refl (number view.0 newline ends_here)
+view_ends ended.BadMembers = behind (codes "badmembers") newline refl ends_here
+
+sync_ends : (answer : SyncAnswer) → Ends (sync_answer_text answer)
+sync_ends (synced.Synced view) = behind (codes "synced ") _ refl (number view.0 newline ends_here)
+sync_ends (synced.Stopped stripe cause) =
+    behind (codes "stopped ") _ refl (number stripe.0 _ (behind (codes " ") _ refl (cause_ends cause)))
+sync_ends (synced.Spent stripe) = behind (codes "spent ") _ refl (number stripe.0 newline ends_here)
+
+-- a word makes a line of what stands behind its first letter
+line-word : (first : ℕ) (text : List ℕ) → 32 < first → Ends text → IsLine (first ∷ text)
+line-word first text solid (body, inside, is) =
+    record { first = first; body = body; solid = solid; inside = inside; text_is = ap (λ (l : List ℕ). first ∷ l) is }
+
+-- reports, one by one and in a row
+report_line : (report : Report) → IsLine (report_text report)
+report_line (View group call answer) =
+    line-word 118 _ (lit< tt) (behind (codes "iew ") _ refl (number group.0 _ (behind (codes " ") _ refl (view_ends answer))))
+report_line (Sync group answer) =
+    line-word 115 _ (lit< tt) (behind (codes "ync ") _ refl (number group.0 _ (behind (codes " ") _ refl (sync_ends answer))))
+
+speaks-reports : (reports : List (BrickId × Report)) → Speaks (reports_text reports)
+speaks-reports [] = speaks-none
+speaks-reports (told ∷ reports) =
+    speaks-both (report_text told.1) (reports_text reports) (speaks-line (report_text told.1) (report_line told.1)) (speaks-reports reports)
+
 -- words alone
 speaks-refusal : (refusal : Refusal) → Speaks (refusal_text refusal)
 speaks-refusal Down = speaks-first 114 (codes "efused down") (lit< tt) refl
@@ -220,16 +269,16 @@ speaks-idle : Speaks idle_text
 speaks-idle = speaks-first 105 (codes "dle") (lit< tt) refl
 
 -- events, one by one and in a row
-speaks-outcome : (outcome : Outcome) (marks : List Mark) → Speaks (outcome_text outcome marks)
-speaks-outcome Marks marks = speaks-marks marks
-speaks-outcome (Refused refusal) marks = speaks-refusal refusal
-speaks-outcome Idle marks = speaks-idle
+speaks-outcome : (outcome : Outcome) (marks : List Mark) (reports : List (BrickId × Report)) → Speaks (outcome_text outcome marks reports)
+speaks-outcome Marks marks reports = speaks-both (marks_text marks) (reports_text reports) (speaks-marks marks) (speaks-reports reports)
+speaks-outcome (Refused refusal) marks reports = speaks-refusal refusal
+speaks-outcome Idle marks reports = speaks-idle
 
 speaks-events : (setting : Setting) (w : World) (events : List Event) → Speaks (text_of setting w events)
 speaks-events setting w [] = speaks-none
 speaks-events setting w (event ∷ events) =
     speaks-both (event_text setting w event) (text_of setting (happens setting w event) events)
-    (speaks-outcome (outcome_of setting w event) (new_marks w (happens setting w event))) (speaks-events setting (happens setting w event) events)
+    (speaks-outcome (outcome_of setting w event) (new_marks w (happens setting w event)) (new_reports w (happens setting w event))) (speaks-events setting (happens setting w event) events)
 
 -- what a line prints that is no event
 speaks-empty : (l : Line) → Speaks (empty_text l)
@@ -240,6 +289,7 @@ speaks-empty (line.SetClock b v) = speaks-none
 speaks-empty (line.Tick b) = speaks-none
 speaks-empty (line.Crash b) = speaks-none
 speaks-empty (line.Start b fault) = speaks-none
+speaks-empty (line.Propose b g members) = speaks-none
 speaks-empty (line.Calm n bricks) = speaks-idle
 
 speaks-events_of : (setting : Setting) (w : World) (l : Line) (events : List Event) → Speaks (line_text setting w l events)

@@ -4,7 +4,8 @@ use fab_base::BrickId;
 use messages::Packet;
 use std::alloc::Global;
 use trace_runs::{
-    DeliveryOutcome, FaultOutcome, Journal, LineEffects, Text, number_at, packet_at, put_message,
+    DeliveryOutcome, FaultOutcome, Journal, LearntView, LineEffects, Text, number_at, packet_at,
+    put_message,
 };
 
 /// Writes the message of a number, of all that were sent, with its number.
@@ -15,7 +16,7 @@ fn put_packet(notes: &mut Text, sent: &[Packet], journal: &Journal, number: u64)
     }
 }
 
-/// What came of a message that was to be delivered, where no message or mark tells it.
+/// What came of a message that was to be delivered, where nothing else tells it.
 fn outcome_text(outcome: DeliveryOutcome) -> &'static str {
     match outcome {
         DeliveryOutcome::Absent => ": there is no such message",
@@ -37,6 +38,18 @@ fn note_fault(notes: &mut Text, brick: BrickId, outcome: FaultOutcome) {
     notes.fill(form, &[brick.0.into(), call]);
 }
 
+/// Notes the view of a group by which a brick goes from then on.
+fn note_view(notes: &mut Text, learnt: &LearntView) {
+    let numbers = [
+        learnt.brick.0.into(),
+        learnt.view.number.0.into(),
+        learnt.group.0.into(),
+    ];
+    notes.fill("brick % goes by view % of group %,", &numbers);
+    notes.put_members(learnt.view.members.as_slice());
+    notes.put("\n");
+}
+
 /// What a line did, beside what `replay` prints for it: a note a line. These messages had been sent once it was run.
 pub(crate) fn effect_notes(
     alloc: Global,
@@ -56,6 +69,9 @@ pub(crate) fn effect_notes(
     }
     if let Some(brick) = effects.started {
         notes.fill("brick % started\n", &[brick.0.into()]);
+    }
+    for learnt in &effects.learnt {
+        note_view(&mut notes, learnt);
     }
     for place in effects.sent..sent.len() {
         put_packet(&mut notes, sent, journal, number_at(place));

@@ -1,8 +1,8 @@
 //! A run as a picture: time runs down, each brick has a line, messages are arrows, and operations are bars.
 
 use crate::figures::{
-    draw_all_names, draw_bars, draw_delivery, draw_happening, draw_lines, draw_mark, draw_power,
-    draw_sent, draw_stub, draw_title, line_of, put_bar, top_of, width_of,
+    draw_all_names, draw_bars, draw_delivery, draw_happening, draw_learnt, draw_lines, draw_mark,
+    draw_power, draw_sent, draw_stub, draw_title, line_of, put_bar, top_of, width_of,
 };
 use crate::journals::{Journal, Operation, number_at, place_of};
 use crate::line_effects::{DeliveryOutcome, LineEffects, packet_at};
@@ -136,6 +136,9 @@ impl Drawing {
         self.draw_deliveries(world.sent(), effects, first);
         if let Some(brick) = effects.started {
             draw_power(&mut self.picture, "start", first, brick);
+        }
+        for learnt in &effects.learnt {
+            draw_learnt(&mut self.picture, first, learnt);
         }
     }
 

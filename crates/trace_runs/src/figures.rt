@@ -1,7 +1,7 @@
 //! What a picture of a run is made of, each drawn at its place: time runs down, a row for each step, and each brick has a line.
 
 use crate::journals::number_at;
-use crate::line_effects::is_up;
+use crate::line_effects::{LearntView, is_up};
 use crate::operation_texts::{put_answer, put_op};
 use crate::packets::{kind_of, word_of};
 use crate::pictures::{Picture, TRACK};
@@ -128,6 +128,15 @@ pub(crate) fn draw_power(picture: &mut Picture, word: &str, row: usize, brick: B
     picture.dot(word, line_of(brick), y.saturating_sub(4));
     picture.name.put(word);
     picture.label(beside(brick), y, NARROW);
+}
+
+/// Draws that a brick goes by a view of a group from here on.
+pub(crate) fn draw_learnt(picture: &mut Picture, row: usize, learnt: &LearntView) {
+    let y = upper(row).saturating_add(6);
+    picture.dot("view", line_of(learnt.brick), y);
+    let numbers = [learnt.view.number.0.into(), learnt.group.0.into()];
+    picture.name.fill("view % of %", &numbers);
+    picture.label(beside(learnt.brick), lower(row), NARROW);
 }
 
 /// Draws a mark: an operation that begins, how one ends, or a brick that stops. What stands behind the bricks is there.

@@ -1,7 +1,7 @@
-//! What is known of the operations of a run, from its marks and messages.
+//! What is known of the operations and the proposals of a run, from its marks, messages and reports.
 
-use crate::line_effects::DeliveryOutcome;
-use fab_base::{BrickId, NoMem};
+use crate::line_effects::{Before, DeliveryOutcome};
+use fab_base::{BrickId, GroupId, NoMem, ViewNo};
 use messages::{Call, Message, Packet, Request};
 use reg_model::Mark;
 use std::alloc::Global;
@@ -14,6 +14,9 @@ type CallKey = (u16, u32, u64);
 
 /// A reply: the brick that sent it, and the phase and the number of its operation.
 type ReplyKey = (u16, u32, u64);
+
+/// A reply to a proposal: the brick that sent it, the phase, and the proposal's call.
+type VoiceKey = (u16, u32, CallKey);
 
 /// What is known of an operation.
 #[derive(Clone, Copy)]
@@ -30,7 +33,7 @@ pub struct Operation {
     phase: u32,
 }
 
-/// What is known of the operations of a run.
+/// What is known of the operations and the proposals of a run.
 pub struct Journal {
     /// The operations by number, from 1.
     operations: Vec<Operation>,
@@ -47,6 +50,12 @@ pub struct Journal {
     nameless: Option<u64>,
     /// The replies that were counted.
     counted: BTreeSet<ReplyKey>,
+    /// The proposals that are open, by their bricks: the call of each, and the number of its newest phase.
+    proposals: BTreeMap<u16, (CallKey, u32)>,
+    /// The replies that were counted in proposals.
+    voices: BTreeSet<VoiceKey>,
+    /// The views that bricks are known to have learnt, by brick and group, if later than view 1.
+    views: BTreeMap<(u16, u32), u32>,
 }
 
 impl Drop for Journal {
@@ -59,6 +68,9 @@ impl Drop for Journal {
             stripes: _,
             nameless: _,
             counted: _,
+            proposals: _,
+            voices: _,
+            views: _,
         } = self;
     }
 }
@@ -107,6 +119,9 @@ impl Journal {
             stripes: BTreeSet::new(alloc),
             nameless: None,
             counted: BTreeSet::new(alloc),
+            proposals: BTreeMap::new(alloc),
+            voices: BTreeSet::new(alloc),
+            views: BTreeMap::new(alloc),
         }
     }
 
@@ -130,28 +145,30 @@ impl Journal {
         *self.owners.get(place_of(number))?
     }
 
-    /// What came of the message of a number, which was delivered to a brick that was up, where no message or mark tells it. A reply that was
-    /// counted is noted: an operation counts the first reply of each brick in its newest phase.
+    /// What came of the message of a number, which was delivered to a brick that was up, where nothing else tells it. A reply that was
+    /// counted is noted: an operation or a proposal counts the first reply of each brick in its newest phase.
     pub(crate) fn note_delivery(
         &mut self,
         number: u64,
         packet: &Packet,
     ) -> Result<DeliveryOutcome, NoMem> {
         match &packet.message {
-            Message::Reply(call, _) => self.note_reply(number, call.phase, packet.from),
+            Message::Reply(call, _) => match self.operation_of(number) {
+                Some(operation) => self.note_reply(operation, call.phase, packet.from),
+                None => self.note_voice(key_of(packet.to, call), call.phase, packet.from),
+            },
             Message::Request(_, Request::Collect { .. }) => Ok(DeliveryOutcome::Told),
             _ => Ok(DeliveryOutcome::Ignored),
         }
     }
 
-    /// Notes that the message of a number was delivered, a brick's reply in a phase, and answers whether it was counted.
+    /// Notes that a brick's reply in a phase of an operation was delivered, and answers whether it was counted.
     fn note_reply(
         &mut self,
-        number: u64,
+        operation: u64,
         phase: u32,
         brick: BrickId,
     ) -> Result<DeliveryOutcome, NoMem> {
-        let operation = self.operation_of(number).unwrap_or(0);
         let is_due = match self.operation(operation) {
             Some(found) => found.end.is_none() && found.phase == phase,
             None => false,
@@ -160,6 +177,39 @@ impl Journal {
             return Ok(DeliveryOutcome::Counted);
         }
         Ok(DeliveryOutcome::NotCounted)
+    }
+
+    /// Notes that a brick's reply in a phase of a proposal was delivered, and answers whether it was counted.
+    fn note_voice(
+        &mut self,
+        key: CallKey,
+        phase: u32,
+        brick: BrickId,
+    ) -> Result<DeliveryOutcome, NoMem> {
+        let is_due = match self.proposals.get(&key.0) {
+            Some(open) => *open == (key, phase),
+            None => false,
+        };
+        if is_due && self.voices.insert((brick.0, phase, key))? {
+            return Ok(DeliveryOutcome::Counted);
+        }
+        Ok(DeliveryOutcome::NotCounted)
+    }
+
+    /// Notes that a brick has learnt a view of a group, and answers whether that is news.
+    pub(crate) fn note_view(
+        &mut self,
+        brick: BrickId,
+        group: GroupId,
+        view: ViewNo,
+    ) -> Result<bool, NoMem> {
+        let key = (brick.0, group.0);
+        let known = self.views.get(&key).copied().unwrap_or(1);
+        if view.0 <= known {
+            return Ok(false);
+        }
+        self.views.insert(key, view.0)?;
+        Ok(true)
     }
 
     /// Lists the messages of an operation that were delivered as it ran alone: none of its messages was delivered before.
@@ -183,19 +233,17 @@ impl Journal {
         Ok(())
     }
 
-    /// Notes what a line did, of all marks and messages: there were so many marks before it, and so many messages had been sent.
-    pub(crate) fn note_line(
-        &mut self,
-        marks: &[Mark],
-        sent: &[Packet],
-        marks_before: usize,
-        sent_before: usize,
-    ) -> Result<(), NoMem> {
-        for place in marks_before..marks.len() {
+    /// Notes what a line did, before which there was so much.
+    pub(crate) fn note_line(&mut self, world: &World, before: Before) -> Result<(), NoMem> {
+        let (marks, sent, reports) = (world.marks(), world.sent(), world.reports());
+        for place in before.marks..marks.len() {
             self.note_mark(place, &marks[place])?;
         }
-        for place in sent_before..sent.len() {
+        for place in before.sent..sent.len() {
             self.note_sent(&sent[place])?;
+        }
+        for place in before.reports..reports.len() {
+            self.proposals.remove(&reports[place].0.0);
         }
         Ok(())
     }
@@ -230,7 +278,7 @@ impl Journal {
         }
     }
 
-    /// Notes that a brick stopped, at the mark at this place: its operations that were open are cut off.
+    /// Notes that a brick stopped, at the mark at this place: its operations that were open are cut off, and so is its proposal.
     fn note_crash(&mut self, place: usize, brick: BrickId) -> Result<(), NoMem> {
         let index = usize::from(brick.0);
         let count = self.operations.len();
@@ -239,6 +287,7 @@ impl Journal {
         }
         let first = mem::replace(&mut self.stopped[index], count).min(count);
         cut_off(&mut self.operations[first..], brick, place);
+        self.proposals.remove(&brick.0);
         Ok(())
     }
 
@@ -249,6 +298,19 @@ impl Journal {
             None => None,
         };
         self.owners.push(operation)?;
+        self.note_ballot(packet)
+    }
+
+    /// Notes that a message was sent, if it is of a proposal: that is the one that its brick has open, and this is its newest phase.
+    fn note_ballot(&mut self, packet: &Packet) -> Result<(), NoMem> {
+        if let Message::Request(
+            call,
+            Request::Prepare { .. } | Request::Accept { .. },
+        ) = &packet.message
+        {
+            let key = key_of(packet.from, call);
+            self.proposals.insert(packet.from.0, (key, call.phase))?;
+        }
         Ok(())
     }
 

@@ -1,6 +1,7 @@
 //! The run of a layout and a schedule, a line after another: what each line did, which messages it delivered and sent, and a picture of all.
 //!
-//! It stands on what the world tells: its marks, its messages in the order of sending, and which of them were delivered.
+//! It stands on what the world tells: its marks, its messages in the order of sending, which of them were delivered, what bricks reported, and which
+//! views they have learnt.
 #![tactic(auto)]
 
 mod drawing;
@@ -16,7 +17,7 @@ mod texts;
 
 pub use drawing::Drawing;
 pub use journals::{Journal, Operation, number_at};
-pub use line_effects::{DeliveryOutcome, FaultOutcome, LineEffects, packet_at};
+pub use line_effects::{DeliveryOutcome, FaultOutcome, LearntView, LineEffects, packet_at};
 pub use line_runs::{LineRun, take_line};
 pub use operation_texts::{answer_of, op_of, put_answer, put_op};
 pub use packets::put_message;

@@ -1,11 +1,47 @@
 //! What a line of a schedule did.
 
 use crate::journals::{Journal, place_of};
-use fab_base::{BrickId, GroupId, NoMem, StripeNo};
+use fab_base::{BrickId, GroupId, NoMem, StripeNo, View};
 use lines::{Fault, Line, parse};
-use messages::Packet;
+use messages::{Message, Packet};
 use std::alloc::Global;
 use world::World;
+
+/// The most groups of a layout.
+const MOST_GROUPS: u32 = 64;
+
+/// How much there was before a line.
+#[derive(Clone, Copy)]
+pub(crate) struct Before {
+    /// How many marks.
+    pub(crate) marks: usize,
+    /// How many messages had been sent.
+    pub(crate) sent: usize,
+    /// How much bricks had reported.
+    pub(crate) reports: usize,
+}
+
+impl Before {
+    /// How much there is now.
+    pub(crate) fn of(world: &World) -> Before {
+        Before {
+            marks: world.marks().len(),
+            sent: world.sent().len(),
+            reports: world.reports().len(),
+        }
+    }
+}
+
+/// A view that a brick has learnt.
+#[derive(Drop)]
+pub struct LearntView {
+    /// The brick.
+    pub brick: BrickId,
+    /// The group.
+    pub group: GroupId,
+    /// The view.
+    pub view: View,
+}
 
 /// What came of a message that a line was to deliver.
 #[derive(Clone, Copy)]
@@ -14,13 +50,13 @@ pub enum DeliveryOutcome {
     Absent,
     /// Its receiver was down.
     Down,
-    /// A reply, which its operation counted. Nothing else came of it.
+    /// A reply, which its operation or its proposal counted. Nothing else came of it.
     Counted,
-    /// A reply, which its operation did not count: it has ended, or is in a later phase, or had this brick's reply.
+    /// A reply, which was not counted: its operation or its proposal has ended, or is in a later phase, or had this brick's reply.
     NotCounted,
-    /// A request, of which nothing came.
+    /// A request, of which nothing came, or a view that was taught and is no news.
     Ignored,
-    /// Messages or marks, which tell it; or a Collect, which tells nobody what it drops.
+    /// Messages, marks, reports or a view that was learnt, which tell it; or a Collect, which tells nobody what it drops.
     Told,
 }
 
@@ -46,6 +82,8 @@ pub struct LineEffects {
     pub fault: Option<(BrickId, FaultOutcome)>,
     /// The brick that it started.
     pub started: Option<BrickId>,
+    /// The views by which bricks go from then on.
+    pub learnt: Vec<LearntView>,
     /// How many marks there were before.
     pub marks: usize,
     /// How many messages had been sent before.
@@ -72,28 +110,31 @@ fn fault_outcome(fault: Fault, is_up: bool) -> FaultOutcome {
 }
 
 impl LineEffects {
-    /// What a line did that was run, before which there were so many marks, and so many messages had been sent; and whether `replay` prints `idle` for
-    /// it. The journal notes it too.
+    /// What a line did that was run, before which there was so much; and whether `replay` prints `idle` for it. The journal notes it too.
     pub(crate) fn of(
         alloc: Global,
         world: &World,
         journal: &mut Journal,
-        (marks, sent): (usize, usize),
+        before: Before,
         content: &[u8],
         is_idle: bool,
     ) -> Result<LineEffects, NoMem> {
-        journal.note_line(world.marks(), world.sent(), marks, sent)?;
+        journal.note_line(world, before)?;
         let line = parse(alloc, content)?;
         let mut effects = LineEffects {
             is_event: true,
             deliveries: Vec::new(alloc),
             fault: None,
             started: None,
-            marks,
-            sent,
+            learnt: Vec::new(alloc),
+            marks: before.marks,
+            sent: before.sent,
         };
         if let Some(line) = &line {
             effects.note_line(world, journal, line, is_idle)?;
+        }
+        if Before::of(world).reports != before.reports {
+            effects.note_told();
         }
         Ok(effects)
     }
@@ -115,7 +156,7 @@ impl LineEffects {
             }
             Line::Start { brick, fault } => {
                 self.note_start(world, *brick, *fault, is_idle);
-                Ok(())
+                self.note_started_views(world, journal)
             }
             Line::Nothing => {
                 self.is_event = false;
@@ -139,6 +180,9 @@ impl LineEffects {
             outcome = DeliveryOutcome::Down;
             if !is_idle {
                 outcome = journal.note_delivery(message, packet)?;
+                if self.note_taught(world, journal, packet)? {
+                    outcome = DeliveryOutcome::Told;
+                }
                 if let Some(fault) = fault {
                     self.fault = Some((packet.to, fault_outcome(fault, is_up(world, packet.to))));
                 }
@@ -162,6 +206,58 @@ impl LineEffects {
             if let (Some(fault), true) = (fault, is_up != is_idle) {
                 self.fault = Some((brick, fault_outcome(fault, is_up)));
             }
+        }
+    }
+
+    /// Notes the view of a group by which a brick goes, if that is news, and answers whether it is.
+    fn note_view(
+        &mut self,
+        world: &World,
+        journal: &mut Journal,
+        brick: BrickId,
+        group: GroupId,
+    ) -> Result<bool, NoMem> {
+        let Some(view) = world.learnt(brick, group) else {
+            return Ok(false);
+        };
+        if !journal.note_view(brick, group, view.number)? {
+            return Ok(false);
+        }
+        self.learnt.push(LearntView { brick, group, view })?;
+        Ok(true)
+    }
+
+    /// Notes a view that the receiver of a message has learnt, if any, and answers whether the message did no more than teach it.
+    fn note_taught(
+        &mut self,
+        world: &World,
+        journal: &mut Journal,
+        packet: &Packet,
+    ) -> Result<bool, NoMem> {
+        match &packet.message {
+            Message::Learn { group, .. } => self.note_view(world, journal, packet.to, *group),
+            Message::Reply(call, _) => {
+                self.note_view(world, journal, packet.to, call.group)?;
+                Ok(false)
+            }
+            _ => Ok(false),
+        }
+    }
+
+    /// Notes the views by which a brick goes that was started.
+    fn note_started_views(&mut self, world: &World, journal: &mut Journal) -> Result<(), NoMem> {
+        if let Some(brick) = self.started {
+            for group in 0..MOST_GROUPS {
+                self.note_view(world, journal, brick, GroupId(group))?;
+            }
+        }
+        Ok(())
+    }
+
+    /// Notes that a report tells what came of the line's delivery.
+    fn note_told(&mut self) {
+        for delivery in &mut self.deliveries {
+            delivery.1 = DeliveryOutcome::Told;
         }
     }
 }

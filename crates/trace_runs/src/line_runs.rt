@@ -4,7 +4,7 @@ ghost use Rattle.std.specs.Prelude.{IfOk};
 ghost use Rattle.trace_runs.specs.LineRuns.{StepsTo, IsLineRun};
 
 use crate::journals::Journal;
-use crate::line_effects::LineEffects;
+use crate::line_effects::{Before, LineEffects};
 use fab_base::{Bytes, NoMem};
 use std::alloc::Global;
 use world::{StepFault, World};
@@ -51,7 +51,7 @@ pub fn take_line(
 ) -> Result<Option<LineRun>, NoMem>
     ensures { IfOk result (IsLineRun world.old world.new content.now) }
 {
-    let before = (world.marks().len(), world.sent().len());
+    let before = Before::of(world);
     match step(world, content)? {
         Some(printed) => {
             let is_idle = is_idle(&printed);

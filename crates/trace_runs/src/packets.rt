@@ -1,7 +1,7 @@
 //! A message as it is shown.
 
 use crate::texts::Text;
-use messages::{Look, Message, Packet, Reply, Request, Version, Want};
+use messages::{Call, Choice, Look, Message, Packet, Reply, Request, Version, Want};
 
 /// A request's word.
 fn request_word(request: &Request) -> &'static str {
@@ -70,7 +70,8 @@ fn request_kind(request: &Request) -> &'static str {
         Request::Read { .. } | Request::OldRead { .. } => "read",
         Request::Order { .. } | Request::OrderRead { .. } => "order",
         Request::Write { .. } | Request::Modify { .. } => "write",
-        _ => "collect",
+        Request::Collect { .. } => "collect",
+        Request::Prepare { .. } | Request::Accept { .. } => "ballot",
     }
 }
 
@@ -80,7 +81,7 @@ pub(crate) fn kind_of(message: &Message) -> &'static str {
         Message::Request(_, request) => request_kind(request),
         Message::Reply(_, reply) if is_refusal(reply) => "refusal",
         Message::Reply(..) | Message::ClientReply { .. } => "reply",
-        Message::Learn { .. } | Message::Synced { .. } => "collect",
+        Message::Learn { .. } | Message::Synced { .. } => "learn",
         Message::Client(_) => "read",
     }
 }
@@ -93,7 +94,7 @@ fn put_look(text: &mut Text, look: &Look) {
     }
 }
 
-/// Writes what a request says. Of the agreement on a view's successor nothing is shown.
+/// Writes what a request says.
 fn put_request(text: &mut Text, request: &Request) {
     match request {
         Request::Read {
@@ -122,7 +123,13 @@ fn put_request(text: &mut Text, request: &Request) {
             text.fill(" of % delta ", &[u64::from(*data_block)]);
             text.put_hex(delta.as_slice());
         }
-        _ => {}
+        Request::OldRead { bound: Some(stamp) } => text.put_stamp(" below ", *stamp),
+        Request::OldRead { bound: None } => {}
+        Request::Prepare { ballot } => text.put_ballot(" ballot ", *ballot),
+        Request::Accept { ballot, members } => {
+            text.put_ballot(" ballot ", *ballot);
+            text.put_members(members.as_slice());
+        }
     }
 }
 
@@ -138,7 +145,18 @@ fn put_version(text: &mut Text, version: &Option<Version>) {
     }
 }
 
-/// Writes what a reply says. Of the agreement on a view's successor nothing is shown.
+/// Writes what a member has accepted to follow a view, with the ballot under which it did.
+fn put_choice(text: &mut Text, accepted: &Option<Choice>) {
+    match accepted {
+        Some(choice) => {
+            text.put_ballot(" accepted ", choice.ballot);
+            text.put_members(choice.members.as_slice());
+        }
+        None => text.put(" accepted none"),
+    }
+}
+
+/// Writes what a reply says.
 fn put_reply(text: &mut Text, reply: &Reply) {
     match reply {
         Reply::Found { order, newest } => {
@@ -151,28 +169,58 @@ fn put_reply(text: &mut Text, reply: &Reply) {
         } => text.put_stamp(" newest ", *stamp),
         Reply::Later { stamp } => text.put_stamp(" stamp ", *stamp),
         Reply::Full { live } => text.fill(" live %", &[u64::from(*live)]),
-        Reply::Moved { view, .. } => text.fill(" view %", &[u64::from(view.0)]),
-        _ => {}
+        Reply::Moved { view, lineage } => {
+            text.fill(" to view %", &[u64::from(view.0)]);
+            if let Some(known) = lineage {
+                text.put_members(known.get().members.as_slice());
+            }
+        }
+        Reply::Promise { accepted } => put_choice(text, accepted),
+        Reply::Outbid { ballot } => text.put_ballot(" ballot ", *ballot),
+        Reply::Ordered
+        | Reply::Stored
+        | Reply::Behind { newest: None }
+        | Reply::Retired
+        | Reply::Accepted
+        | Reply::NotSynced => {}
     }
 }
 
-/// Writes the message of a number, of this operation, as `#7 write 1>0 op 1 phase 2 stamp 1.1.0.1 block 41`.
+/// Writes what a call is of: this operation, or a proposal to follow a view of a group.
+fn put_call(text: &mut Text, call: &Call, operation: Option<u64>) {
+    match operation {
+        Some(operation) => text.fill(" op %", &[operation]),
+        None => text.fill(
+            " group % view %",
+            &[call.group.0.into(), call.view.0.into()],
+        ),
+    }
+    text.fill(" phase %", &[u64::from(call.phase)]);
+}
+
+/// Writes the message of a number, of this operation, as `#7 write 1>0 op 1 phase 2 stamp 1.1.0.1 block 41`; or of a proposal, as
+/// `#1 prepare 3>0 group 0 view 1 phase 1 ballot 1.3.1`; or of a view that is taught, as `#9 learn 3>0 group 0 view 2 members 1 2 3`.
 pub fn put_message(text: &mut Text, number: u64, packet: &Packet, operation: Option<u64>) {
     text.fill("#% ", &[number]);
     text.put(word_of(&packet.message));
     text.fill(" %>%", &[packet.from.0.into(), packet.to.0.into()]);
-    if let Some(operation) = operation {
-        text.fill(" op %", &[operation]);
-    }
     match &packet.message {
         Message::Request(call, request) => {
-            text.fill(" phase %", &[u64::from(call.phase)]);
+            put_call(text, call, operation);
             put_request(text, request);
         }
         Message::Reply(call, reply) => {
-            text.fill(" phase %", &[u64::from(call.phase)]);
+            put_call(text, call, operation);
             put_reply(text, reply);
         }
-        _ => {}
+        Message::Learn { group, view } => {
+            let view = view.get();
+            text.fill(" group % view %", &[group.0.into(), view.number.0.into()]);
+            text.put_members(view.members.as_slice());
+        }
+        Message::Synced { group, view } => {
+            text.fill(" group % view %", &[group.0.into(), view.0.into()]);
+        }
+        Message::Client(_) | Message::ClientReply { .. } => {}
     }
 }

@@ -8,7 +8,7 @@ fn width_of_characters(count: usize) -> u64 {
     (count as u64).saturating_mul(67) / 10
 }
 
-/// How shapes are drawn, in the colours of Okabe and Ito, which people with any sight can tell apart.
+/// How shapes are drawn, in the colours of Okabe and Ito, which people with any sight can tell apart, black and grey among them.
 const STYLE: &str = "<defs>
 <marker id=\"order\" viewBox=\"0 0 8 8\" refX=\"8\" refY=\"4\" markerWidth=\"6\" markerHeight=\"6\" orient=\"auto\"><path d=\"M0,0 L8,4 L0,8 z\" fill=\"#E69F00\"/></marker>
 <marker id=\"read\" viewBox=\"0 0 8 8\" refX=\"8\" refY=\"4\" markerWidth=\"6\" markerHeight=\"6\" orient=\"auto\"><path d=\"M0,0 L8,4 L0,8 z\" fill=\"#56B4E9\"/></marker>
@@ -16,6 +16,8 @@ const STYLE: &str = "<defs>
 <marker id=\"collect\" viewBox=\"0 0 8 8\" refX=\"8\" refY=\"4\" markerWidth=\"6\" markerHeight=\"6\" orient=\"auto\"><path d=\"M0,0 L8,4 L0,8 z\" fill=\"#CC79A7\"/></marker>
 <marker id=\"reply\" viewBox=\"0 0 8 8\" refX=\"8\" refY=\"4\" markerWidth=\"6\" markerHeight=\"6\" orient=\"auto\"><path d=\"M0,0 L8,4 L0,8 z\" fill=\"#009E73\"/></marker>
 <marker id=\"refusal\" viewBox=\"0 0 8 8\" refX=\"8\" refY=\"4\" markerWidth=\"6\" markerHeight=\"6\" orient=\"auto\"><path d=\"M0,0 L8,4 L0,8 z\" fill=\"#D55E00\"/></marker>
+<marker id=\"ballot\" viewBox=\"0 0 8 8\" refX=\"8\" refY=\"4\" markerWidth=\"6\" markerHeight=\"6\" orient=\"auto\"><path d=\"M0,0 L8,4 L0,8 z\" fill=\"#000000\"/></marker>
+<marker id=\"learn\" viewBox=\"0 0 8 8\" refX=\"8\" refY=\"4\" markerWidth=\"6\" markerHeight=\"6\" orient=\"auto\"><path d=\"M0,0 L8,4 L0,8 z\" fill=\"#999999\"/></marker>
 <marker id=\"lost\" viewBox=\"0 0 8 8\" refX=\"4\" refY=\"4\" markerWidth=\"6\" markerHeight=\"6\" orient=\"auto\"><path d=\"M4,0 L4,8\" stroke=\"#000000\" stroke-width=\"2\"/></marker>
 </defs>
 <style type=\"text/css\">
@@ -26,6 +28,8 @@ line { stroke-width: 1.4 }
 .collect { stroke: #CC79A7; marker-end: url(#collect) }
 .reply { stroke: #009E73; marker-end: url(#reply) }
 .refusal { stroke: #D55E00; marker-end: url(#refusal) }
+.ballot { stroke: #000000; marker-end: url(#ballot) }
+.learn { stroke: #999999; marker-end: url(#learn) }
 .lost { stroke-dasharray: 4,3; marker-end: url(#lost) }
 .turn { fill: none; stroke-width: 1.4 }
 .up { stroke: #000000; stroke-width: 2; stroke-opacity: 0.7 }
@@ -36,17 +40,20 @@ line { stroke-width: 1.4 }
 .start { fill: #009E73 }
 .stop { fill: #D55E00 }
 .happening { fill: #CC79A7 }
+.view { fill: #999999 }
 </style>
 ";
 
 /// The keys of the colours and of the labels.
 const LEGEND: &str =
-    "<line class=\"order\" x1=\"8\" y1=\"14\" x2=\"30\" y2=\"14\"/><text x=\"36\" y=\"18\">order</text>
-<line class=\"read\" x1=\"108\" y1=\"14\" x2=\"130\" y2=\"14\"/><text x=\"136\" y=\"18\">read</text>
-<line class=\"write\" x1=\"208\" y1=\"14\" x2=\"230\" y2=\"14\"/><text x=\"236\" y=\"18\">write</text>
-<line class=\"collect\" x1=\"308\" y1=\"14\" x2=\"330\" y2=\"14\"/><text x=\"336\" y=\"18\">collect</text>
-<line class=\"reply\" x1=\"408\" y1=\"14\" x2=\"430\" y2=\"14\"/><text x=\"436\" y=\"18\">reply</text>
-<line class=\"refusal\" x1=\"508\" y1=\"14\" x2=\"530\" y2=\"14\"/><text x=\"536\" y=\"18\">refusal</text>
+    "<line class=\"order\" x1=\"8\" y1=\"14\" x2=\"26\" y2=\"14\"/><text x=\"30\" y=\"18\">order</text>
+<line class=\"read\" x1=\"84\" y1=\"14\" x2=\"102\" y2=\"14\"/><text x=\"106\" y=\"18\">read</text>
+<line class=\"write\" x1=\"160\" y1=\"14\" x2=\"178\" y2=\"14\"/><text x=\"182\" y=\"18\">write</text>
+<line class=\"collect\" x1=\"236\" y1=\"14\" x2=\"254\" y2=\"14\"/><text x=\"258\" y=\"18\">collect</text>
+<line class=\"reply\" x1=\"312\" y1=\"14\" x2=\"330\" y2=\"14\"/><text x=\"334\" y=\"18\">reply</text>
+<line class=\"refusal\" x1=\"388\" y1=\"14\" x2=\"406\" y2=\"14\"/><text x=\"410\" y=\"18\">refusal</text>
+<line class=\"ballot\" x1=\"464\" y1=\"14\" x2=\"482\" y2=\"14\"/><text x=\"486\" y=\"18\">ballot</text>
+<line class=\"learn\" x1=\"540\" y1=\"14\" x2=\"558\" y2=\"14\"/><text x=\"562\" y=\"18\">learn</text>
 <text x=\"8\" y=\"36\">#7: message 7 arrives; +9: message 9 is sent; dashed: not handled; a brick's line: it is up</text>
 ";
 

@@ -1,6 +1,6 @@
 //! Texts that are made piece by piece.
 
-use fab_base::{NoMem, Stamp};
+use fab_base::{Ballot, BrickId, NoMem, Stamp};
 use std::alloc::Global;
 
 /// The most bytes of a block that are shown.
@@ -74,6 +74,25 @@ impl Text {
             stamp.boot.into(),
         ];
         self.fill("%.%.%.%", &numbers);
+    }
+
+    /// Adds a name and a ballot.
+    pub(crate) fn put_ballot(&mut self, name: &str, ballot: Ballot) {
+        self.put(name);
+        let numbers = [
+            ballot.round.into(),
+            ballot.brick.0.into(),
+            ballot.boot.into(),
+        ];
+        self.fill("%.%.%", &numbers);
+    }
+
+    /// Adds the members of a view.
+    pub fn put_members(&mut self, members: &[BrickId]) {
+        self.put(" members");
+        for member in members {
+            self.fill(" %", &[member.0.into()]);
+        }
     }
 
     /// Adds bytes in hex, the first 8 of them alone where there are more.

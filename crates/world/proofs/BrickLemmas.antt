@@ -1,6 +1,6 @@
 -- What one brick is, over its disk.
 use Rattle.std.proofs.Common.{◌≡◌, ℕ, zero, suc, Bool, true, false, cond, List, [], ◌∷◌, ◌++◌, refl, sym, ap, ◌∙◌, subst}
-use Rattle.std.specs.Prelude.{nat_eq, is_some, replicate, slice_index_or}
+use Rattle.std.specs.Prelude.{nat_eq, replicate, slice_index_or}
 use Rattle.fab_base.specs.declared.identities.BrickId.{BrickId}
 use Rattle.fab_disk.specs.MemDisk.{content_of, IsSound}
 use Rattle.fab_disk.specs.declared.mem_disk.MemDisk.{MemDisk}
@@ -14,10 +14,9 @@ use Rattle.brick_state.specs.declared.groups.Group.{Group}
 use Rattle.brick_state.specs.States.{StateOf, empty, no_group, live}
 use Rattle.brick_store.specs.Bricks.{Brick as Store}
 use Rattle.brick_store.specs.Images.{IsFound, StandsFor, state_in}
-use Rattle.brick_store.specs.Blocks.{accepted_of}
 use Rattle.protocol.specs.Views.{first_learnt}
 use Rattle.protocol.specs.Replicas.{first_replica}
-use Rattle.replica.specs.Parts.{part_of, part_in, learnt_or, learnt_in, accepted_in}
+use Rattle.replica.specs.Parts.{part_of, part_in, learnt_or, learnt_in, ballots_in, live_at, lists_stand}
 use Rattle.node.specs.Running.{Running, state_of, shape_at, ImageShows, IsSameBrick}
 use Rattle.fab_base.specs.Layouts.{Layout}
 use Rattle.protocol.specs.Nodes as machine
@@ -47,11 +46,12 @@ stopped_shows layout me state image shows = record {
   parts = record {
     boot = shows.parts.boot;
     live = shows.parts.live;
+    live_in = shows.parts.live_in;
     learnt = shows.parts.learnt;
-    accepted = shows.parts.accepted;
+    ballots = shows.parts.ballots;
     replicas = shows.parts.replicas;
   };
-  first = shows.first;
+  lists = shows.lists;
 }
 
 -- a disk that was left alone
@@ -72,15 +72,16 @@ same_store layout me node new image same store shows = record {
   parts = record {
     boot = ap (λ (x : Store MemDisk). x.state.boot) store ∙ shows.parts.boot;
     live = ap (λ (x : Store MemDisk). live x.state) store ∙ shows.parts.live;
+    live_in = λ g e. ap (λ (x : Store MemDisk). live_at x.state g e) store ∙ shows.parts.live_in g e;
     learnt = λ g.
         ap (λ (l : Layout). learnt_in l new.brick.state g) same ∙ ap (λ (x : Store MemDisk). learnt_in node.layout x.state g) store
         ∙ shows.parts.learnt g;
-    accepted = λ g. ap (λ (x : Store MemDisk). accepted_in x.state g) store ∙ shows.parts.accepted g;
+    ballots = λ g. ap (λ (x : Store MemDisk). ballots_in x.state g) store ∙ shows.parts.ballots g;
     replicas = λ g e s.
         ap (λ (l : Layout). part_in l.block new.brick.state g e s) same ∙ ap (λ (x : Store MemDisk). part_in node.layout.block x.state g e s) store
         ∙ shows.parts.replicas g e s;
   };
-  first = shows.first;
+  lists = shows.lists;
 }
 
 pub kept_same : (layout : Layout) (me : BrickId) (state next : machine.Node) (node new : Running MemDisk) → IsRunning layout me state node
@@ -117,11 +118,12 @@ empty_shows layout me block records image block_is records_is stands = record {
   parts = record {
     boot = refl;
     live = refl;
+    live_in = λ g e. refl;
     learnt = λ g. ap (λ (group : Group). learnt_or (first_learnt layout g) group.known) (sym (none_of 64 g));
-    accepted = λ g. ap (λ (group : Group). is_some (accepted_of group)) (sym (none_of 64 g));
+    ballots = λ g. ap (λ (group : Group). group.ballots) (sym (none_of 64 g));
     replicas = λ g e s. fresh_part layout.block e (nat_eq e 1);
   };
-  first = λ g. ap (λ (group : Group). group.known) (none_of 64 g);
+  lists = λ g group is. ap (λ (kept : Group). lists_stand group.m layout.bricks kept) (none_of 64 g);
 }
 
 -- a brick that took a step

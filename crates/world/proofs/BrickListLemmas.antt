@@ -10,6 +10,8 @@ use Rattle.std.proofs.lemmas.Result.{IfOk-weaker, on_err_weaker}
 use Rattle.fab_base.specs.declared.asks.Ask.{Ask}
 use Rattle.fab_base.specs.declared.faults.NoMem.{NoMem}
 use Rattle.fab_base.specs.declared.identities.BrickId.{BrickId}
+use Rattle.fab_base.specs.declared.identities.GroupId.{GroupId}
+use Rattle.fab_base.specs.declared.identities.ViewNo.{ViewNo}
 use Rattle.fab_disk.specs.MemDisk.{IsSound, content_of}
 use Rattle.fab_disk.specs.declared.mem_disk.MemDisk.{MemDisk}
 use Rattle.messages.specs.declared.packets.Packet.{Packet}
@@ -24,14 +26,14 @@ use Rattle.stripe_code.specs.Codes.{coding}
 use Rattle.node.specs.Calls.{packet_calls}
 use Rattle.node.specs.Faults.{RefusesAs}
 use Rattle.node.specs.Running.{Running, state_of, shape_at, IsSameBrick}
-use Rattle.node.specs.States.{BeginsAs}
+use Rattle.node.specs.States.{BeginsAs, StepsAs}
 use Rattle.protocol.specs.Worlds.{World, first_world, is_up}
-use Rattle.fab_base.specs.Layouts.{Layout}
+use Rattle.fab_base.specs.Layouts.{Layout, Group, group_of}
 use Rattle.protocol.specs.Nodes as machine
 use Rattle.world.specs.Runs.{brick_of}
 use Rattle.world.specs.Disks.{AreFreshDisks, IsUnwritten, ListsPacket, first_listed}
 use Rattle.world.specs.Faults.{IsReached, IsLeft, plan_of}
-use Rattle.world.specs.Shown.{IsRunning, Rests, ShowsPower, ShowsBrick, ShowsBricks, IsFreshBrick, Takes, HandledAs, IsNodeOf, IsOn, IsUp, FindsUp, StopsBrick, AreNodesOf, disk_in, disks_of, node_in, running_at, clock_at}
+use Rattle.world.specs.Shown.{IsRunning, Rests, ShowsPower, ShowsBrick, ShowsBricks, IsFreshBrick, Takes, HandledAs, ProposedAs, IsNodeOf, IsOn, IsUp, FindsUp, StopsBrick, AreNodesOf, disk_in, disks_of, node_in, running_at, clock_at}
 use Rattle.lines.specs.declared.forms.Fault.{Fault}
 use Rattle.world.proofs.DiskLemmas.{disk_at, disk_set, unwritten_but}
 use Rattle.world.specs.declared.bricks.Brick.{Brick}
@@ -179,6 +181,53 @@ asked_begun bricks b old node new ask result within is on same store begins =
     ))
     begins
 
+-- a brick that was asked to propose refuses as the machine's does
+pub proposing_refused : (layout : Layout) (bricks : List Brick) (b : ℕ) (brick : Brick) (node : Running MemDisk) (group : GroupId)
+    (result : Result Outcome NodeFault)
+    → b < length bricks → brick ≡ get_or bricks b brick → brick.power ≡ Up node
+    → RefusesAs result (machine.proposal_refusal node.layout (state_of node) group.0)
+    → (w : World) → ShowsBricks layout bricks w.nodes w.after w.up w.clocks → RefusesAs result (machine.proposal_refusal layout (w.nodes b) group.0)
+proposing_refused layout bricks b brick node group result within is on refuses w shows =
+    let runs = (runs_at layout bricks w b brick node within is on shows).1 in
+    subst (λ (x : machine.Node). RefusesAs result (machine.proposal_refusal layout x group.0)) runs.state_is
+    (subst (λ (l : Layout). RefusesAs result (machine.proposal_refusal l (state_of node) group.0)) runs.layout_is refuses)
+
+-- and proposes as the machine's does
+pub proposing_begun : (bricks : List Brick) (b : ℕ) (old : Brick) (node new : Running MemDisk) (group : GroupId) (members : List BrickId)
+    (result : Result Outcome NodeFault)
+    → b < length bricks → old ≡ get_or bricks b old → old.power ≡ Up node → IsSameBrick node new → new.brick ≡ node.brick
+    → IfOk result (StepsAs node.me (state_of new) (machine.proposed (coding node.layout) node.me (state_of node) group members))
+    → IfOk result (λ outs. (layout : Layout) (w : World) → ShowsBricks layout bricks w.nodes w.after w.up w.clocks
+    → ProposedAs layout w (brick_of b) (machine.proposed (coding layout) (brick_of b) (w.nodes b) group members) (set bricks b (with_power old (Up new))) outs)
+proposing_begun bricks b old node new group members result within is on same store begins =
+    IfOk-weaker result (StepsAs node.me (state_of new) (machine.proposed (coding node.layout) node.me (state_of node) group members)) _
+    (λ outs as_machine layout w shows.
+    let at = brick_at layout bricks w b old within is shows in
+    let up = runs_at layout bricks w b old node within is on shows in
+    let runs = up.1 in
+    let step : machine.NodeStep = machine.proposed (coding layout) (brick_of b) (w.nodes b) group members in
+    let alike : machine.proposed (coding node.layout) node.me (state_of node) group members ≡ step =
+    ap (λ (l : Layout). machine.proposed (coding l) node.me (state_of node) group members) runs.layout_is
+    ∙ ap (λ (x : BrickId). machine.proposed (coding layout) x (state_of node) group members) runs.me_is
+    ∙ ap (λ (x : machine.Node). machine.proposed (coding layout) (brick_of b) x group members) runs.state_is
+    in
+    let state : state_of new ≡ step.node = as_machine.state_is ∙ ap (λ (x : machine.NodeStep). x.node) alike in
+    record {
+      packets =
+          ap (λ (x : BrickId). packets_from x outs.messages) (sym runs.me_is) ∙ as_machine.packets ∙ ap (λ (x : machine.NodeStep). x.packets) alike;
+      told = as_machine.told ∙ ap (λ (x : machine.NodeStep). x.told) alike;
+      answers = as_machine.answers ∙ ap (λ (x : machine.NodeStep). x.answers) alike;
+      reports = as_machine.reports ∙ ap (λ (x : machine.NodeStep). x.reports) alike;
+      bricks = shows_step layout bricks b old (Up new) w step.node at.clock (
+        up.0,
+        still_runs layout (brick_of b) (w.nodes b) step.node node new runs same state
+            (kept_same layout (brick_of b) (w.nodes b) step.node node new runs same.layout store state)
+            (ap (λ (x : Store MemDisk). x.halted) store ∙ runs.runs) (subst (λ (x : Store MemDisk). IsSound x.disk) (sym store) runs.sound),
+      )
+          shows;
+    })
+    begins
+
 -- a brick of which the machine sees the same
 pub same_shown : (bricks : List Brick) (b : ℕ) (old : Brick) (node new : Running MemDisk)
     → b < length bricks → old ≡ get_or bricks b old → old.power ≡ Up node → IsSameBrick node new → new.brick ≡ node.brick
@@ -229,6 +278,7 @@ module _ (layout : Layout) (bricks : List Brick) (number : BrickId) (old : Brick
     packets = took.packets;
     told = took.told;
     answers = took.answers;
+    reports = took.reports;
     bricks = shows_step layout bricks number.0 old power w
         (machine.received (coding layout) number (w.clocks number.0) (w.nodes number.0) packet).node at_number.clock
         (power_now (machine.received (coding layout) number (w.clocks number.0) (w.nodes number.0) packet).node (w.after number.0) took.on) shows;
@@ -480,3 +530,22 @@ boots_as layout bricks w brick boot up says shows = by_node (running_at bricks b
     by_node None none is =
         absurd (let never : true ≡ false = sym (up_there layout bricks w brick up shows) ∙ running_not layout bricks w brick.0 shows none in cc)
     by_node (Some node) on is = is ∙ ap (λ (x : machine.Node). x.boot) (running_shown layout bricks w brick.0 node shows on).1.state_is
+
+-- a brick that runs tells the view of a group of its layout that it has learnt
+abbrev pub TellsView : GroupId → ViewNo → Running MemDisk → Type 0
+TellsView group view node = (kept : Group) → group_of node.layout group.0 ≡ Some kept → view.0 ≡ machine.view_at (state_of node) group.0
+
+-- so has it learnt the view that it tells
+pub view_as : (layout : Layout) (bricks : List Brick) (w : World) (brick : BrickId) (group : GroupId) (view : ViewNo) → IsUp bricks brick
+    → IfSome (running_at bricks brick.0) (TellsView group view)
+    → ShowsBricks layout bricks w.nodes w.after w.up w.clocks → (kept : Group) → group_of layout group.0 ≡ Some kept
+    → view.0 ≡ machine.view_at (w.nodes brick.0) group.0
+view_as layout bricks w brick group view up says shows kept there = by_node (running_at bricks brick.0) refl says
+  where
+    by_node : (found : Option (Running MemDisk)) → running_at bricks brick.0 ≡ found → IfSome found (TellsView group view)
+        → view.0 ≡ machine.view_at (w.nodes brick.0) group.0
+    by_node None none is =
+        absurd (let never : true ≡ false = sym (up_there layout bricks w brick up shows) ∙ running_not layout bricks w brick.0 shows none in cc)
+    by_node (Some node) on is =
+        let its = (running_shown layout bricks w brick.0 node shows on).1 in
+        is kept (ap (λ (l : Layout). group_of l group.0) its.layout_is ∙ there) ∙ ap (λ (x : machine.Node). machine.view_at x group.0) its.state_is

@@ -1,6 +1,6 @@
 -- The number of a call is that of an operation of this very call, in every world that a schedule reaches.
-use Rattle.std.proofs.Common.{◌≡◌, ◌≢◌, ℕ, ◌+◌, ◌≤◌, Bool, true, false, cond, nat_eq, List, [], ◌∷◌, Option, Some, None, refl, sym, ap, ◌∙◌, subst, arith}
-use Rattle.std.proofs.lemmas.Bool.{and_parts, cond_both, eqb-true}
+use Rattle.std.proofs.Common.{◌≡◌, ◌≢◌, ℕ, ◌+◌, ◌≤◌, ⊎_elim, Bool, true, false, cond, nat_eq, List, [], ◌∷◌, Option, Some, None, refl, sym, ap, ◌∙◌, subst, arith}
+use Rattle.std.proofs.lemmas.Bool.{and_parts, cond_both, cases_eq, eqb-true}
 use Rattle.std.proofs.lemmas.Option.{same_Some}
 use Rattle.fab_base.specs.declared.answers.Answer.{Answer}
 use Rattle.fab_base.specs.declared.stamps.Stamp.{Stamp}
@@ -14,7 +14,7 @@ use Rattle.protocol.specs.declared.tellings.Answered.{Answered}
 use Rattle.protocol.specs.declared.tellings.Told.{Told}
 use Rattle.protocol.specs.declared.tellings.Told.TheVariants.{Made, Seen}
 use Rattle.protocol.specs.Coordinators.{Coordinator}
-use Rattle.protocol.specs.Nodes.{NodeStep, put, invoked}
+use Rattle.protocol.specs.Nodes.{NodeStep, put, invoked, proposed}
 use Rattle.protocol.specs.Worlds.{World, Operation, Event, Delivers, first_world, is_brick, is_up, number_of, with_made, with_seen, with_answer, world_began, world_told, world_tells, world_answered, world_answers, world_stepped, happens, run}
 use Rattle.protocol_laws.proofs.Books.{Books}
 use Rattle.world.proofs.Places.{value_here, value_elsewhere}
@@ -175,6 +175,9 @@ numbers_began w brick ask step says i b k = by_brick (nat_eq i brick.0) refl
 numbers_cases : (setting : Setting) (w : World) → NumbersSay w → EventCases setting w NumbersSay
 numbers_cases setting w says = record {
   begins = λ brick ask may. numbers_began w brick ask (invoked setting brick (w.clocks brick.0) (w.nodes brick.0) ask) says;
+  proposes = λ brick group members may.
+      (let step : NodeStep = proposed setting brick (w.nodes brick.0) group members in
+      numbers_kept w (world_stepped setting w brick step) (stepped_same setting w brick step) says);
   handles = λ number packet at up. numbers_kept w (world_handled setting w number packet) (handled_same setting w number packet) says;
   sets = λ brick time is. says;
   ticks = λ brick up. says;
@@ -221,14 +224,14 @@ bricks_put : (layout : Layout) (w : World) (at : ℕ) (change : Option Operation
 bricks_put layout w at change same are n p is =
     let was = one_before w.operations at change same n p is in ap (is_brick layout) was.2.0 ∙ are n was.0 was.1
 
-bricks_handled : (setting : Setting) (w : World) (number : ℕ) (packet : Packet) → AreOfBricks setting.layout w
-    → AreOfBricks setting.layout (world_handled setting w number packet)
-bricks_handled setting w number packet are =
-    stepped_each (AreOfBricks setting.layout) setting packet.to (step_on setting w packet)
-    (λ x seq t base. bricks_put setting.layout x (number_of x packet.to.0 seq) (with_made t base) (made_before t base))
-    (λ x seq v. bricks_put setting.layout x (number_of x packet.to.0 seq) (with_seen v) (seen_before v))
-    (λ x one. bricks_put setting.layout x (number_of x packet.to.0 one.seq) (with_answer one.answer) (answer_before one.answer))
-    (λ x nodes held packets holds. holds) (world_counting setting w number packet) are
+bricks_stepped : (setting : Setting) (w : World) (brick : BrickId) (step : NodeStep) → AreOfBricks setting.layout w
+    → AreOfBricks setting.layout (world_stepped setting w brick step)
+bricks_stepped setting w brick step are =
+    stepped_each (AreOfBricks setting.layout) setting brick step
+    (λ x seq t base. bricks_put setting.layout x (number_of x brick.0 seq) (with_made t base) (made_before t base))
+    (λ x seq v. bricks_put setting.layout x (number_of x brick.0 seq) (with_seen v) (seen_before v))
+    (λ x one. bricks_put setting.layout x (number_of x brick.0 one.seq) (with_answer one.answer) (answer_before one.answer))
+    (λ x nodes held packets choices holds. holds) w are
 
 bricks_began : (layout : Layout) (w : World) (brick : BrickId) (ask : Ask) (step : NodeStep) → is_brick layout brick ≡ true → AreOfBricks layout w
     → AreOfBricks layout (world_began w brick ask step)
@@ -242,7 +245,8 @@ bricks_cases setting w are = record {
   begins = λ brick ask may.
       bricks_began setting.layout w brick ask (invoked setting brick (w.clocks brick.0) (w.nodes brick.0) ask)
       (and_parts (is_brick setting.layout brick) (w.up brick.0) (and_parts (is_up setting.layout w brick) _ may).0).0 are;
-  handles = λ number packet at up. bricks_handled setting w number packet are;
+  proposes = λ brick group members may. bricks_stepped setting w brick (proposed setting brick (w.nodes brick.0) group members) are;
+  handles = λ number packet at up. bricks_stepped setting (world_counting setting w number packet) packet.to (step_on setting w packet) are;
   sets = λ brick time is. are;
   ticks = λ brick up. are;
   stops = λ brick during up. are;
@@ -269,3 +273,16 @@ knows_calls setting w books = record {
   opened = λ i k c is. (let call = books.calls i k c is in (call.operation, call.operation_is, call.brick, call.boot, call.seq));
   up = λ i k c is. (books.calls i k c is).up;
 }
+
+-- a brick's next call is that of no operation yet
+pub next_unnumbered : (w : World) → NumbersSay w → KnowsCalls w → (i : ℕ) → number_of w i ((w.nodes i).seq + 1) ≡ 0
+next_unnumbered w says knows i = ⊎_elim
+    (λ (none : number_of w i ((w.nodes i).seq + 1) ≡ 0). none)
+    (λ (some : number_of w i ((w.nodes i).seq + 1) ≢ 0).
+    let found = says i (w.nodes i).boot ((w.nodes i).seq + 1) some in
+    let o : Operation = found.1.0 in
+    let at : o.brick.0 ≡ i = found.1.2.0 in
+    let boot : o.boot ≡ (w.nodes o.brick.0).boot = found.1.2.1 ∙ sym (ap (λ j. (w.nodes j).boot) at) in
+    let count : (w.nodes o.brick.0).seq ≡ (w.nodes i).seq = ap (λ j. (w.nodes j).seq) at in
+    absurd (omega (arith, knows.called (number_of w i ((w.nodes i).seq + 1)) o found.1.1 boot, found.1.2.2, count)))
+    (cases_eq (number_of w i ((w.nodes i).seq + 1)) 0)

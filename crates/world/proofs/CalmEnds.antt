@@ -1,5 +1,6 @@
 -- An operation that has run alone is over.
-use Rattle.std.proofs.Common.{List, [], ◌∷◌, map, ℕ, Bool, true, false, not, ◌≡◌, inl, inr, refl, sym, subst}
+use Rattle.std.proofs.Common.{List, [], ◌∷◌, ◌++◌, append-nil, length, drop, map, ℕ, Bool, true, false, not, ◌≡◌, inl, inr, refl, sym, ap, ◌∙◌, subst, arith}
+use Rattle.std.proofs.lemmas.List.{drop_all}
 use Rattle.std.specs.Prelude.{if◌then◌else◌}
 use Rattle.fab_base.specs.Layouts.{Layout}
 use Rattle.fab_base.specs.declared.identities.BrickId.{BrickId}
@@ -7,7 +8,8 @@ use Rattle.layout.specs.Limits.{IsLayout}
 use Rattle.fab_disk.specs.declared.mem_disk.MemDisk.{MemDisk}
 use Rattle.lines.specs.declared.forms.Line.TheVariants.{Calm}
 use Rattle.protocol.specs.Settings.{Setting}
-use Rattle.protocol.specs.Calms.{IsCalm, RunsAlone, Ended, Stuck, Next}
+use Rattle.protocol.specs.declared.tellings.Report.{Report}
+use Rattle.protocol.specs.Calms.{RunsAlone, Ended, Stuck, Next}
 use Rattle.protocol.specs.Worlds.{World, Event, Delivers, happens, run}
 use Rattle.rs_code.proofs.StripeLaws.{length-coded_block}
 use Rattle.stripe_code.specs.Codes.{coding}
@@ -15,29 +17,30 @@ use Rattle.stripe_code.proofs.Soundness.{coding_is_sound}
 use Rattle.calm_laws.specs.Laws.{IsOver, LeavesItsOwn}
 use Rattle.calm_laws.proofs.Discharge.{calm_ends}
 use Rattle.calm_laws.proofs.Leaving.{collects_leave}
+use Rattle.world.specs.Calms.{MayRunAlone}
 use Rattle.world.specs.Runs.{brick_of}
 use Rattle.world.specs.Shown.{Shows, Comes, Refused, HasRun, HasBegun, IsReachedBy, disks_of, is_empty}
-use Rattle.world.specs.Texts.{marks_text, new_marks, outcome_text, text_of, line_text}
+use Rattle.world.specs.Texts.{marks_text, reports_text, new_marks, new_reports, outcome_text, text_of, line_text}
 use Rattle.world.specs.declared.simulations.Outcome.TheVariants.{Marks, Idle}
 use Rattle.world.specs.declared.simulations.Simulation.{Simulation}
 use Rattle.world.proofs.CalmRuns.{begins_run}
 
 -- it is over
 over_alone : (layout : Layout) (is : IsLayout layout) (n : ℕ) (bricks : List BrickId) (w last : World) (events : List Event) → IsReachedBy layout w
-    → IsCalm (coding layout) w n bricks → RunsAlone (coding layout) n bricks w events last → IsOver last n
-over_alone layout is n bricks w last events (before, reached) calm runs =
+    → MayRunAlone (coding layout) w n bricks → RunsAlone (coding layout) n bricks w events last → IsOver last n
+over_alone layout is n bricks w last events (before, reached) may runs =
+    let its : MayRunAlone (coding layout) _ n bricks = subst (λ (v : World). MayRunAlone (coding layout) v n bricks) reached may in
     (calm_ends (coding layout) before n bricks (coding_is_sound layout is) (λ m content seat. length-coded_block m layout.block content seat)
-    is.few_records (subst (λ (v : World). IsCalm (coding layout) v n bricks) reached calm)).over events last
-    (subst (λ (v : World). RunsAlone (coding layout) n bricks v events last) reached runs)
+    is.few_records its.calm its.first).over events last (subst (λ (v : World). RunsAlone (coding layout) n bricks v events last) reached runs)
 
 -- and its Collects leave its own version only
 leaves_own : (layout : Layout) (is : IsLayout layout) (n : ℕ) (bricks : List BrickId) (w last : World) (events : List Event) → IsReachedBy layout w
-    → (calm : IsCalm (coding layout) w n bricks) → RunsAlone (coding layout) n bricks w events last → LeavesItsOwn (coding layout) w n bricks calm last
+    → (may : MayRunAlone (coding layout) w n bricks) → RunsAlone (coding layout) n bricks w events last → LeavesItsOwn (coding layout) w n bricks may.calm last
 leaves_own layout is n bricks w last events (before, reached) =
-    subst (λ (v : World). (calm : IsCalm (coding layout) v n bricks) → RunsAlone (coding layout) n bricks v events last
-    → LeavesItsOwn (coding layout) v n bricks calm last) (sym reached)
-    (λ calm runs. collects_leave (coding layout) before n bricks (coding_is_sound layout is)
-    (λ m content seat. length-coded_block m layout.block content seat) is.few_records calm events last runs)
+    subst (λ (v : World). (may : MayRunAlone (coding layout) v n bricks) → RunsAlone (coding layout) n bricks v events last
+    → LeavesItsOwn (coding layout) v n bricks may.calm last) (sym reached)
+    (λ may runs. collects_leave (coding layout) before n bricks (coding_is_sound layout is)
+    (λ m content seat. length-coded_block m layout.block content seat) is.few_records may.calm may.first events last runs)
 
 -- it leaves the world after its events
 runs_run : (setting : Setting) (n : ℕ) (bricks : List BrickId) (w last : World) (events : List Event) → RunsAlone setting n bricks w events last
@@ -48,46 +51,49 @@ runs_run setting n bricks _ _ _ (Next w last number events opens next more) = ru
 
 -- its line prints the marks that were made, or that there was nothing to do
 prints_marks : (setting : Setting) (w v : World) (n : ℕ) (numbers : List ℕ) (events : List Event) (some : Bool) → some ≡ not (is_empty events)
-    → text_of setting w events ≡ marks_text (new_marks w v)
-    → outcome_text (if some then Marks else Idle) (new_marks w v) ≡ line_text setting w (Calm n numbers) events
-prints_marks setting w v n numbers [] true is prints = absurd (let never : true ≡ false = is in cc)
-prints_marks setting w v n numbers [] false is prints = refl
-prints_marks setting w v n numbers (event ∷ events) true is prints = sym prints
-prints_marks setting w v n numbers (event ∷ events) false is prints = absurd (let never : false ≡ true = is in cc)
+    → text_of setting w events ≡ marks_text (new_marks w v) → new_reports w v ≡ []
+    → outcome_text (if some then Marks else Idle) (new_marks w v) (new_reports w v) ≡ line_text setting w (Calm n numbers) events
+prints_marks setting w v n numbers [] true is prints none = absurd (let never : true ≡ false = is in cc)
+prints_marks setting w v n numbers [] false is prints none = refl
+prints_marks setting w v n numbers (event ∷ events) true is prints none =
+    ap (λ (reports : List (BrickId × Report)). marks_text (new_marks w v) ++ reports_text reports) none ∙ append-nil (marks_text (new_marks w v)) ∙ sym prints
+prints_marks setting w v n numbers (event ∷ events) false is prints none = absurd (let never : false ≡ true = is in cc)
 
 -- the line of an operation that has run alone
 pub run_comes : (layout : Layout) (is : IsLayout layout) (w : World) (n : ℕ) (numbers : List ℕ) (disks : List MemDisk) (state : Simulation) (some : Bool)
-    → IsReachedBy layout w → IsCalm (coding layout) w n (map brick_of numbers) → HasRun layout w n (map brick_of numbers) disks state some
+    → IsReachedBy layout w → MayRunAlone (coding layout) w n (map brick_of numbers) → HasRun layout w n (map brick_of numbers) disks state some
     → Comes layout w disks state (Calm n numbers) (if some then Marks else Idle)
-run_comes layout is w n numbers disks state some reached calm has =
+run_comes layout is w n numbers disks state some reached may has =
     let after : has.last ≡ run (coding layout) has.events w = runs_run (coding layout) n (map brick_of numbers) w has.last has.events has.runs in
     let runs = subst (λ (v : World). RunsAlone (coding layout) n (map brick_of numbers) w has.events v) after has.runs in (
       has.events,
       record {
         are = inl (record {
-          calm = calm;
+          may = may;
           runs = runs;
-          over = over_alone layout is n (map brick_of numbers) w (run (coding layout) has.events w) has.events reached calm runs;
-          leaves = leaves_own layout is n (map brick_of numbers) w (run (coding layout) has.events w) has.events reached calm runs;
+          over = over_alone layout is n (map brick_of numbers) w (run (coding layout) has.events w) has.events reached may runs;
+          leaves = leaves_own layout is n (map brick_of numbers) w (run (coding layout) has.events w) has.events reached may runs;
         });
         shows = subst (λ (v : World). Shows layout state v) after has.shows;
         prints =
             prints_marks (coding layout) w (run (coding layout) has.events w) n numbers has.events some has.some_is
-            (subst (λ (v : World). text_of (coding layout) w has.events ≡ marks_text (new_marks w v)) after has.prints);
+            (subst (λ (v : World). text_of (coding layout) w has.events ≡ marks_text (new_marks w v)) after has.prints)
+            (subst (λ (v : World). new_reports w v ≡ []) after
+            (ap (drop (length w.choices.reports)) has.reports ∙ drop_all (length w.choices.reports) w.choices.reports (omega arith)));
         kept = has.kept;
       },
     )
 
 -- no memory was left for an operation to run alone to its end
-pub begun_refused : (layout : Layout) (w : World) (old new : Simulation) (n : ℕ) (numbers : List ℕ) → IsCalm (coding layout) w n (map brick_of numbers)
+pub begun_refused : (layout : Layout) (w : World) (old new : Simulation) (n : ℕ) (numbers : List ℕ) → MayRunAlone (coding layout) w n (map brick_of numbers)
     → HasBegun layout w n (map brick_of numbers) (disks_of old.bricks.items) new → Refused layout w old new (Calm n numbers)
-begun_refused layout w old new n numbers calm has =
+begun_refused layout w old new n numbers may has =
     let after : has.last ≡ run (coding layout) has.events w = begins_run (coding layout) n (map brick_of numbers) w has.last has.events has.begins in (
       record { line = Calm n numbers; events = has.events } ∷ [],
       inr (
         has.events,
         record {
-          are = record { calm = calm; last = has.last; begins = has.begins };
+          are = record { may = may; last = has.last; begins = has.begins };
           shows = subst (λ (v : World). Shows layout new v) after has.shows;
           kept = has.kept;
         },

@@ -1,7 +1,6 @@
 -- When an operation may run alone: as the bricks and the history tell.
-use Rattle.protocol_laws.proofs.FirstWorlds.{AreInFirst}
-use Rattle.std.proofs.Common.{◌≡◌, ◌≢◌, ℕ, zero, suc, ◌+◌, ◌<◌, ◌≤◌, Bool, true, false, not, cond, nat_eq, nat_le, ◌&&◌, ◌||◌, ◌-◌, List, [], ◌∷◌, length, map, take, drop, take_all, Option, Some, None, is_some, refl, sym, ap, ◌∙◌, subst, arith}
-use Rattle.std.specs.Prelude.{slice_get, slice_index_or, filter}
+use Rattle.std.proofs.Common.{◌≡◌, ◌≢◌, ℕ, zero, suc, ◌+◌, ◌<◌, ◌≤◌, Bool, true, false, not, cond, nat_eq, nat_le, ◌&&◌, ◌||◌, ◌-◌, List, [], ◌∷◌, length, map, take, drop, take_all, Option, Some, None, is_some, nat_lt, ◌^◌, refl, sym, ap, ◌∙◌, subst, arith}
+use Rattle.std.specs.Prelude.{slice_get, slice_index_or, filter, is_none, option_and_then}
 use Rattle.std.specs.Bool.{Decides}
 use Rattle.std.specs.List.{IsDistinct, AllByRecursion, list_any}
 use Rattle.std.proofs.lemmas.Bool.{and_parts, eqb-true, eq-eqb, ne_eqb}
@@ -12,47 +11,116 @@ use Rattle.fab_base.specs.declared.identities.GroupId.{GroupId}
 use Rattle.fab_base.specs.declared.asks.Ask.{Ask}
 use Rattle.fab_base.specs.Layouts.{Layout, group_of, seat_in}
 use Rattle.fab_disk.specs.declared.mem_disk.MemDisk.{MemDisk}
-use Rattle.brick_state.specs.States.{live}
+use Rattle.brick_state.specs.States.{live, group_at}
+use Rattle.brick_state.specs.Rewrites.{learnt_number}
+use Rattle.brick_store.specs.Blocks.{accepted_of, learnt_of}
+use Rattle.replica.specs.Parts.{learnt_or}
+use Rattle.synod_laws.specs.Synods.{Kept, last_of}
+use Rattle.protocol.specs.Views.{first_learnt}
+use Rattle.fab_base.specs.declared.member_lists.View.{View}
+use Rattle.fab_base.specs.declared.stamps.Ballot.{Ballot}
 use Rattle.node.specs.Running.{Running, state_of}
-use Rattle.protocol.specs.Calms.{IsCalm, IsReady, IsEarly, IsUntouched, early, open_at, open_call}
+use Rattle.protocol.specs.Calms.{IsReady, IsEarly, IsUntouched, early, open_at, open_call}
+use Rattle.layout.specs.Limits.{IsLayout}
 use Rattle.stripe_code.specs.Codes.{coding}
+use Rattle.stripe_code.proofs.Soundness.{coding_is_sound}
 use Rattle.quorum.specs.Quorums.{quorum_of}
 use Rattle.std.specs.Option.{option_map}
-use Rattle.protocol.specs.Nodes.{Node}
+use Rattle.protocol.specs.Nodes.{Node, view_at, has_accepted}
 use Rattle.protocol.specs.Coordinators.{Coordinator}
 use Rattle.protocol.specs.Settings.{Setting}
 use Rattle.protocol.specs.Worlds.{World, Operation, is_brick, is_up, number_of}
 use Rattle.protocol_laws.proofs.Books.{Books}
-use Rattle.protocol_laws.proofs.FirstViews.{view_first}
 use Rattle.world.specs.declared.histories.History.{History}
 use Rattle.world.specs.declared.histories.OperationRecord.{OperationRecord}
 use Rattle.world.proofs.Places.{slice_get_not_none}
+use Rattle.world.specs.Calms.{MayRunAlone}
 use Rattle.world.specs.Runs.{brick_of}
-use Rattle.world.specs.Shown.{ShowsBricks, IsAble, IsInTime, NodeIsAble, NodeIsInTime, Tells, TellsOperation, record_at, running_at, clock_at}
+use Rattle.world.specs.Shown.{ShowsBricks, IsReachedBy, ServesFirst, IsAble, IsInTime, NodeIsAble, NodeIsInTime, Tells, TellsOperation, record_at, running_at, clock_at}
 use Rattle.world.specs.declared.bricks.Brick.{Brick}
 use Rattle.world.proofs.BrickListLemmas.{running_shown, running_not}
 use Rattle.world.proofs.CallNumbers.{AreOfBricks}
+use Rattle.world.proofs.RunLaws.{reached_group}
 
 -- how much a brick keeps that runs
 pub state_live : (node : Running MemDisk) → (state_of node).live ≡ live node.brick.state
 unfolding state_of
 state_live node = refl
 
--- a brick without room is not able
-pub full_unable : (layout : Layout) (node : Running MemDisk) (used records : ℕ) → (state_of node).live ≡ used → records ≡ layout.records
-    → records < used + 2 → Decides (nat_le (used + 2) records) (NodeIsAble layout (Some node))
-full_unable layout node used records same are full = (
-  λ on. absurd (let fits : used + 2 ≤ records = grind (arith, nat_tests, on) in omega arith),
-  λ able. absurd (omega (arith, able.0, same, are)),
+-- so many records are used, of so many
+pub room_decides : (live records used most : ℕ) → live ≡ used → most ≡ records → Decides (nat_le (used + 2) most) (live + 2 ≤ records)
+room_decides live records used most same are = (
+  λ on. let fits : used + 2 ≤ most = grind (arith, nat_tests, on) in omega (arith, fits, same, are),
+  λ fits. (let e : nat_le (used + 2) most ≡ true = grind (arith, nat_tests, fits, same, are) in e),
 )
 
+-- a store tells which view of a group its brick has learnt, and what list that has accepted to follow it
+view_told : (node : Running MemDisk) (g : ℕ) → view_at (state_of node) g ≡ learnt_of (group_at node.brick.state g)
+unfolding state_of
+view_told node g = by (group_at node.brick.state g).known
+  where
+    by : (known : Option (View × Bool)) → (learnt_or (first_learnt node.layout g) known).view.number.0 ≡ learnt_number known
+    by None = refl
+    by (Some known) = refl
+
+last_told : (node : Running MemDisk) (g : ℕ) → last_of ((state_of node).ballots g) ≡ accepted_of (group_at node.brick.state g)
+unfolding state_of
+last_told node g = by (group_at node.brick.state g).ballots
+  where
+    by : (kept : Kept (List BrickId)) → last_of kept ≡ option_and_then (λ b. b.1) kept
+    by None = refl
+    by (Some (promised, last)) = refl
+
+-- there is none where not some is there
+pub none_is : {A : Type 0} (found : Option A) (none : Bool) → is_some found ≡ not none → is_none found ≡ none
+none_is None true is = refl
+none_is (Some x) false is = refl
+none_is None false is = absurd (let never : false ≡ true = is in cc)
+none_is (Some x) true is = absurd (let never : true ≡ false = is in cc)
+
+-- so by what it tells the brick serves view 1, or not
+pub serves_later : (node : Running MemDisk) (g learnt : ℕ) → learnt ≡ learnt_of (group_at node.brick.state g) → learnt ≢ 1
+    → Decides false (ServesFirst (state_of node) g)
+serves_later node g learnt is later = (
+  λ on. absurd (let never : false ≡ true = on in cc),
+  λ serves. absurd (later (is ∙ sym (view_told node g) ∙ serves.view)),
+)
+
+pub serves_told : (node : Running MemDisk) (g learnt : ℕ) (accepted : Option (Ballot × List BrickId)) → learnt ≡ learnt_of (group_at node.brick.state g)
+    → learnt ≡ 1 → accepted ≡ accepted_of (group_at node.brick.state g) → Decides (is_none accepted) (ServesFirst (state_of node) g)
+serves_told node g learnt accepted is first told = by accepted (last_told node g ∙ sym told)
+  where
+    view : view_at (state_of node) g ≡ 1
+    view = view_told node g ∙ sym is ∙ first
+
+    early_view : nat_lt (view_at (state_of node) g) (2 ^ 32 - 1) ≡ true
+    early_view = ap (λ v. nat_lt v (2 ^ 32 - 1)) view
+
+    by : (found : Option (Ballot × List BrickId)) → last_of ((state_of node).ballots g) ≡ found → Decides (is_none found) (ServesFirst (state_of node) g)
+    by None none = (
+      λ on. record {
+        view = view;
+        serves =
+            ap (λ (b : Bool). b && is_some (last_of ((state_of node).ballots g))) early_view
+            ∙ ap (λ (last : Option (Ballot × List BrickId)). is_some last) none;
+      },
+      λ serves. refl,
+    )
+    by (Some last) some = (
+      λ on. absurd (let never : false ≡ true = on in cc),
+      λ serves.
+          (let never : false ≡ true =
+          sym serves.serves ∙ ap (λ (b : Bool). b && is_some (last_of ((state_of node).ballots g))) early_view
+          ∙ ap (λ (found : Option (Ballot × List BrickId)). is_some found) some in cc),
+    )
+
 -- the machine's brick is able where what runs is
-pub able_shown : (layout : Layout) (bricks : List Brick) (w : World) (b : ℕ) → ShowsBricks layout bricks w.nodes w.after w.up w.clocks
-    → (NodeIsAble layout (running_at bricks b) → IsAble layout w b) × (IsAble layout w b → NodeIsAble layout (running_at bricks b))
-able_shown layout bricks w b shows = by_node (running_at bricks b) refl
+pub able_shown : (layout : Layout) (group : ℕ) (bricks : List Brick) (w : World) (b : ℕ) → ShowsBricks layout bricks w.nodes w.after w.up w.clocks
+    → (NodeIsAble layout group (running_at bricks b) → IsAble layout w group b) × (IsAble layout w group b → NodeIsAble layout group (running_at bricks b))
+able_shown layout group bricks w b shows = by_node (running_at bricks b) refl
   where
     by_node : (found : Option (Running MemDisk)) → running_at bricks b ≡ found
-        → (NodeIsAble layout found → IsAble layout w b) × (IsAble layout w b → NodeIsAble layout found)
+        → (NodeIsAble layout group found → IsAble layout w group b) × (IsAble layout w group b → NodeIsAble layout group found)
     by_node None none = (
       λ able. absurd able,
       λ able. absurd (let never : true ≡ false = sym able.up ∙ running_not layout bricks w b shows none in cc),
@@ -61,10 +129,12 @@ able_shown layout bricks w b shows = by_node (running_at bricks b) refl
         let its = running_shown layout bricks w b node shows is in (
           λ able. record {
             up = its.0;
-            room = subst (λ (x : Node). x.live + 2 ≤ layout.records) its.1.state_is able.0;
-            times = subst IsEarly its.1.state_is able.1;
+            first = subst (λ (x : Node). ServesFirst x group) its.1.state_is able.0;
+            room = subst (λ (x : Node). x.live + 2 ≤ layout.records) its.1.state_is able.1;
+            times = subst IsEarly its.1.state_is able.2;
           },
           λ able. (
+            subst (λ (x : Node). ServesFirst x group) (sym its.1.state_is) able.first,
             subst (λ (x : Node). x.live + 2 ≤ layout.records) (sym its.1.state_is) able.room,
             subst IsEarly (sym its.1.state_is) able.times,
           ),
@@ -199,44 +269,39 @@ down_is layout w brick there down = ap (λ (b : Bool). b && w.up brick.0) (sym t
 pub up_of : (layout : Layout) (w : World) (brick : BrickId) → is_up layout w brick ≡ true → w.up brick.0 ≡ true
 up_of layout w brick up = (and_parts (is_brick layout brick) (w.up brick.0) up).1
 
--- an open operation: what it asks is what its coordinator was asked, of the group that the coordinator knows
-pub record IsOpenAt (setting : Setting) (w : World) (n : ℕ) (c : Coordinator) : Type 0 where
+-- an open operation: what it asks is what its coordinator was asked, and it runs in the view of the call
+pub record IsOpenAt (w : World) (n : ℕ) (c : Coordinator) : Type 0 where
   pub operation : Operation
   pub is : w.operations n ≡ Some operation
   pub call : (w.nodes operation.brick.0).calls operation.seq ≡ Some c
   pub up : w.up operation.brick.0 ≡ true
   pub ask : c.ask ≡ operation.ask
-  pub group_is : group_of setting.layout operation.ask.group.0 ≡ Some c.group
-  pub view : c.call.view.0 ≡ 1
+  pub view : operation.view ≡ c.call.view.0
   pub group : c.call.group ≡ c.ask.group
   pub numbers : (1 ≤ n) × (n ≤ w.begun)
 
-pub open_parts : (setting : Setting) (w : World) (n : ℕ) (c : Coordinator) → Books setting w → AreInFirst setting w → open_call w n ≡ Some c
-    → IsOpenAt setting w n c
-open_parts setting w n c books first is = by_operation (w.operations n) refl is
+pub open_parts : (setting : Setting) (w : World) (n : ℕ) (c : Coordinator) → Books setting w → open_call w n ≡ Some c → IsOpenAt w n c
+open_parts setting w n c books is = by_operation (w.operations n) refl is
   where
-    by_operation : (found : Option Operation) → w.operations n ≡ found → open_at w found ≡ Some c → IsOpenAt setting w n c
+    by_operation : (found : Option Operation) → w.operations n ≡ found → open_at w found ≡ Some c → IsOpenAt w n c
     by_operation None none e = absurd (let never : None ≡ Some c = e in cc)
     by_operation (Some o) at e = by_up (w.up o.brick.0) refl (nat_eq (w.nodes o.brick.0).boot o.boot) refl e
       where
         by_up : (x : Bool) → w.up o.brick.0 ≡ x → (y : Bool) → nat_eq (w.nodes o.brick.0).boot o.boot ≡ y
-            → cond (x && y) ((w.nodes o.brick.0).calls o.seq) None ≡ Some c → IsOpenAt setting w n c
+            → cond (x && y) ((w.nodes o.brick.0).calls o.seq) None ≡ Some c → IsOpenAt w n c
         by_up true up true boot call =
             let its = books.operations n o at in
             let own = books.calls o.brick.0 o.seq c call in
-            let within = (first o.brick.0).calls o.seq c call in
             let same_boot : (w.nodes o.brick.0).boot ≡ o.boot = eqb-true (w.nodes o.brick.0).boot o.boot boot in
             let number : number_of w o.brick.0 o.seq ≡ n = ap (λ (b : ℕ). w.numbers o.brick.0 b o.seq) same_boot ∙ its.number in
             let same : own.operation ≡ o = same_Some own.operation o (sym own.operation_is ∙ ap w.operations number ∙ at) in
-            let ask : c.ask ≡ o.ask = own.ask ∙ ap (λ (x : Operation). x.ask) same in
             record {
               operation = o;
               is = at;
               call = call;
               up = up;
-              ask = ask;
-              group_is = ap (λ (a : Ask). group_of setting.layout a.group.0) (sym ask) ∙ within.group;
-              view = within.view;
+              ask = own.ask ∙ ap (λ (x : Operation). x.ask) same;
+              view = ap (λ (x : Operation). x.view) (sym same) ∙ own.call_view;
               group = own.call_group;
               numbers = (its.from_one, its.begun);
             }
@@ -248,8 +313,9 @@ pub record CalmParts (layout : Layout) (w : World) (n : ℕ) (numbers : List ℕ
   pub distinct : IsDistinct nat_eq numbers
   pub members : quorum_of c.group ≤ length (filter (λ number. list_any (λ member. nat_eq member.0 number) c.group.members) numbers)
   pub in_time : IsInTime layout w o.brick.0
-  pub able : (k number : ℕ) → slice_get numbers k ≡ Some number → IsAble layout w number
+  pub able : (k number : ℕ) → slice_get numbers k ≡ Some number → IsAble layout w o.ask.group.0 number
   pub untouched : IsUntouched w n
+  pub first : o.view ≡ 1
 
 -- the numbers of the bricks of numbers
 numbers_back : (numbers : List ℕ) → map (λ (brick : BrickId). brick.0) (map brick_of numbers) ≡ numbers
@@ -298,36 +364,45 @@ brick_there numbers k brick at = by_found (slice_get numbers k) refl (sym (slice
     by_found (Some number) is e = (number, is, same_Some (brick_of number) brick e)
 
 -- so it may where all of them hold, and only there
-pub calm_of : (layout : Layout) (w : World) (n : ℕ) (numbers : List ℕ) (c : Coordinator) → AreInFirst (coding layout) w → open_call w n ≡ Some c
-    → (at : IsOpenAt (coding layout) w n c) → CalmParts layout w n numbers at.operation c → IsCalm (coding layout) w n (map brick_of numbers)
-calm_of layout w n numbers c first opens at parts = record {
-  operation = at.operation;
-  is = at.is;
-  coordinator = c;
-  open_is = opens;
-  untouched = parts.untouched;
-  distinct = subst (λ (l : List ℕ). IsDistinct nat_eq l) (sym (numbers_back numbers)) parts.distinct;
-  ready = λ k brick found.
-      (let there = brick_there numbers k brick found in
-      let able = parts.able k there.0 there.1 in
-      subst (λ (b : BrickId). IsReady (coding layout) w c b) there.2 (record {
-        up = able.up;
-        view = view_first layout (w.nodes there.0) c.call.group.0 (first there.0).brick ∙ sym at.view;
-        serves = ap (λ (f : ℕ → Bool). f c.call.group.0) (first there.0).brick.accepted;
-        room = able.room;
-        times = able.times;
-      }));
-  members = subst (λ (x : ℕ). quorum_of c.group ≤ x) (sym (counted_members c.group.members numbers)) parts.members;
-  clock = parts.in_time.clock;
-  times = parts.in_time.times;
-}
+pub calm_of : (layout : Layout) (w : World) (n : ℕ) (numbers : List ℕ) (c : Coordinator) → open_call w n ≡ Some c
+    → (at : IsOpenAt w n c) → CalmParts layout w n numbers at.operation c → MayRunAlone (coding layout) w n (map brick_of numbers)
+calm_of layout w n numbers c opens at parts =
+    let view : c.call.view.0 ≡ 1 = sym at.view ∙ parts.first in
+    let group : c.call.group.0 ≡ at.operation.ask.group.0 = ap (λ (g : GroupId). g.0) at.group ∙ ap (λ (a : Ask). a.group.0) at.ask in
+    record {
+      calm = record {
+        operation = at.operation;
+        is = at.is;
+        coordinator = c;
+        open_is = opens;
+        untouched = parts.untouched;
+        distinct = subst (λ (l : List ℕ). IsDistinct nat_eq l) (sym (numbers_back numbers)) parts.distinct;
+        ready = λ k brick found.
+            (let there = brick_there numbers k brick found in
+            let able = parts.able k there.0 there.1 in
+            subst (λ (b : BrickId). IsReady (coding layout) w c b) there.2 (record {
+              up = able.up;
+              view = ap (λ g. view_at (w.nodes there.0) g) group ∙ able.first.view ∙ sym view;
+              serves = ap (λ g. has_accepted (w.nodes there.0) g) group ∙ able.first.serves;
+              room = able.room;
+              times = able.times;
+            }));
+        members = subst (λ (x : ℕ). quorum_of c.group ≤ x) (sym (counted_members c.group.members numbers)) parts.members;
+        clock = parts.in_time.clock;
+        times = parts.in_time.times;
+      };
+      first = view;
+    }
 
 pub parts_of : (layout : Layout) (w : World) (n : ℕ) (numbers : List ℕ) (c : Coordinator) → open_call w n ≡ Some c
-    → (at : IsOpenAt (coding layout) w n c) → is_up layout w at.operation.brick ≡ true → IsCalm (coding layout) w n (map brick_of numbers)
+    → (at : IsOpenAt w n c) → is_up layout w at.operation.brick ≡ true → MayRunAlone (coding layout) w n (map brick_of numbers)
     → CalmParts layout w n numbers at.operation c
-parts_of layout w n numbers c opens at up calm =
+parts_of layout w n numbers c opens at up may =
+    let calm = may.calm in
     let same : calm.operation ≡ at.operation = same_Some calm.operation at.operation (sym calm.is ∙ at.is) in
     let coordinator : calm.coordinator ≡ c = same_Some calm.coordinator c (sym calm.open_is ∙ opens) in
+    let group : calm.coordinator.call.group.0 ≡ at.operation.ask.group.0 =
+    ap (λ (d : Coordinator). d.call.group.0) coordinator ∙ ap (λ (g : GroupId). g.0) at.group ∙ ap (λ (a : Ask). a.group.0) at.ask in
     record {
       distinct = subst (λ (l : List ℕ). IsDistinct nat_eq l) (numbers_back numbers) calm.distinct;
       members = subst (λ (d : Coordinator). quorum_of d.group ≤ length (filter (λ number. list_any (λ member. nat_eq member.0 number) d.group.members) numbers))
@@ -340,28 +415,37 @@ parts_of layout w n numbers c opens at up calm =
       };
       able = λ k number found.
           (let ready = calm.ready k (brick_of number) (slice_get-map brick_of numbers k ∙ ap (option_map brick_of) found) in
-          record { up = ready.up; room = ready.room; times = ready.times });
+          record {
+            up = ready.up;
+            first = record {
+              view = ap (λ g. view_at (w.nodes number) g) (sym group) ∙ ready.view ∙ may.first;
+              serves = ap (λ g. has_accepted (w.nodes number) g) (sym group) ∙ ready.serves;
+            };
+            room = ready.room;
+            times = ready.times;
+          });
       untouched = calm.untouched;
+      first = at.view ∙ ap (λ (d : Coordinator). d.call.view.0) (sym coordinator) ∙ may.first;
     }
 
 -- an operation that is open, and of which this is kept
 pub record Here (layout : Layout) (w : World) (n : ℕ) (kept : OperationRecord) : Type 0 where
   pub coordinator : Coordinator
   pub opens : open_call w n ≡ Some coordinator
-  pub at : IsOpenAt (coding layout) w n coordinator
+  pub at : IsOpenAt w n coordinator
   pub up : is_up layout w at.operation.brick ≡ true
   pub same : TellsOperation kept at.operation
   pub some : n ≢ 0
 
 pub open_here : (layout : Layout) (w : World) (n : ℕ) (history : History) (kept : OperationRecord) → Books (coding layout) w
-    → AreInFirst (coding layout) w → AreOfBricks layout w → Tells history w
+    → AreOfBricks layout w → Tells history w
     → is_some (open_call w n) ≡ true → record_at history.operations.items n ≡ Some kept → Here layout w n kept
-open_here layout w n history kept books first there tells goes is = by_call (open_call w n) refl goes
+open_here layout w n history kept books there tells goes is = by_call (open_call w n) refl goes
   where
     by_call : (found : Option Coordinator) → open_call w n ≡ found → is_some found ≡ true → Here layout w n kept
     by_call None none e = absurd (let never : false ≡ true = e in cc)
     by_call (Some c) opens e =
-        let at = open_parts (coding layout) w n c books first opens in
+        let at = open_parts (coding layout) w n c books opens in
         let its = kept_at w history n kept tells is in
         let same : its.0 ≡ at.operation = same_Some its.0 at.operation (sym its.1 ∙ at.is) in
         record {
@@ -373,7 +457,11 @@ open_here layout w n history kept books first there tells goes is = by_call (ope
           some = its.3;
         }
 
--- its group is the one that is kept
-pub group_is : (layout : Layout) (w : World) (n : ℕ) (kept : OperationRecord) (here : Here layout w n kept)
-    → group_of layout kept.group.0 ≡ Some here.coordinator.group
-group_is layout w n kept here = ap (λ (g : GroupId). group_of layout g.0) here.same.group ∙ here.at.group_is
+-- if it runs in view 1, its group is the one that is kept, as the layout's members keep it
+pub group_is : (layout : Layout) (w : World) (n : ℕ) (kept : OperationRecord) (here : Here layout w n kept) → IsLayout layout → IsReachedBy layout w
+    → kept.view.0 ≡ 1 → group_of layout kept.group.0 ≡ Some here.coordinator.group
+group_is layout w n kept here is reached first =
+    let at = here.at in
+    ap (λ (g : GroupId). group_of layout g.0) (here.same.group ∙ ap (λ (a : Ask). a.group) (sym at.ask) ∙ sym at.group)
+    ∙ reached_group layout w at.operation.brick.0 at.operation.seq here.coordinator (coding_is_sound layout is) reached at.call
+    (sym at.view ∙ sym here.same.view ∙ first)

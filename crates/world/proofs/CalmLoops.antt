@@ -4,6 +4,7 @@ use Rattle.std.specs.Prelude.{slice_get}
 use Rattle.std.proofs.lemmas.Bool.{and_parts, eqb-true, eqb-false, eq-eqb, cases_lt}
 use Rattle.std.proofs.lemmas.Bool.Decides.{nat_tests}
 use Rattle.std.proofs.Math.Seq.{drop-append_seam}
+use Rattle.std.proofs.lemmas.List.{drop_all}
 use Rattle.std.proofs.lemmas.Option.{slice_get_within}
 use Rattle.fab_base.specs.Layouts.{Layout}
 use Rattle.fab_base.specs.declared.identities.BrickId.{BrickId}
@@ -15,22 +16,24 @@ use Rattle.messages.specs.declared.packets.Packet.{Packet}
 use Rattle.messages.specs.declared.requests.Request.{Request}
 use Rattle.stripe_code.specs.Codes.{coding}
 use Rattle.protocol.specs.Settings.{Setting}
+use Rattle.protocol.specs.Coordinators.{Coordinator}
+use Rattle.protocol.specs.declared.tellings.Report.{Report}
 use Rattle.protocol.specs.declared.tellings.Answered.{Answered}
 use Rattle.protocol.specs.declared.tellings.Told.{Told}
 use Rattle.protocol.specs.declared.tellings.Told.TheVariants.{Made, Seen}
 use Rattle.protocol.specs.Nodes.{NodeStep, put, received}
-use Rattle.protocol.specs.Worlds.{World, Operation, Event, Delivers, is_brick, is_up, number_of, mark_of, packet_of, replies_with, world_told, world_tells, world_answered, world_answers, first_world, happens, run}
+use Rattle.protocol.specs.Worlds.{World, Operation, Event, Delivers, is_brick, is_up, number_of, mark_of, packet_of, reports_of, world_told, world_tells, world_answered, world_answers, first_world, happens, run}
 use Rattle.reg_model.specs.declared.marks.Mark.{Mark}
 use Rattle.reg_model.specs.declared.marks.Mark.TheVariants.{End}
-use Rattle.protocol.specs.Calms.{IsCalm, open_at, open_call, operation_of, is_one_of, goes_among, is_left, next_delivery}
-use Rattle.world.specs.Calms.{BeginsAlone}
+use Rattle.protocol.specs.Calms.{open_at, open_call, operation_of, is_one_of, goes_among, is_left, next_delivery}
+use Rattle.world.specs.Calms.{MayRunAlone, BeginsAlone}
 use Rattle.world.specs.Calms as begun
 use Rattle.world.specs.Disks.{KeepsDisks}
 use Rattle.world.specs.Faults.{StopsMidway, IsDelivered}
 use Rattle.world.specs.Deliveries.{NoneLeft, FindsLeft, is_left_at}
 use Rattle.world.specs.Runs.{brick_of}
 use Rattle.world.specs.Shown.{Shows, Comes, HasRun, HasBegun, IsReachedBy, IsReachable, OpensAs, TellsOperation, disks_of, is_empty}
-use Rattle.world.specs.Texts.{marks_if, is_deliverable, mark_text, marks_text, new_marks, outcome_text, event_text, text_of}
+use Rattle.world.specs.Texts.{marks_if, is_deliverable, mark_text, marks_text, reports_text, new_marks, new_reports, outcome_text, event_text, text_of}
 use Rattle.world.specs.declared.histories.OperationRecord.{OperationRecord}
 use Rattle.world.specs.declared.simulations.Outcome.{Outcome}
 use Rattle.world.specs.declared.simulations.Simulation.{Simulation}
@@ -39,9 +42,10 @@ use Rattle.world.proofs.CalmLemmas.{kept_at}
 use Rattle.world.proofs.CalmRuns.{begins_more, begins_run, runs_ended, runs_stuck, keeps_more, left_as, next_found, next_none}
 use Rattle.world.proofs.HistoryLemmas.{heard_keeps}
 use Rattle.world.proofs.MachineBegins.{happens_handled}
+use Rattle.world.proofs.MachineSteps.{request_quiet, reply_quiet}
 use Rattle.world.proofs.Places.{append_get}
 use Rattle.world.proofs.RunLaws.{reached_numbers, reached_knows}
-use Rattle.protocol.proofs.Events.{run-append, world_handled}
+use Rattle.protocol.proofs.Events.{run-append, step_on, world_counting, world_handled}
 
 -- what is told makes no mark, and what is answered adds some
 told_marks : (setting : Setting) (w : World) (brick : BrickId) (told : List Told) → (world_tells setting w brick told).marks ≡ w.marks
@@ -76,7 +80,7 @@ module _ (setting : Setting) (w : World) (number : ℕ) (packet : Packet) (sent 
   step = received setting packet.to (w.clocks packet.to.0) (w.nodes packet.to.0) packet
 
   abbrev marked : World
-  marked = record w { replies = replies_with setting w packet; reached = put w.reached number true }
+  marked = world_counting setting w number packet
 
   after_is : happens setting w (Delivers number) ≡ world_handled setting w number packet
   after_is = happens_handled setting w number packet sent up
@@ -95,11 +99,26 @@ module _ (setting : Setting) (w : World) (number : ℕ) (packet : Packet) (sent 
       let (made, are) = answers_marks (world_tells setting marked packet.to step.told) packet.to step.answers in
       (made, ap (λ (v : World). v.marks) after_is ∙ are ∙ ap (λ (l : List Mark). l ++ made) (told_marks setting marked packet.to step.told))
 
-  text_after : event_text setting w (Delivers number) ≡ marks_text marks_after.0
-  text_after =
-      ap (λ (o : Outcome). outcome_text o (new_marks w (happens setting w (Delivers number))))
-      (ap (λ (p : Option Packet). marks_if (is_deliverable setting w p)) sent ∙ ap marks_if up)
-      ∙ ap marks_text (ap (drop (length w.marks)) marks_after.1 ∙ drop-append_seam w.marks marks_after.0)
+  reports_after : (happens setting w (Delivers number)).choices.reports ≡ w.choices.reports ++ reports_of packet.to step.reports
+  reports_after = ap (λ (v : World). v.choices.reports) after_is
+
+  -- of one that reports nothing
+  module _ (quiet : step.reports ≡ []) where
+    reports_stay : (happens setting w (Delivers number)).choices.reports ≡ w.choices.reports
+    reports_stay =
+        reports_after ∙ ap (λ (reports : List Report). w.choices.reports ++ reports_of packet.to reports) quiet ∙ append-nil w.choices.reports
+
+    none_new : new_reports w (happens setting w (Delivers number)) ≡ []
+    none_new = ap (drop (length w.choices.reports)) reports_stay ∙ drop_all (length w.choices.reports) w.choices.reports (omega arith)
+
+    text_after : event_text setting w (Delivers number) ≡ marks_text marks_after.0
+    text_after =
+        let next : World = happens setting w (Delivers number) in
+        ap (λ (o : Outcome). outcome_text o (new_marks w next) (new_reports w next))
+        (ap (λ (p : Option Packet). marks_if (is_deliverable setting w p)) sent ∙ ap marks_if up)
+        ∙ ap (λ (reports : List (BrickId × Report)). marks_text (new_marks w next) ++ reports_text reports) none_new
+        ∙ append-nil (marks_text (new_marks w next))
+        ∙ ap marks_text (ap (drop (length w.marks)) marks_after.1 ∙ drop-append_seam w.marks marks_after.0)
 
   packets_after : (happens setting w (Delivers number)).packets ≡ w.packets ++ step.packets
   packets_after = ap (λ (v : World). v.packets) after_is
@@ -158,16 +177,42 @@ seen_after setting w n bricks place packet at up seen k one less is = by_place (
         ∙ ap (λ (m : ℕ). nat_eq m n && (not (w.reached (k + 1)) && goes_among bricks one)) its
         ∙ seen k one (omega (arith, less, apart)) was
 
--- the brick of an open operation is up
-open_up : (w : World) (n : ℕ) (o : Operation) → is_some (open_call w n) ≡ true → w.operations n ≡ Some o → w.up o.brick.0 ≡ true
-open_up w n o opens is = by_up (w.up o.brick.0) refl
+-- the brick of an open operation is up, is of its boot, and has its call open
+record HasOpen (w : World) (o : Operation) : Type 0 where
+  up : w.up o.brick.0 ≡ true
+  boot : (w.nodes o.brick.0).boot ≡ o.boot
+  coordinator : Coordinator
+  call : (w.nodes o.brick.0).calls o.seq ≡ Some coordinator
+
+has_open : (w : World) (n : ℕ) (o : Operation) → is_some (open_call w n) ≡ true → w.operations n ≡ Some o → HasOpen w o
+has_open w n o opens is =
+    by_up (w.up o.brick.0) refl (nat_eq (w.nodes o.brick.0).boot o.boot) refl ((w.nodes o.brick.0).calls o.seq) refl
+    (ap (λ (found : Option Operation). is_some (open_at w found)) (sym is) ∙ opens)
   where
-    by_up : (b : Bool) → w.up o.brick.0 ≡ b → w.up o.brick.0 ≡ true
-    by_up true up = up
-    by_up false down =
-        (let never : false ≡ true =
-        ap (λ (b : Bool). is_some (cond (b && nat_eq (w.nodes o.brick.0).boot o.boot) ((w.nodes o.brick.0).calls o.seq) None)) (sym down)
-        ∙ ap (λ (found : Option Operation). is_some (open_at w found)) (sym is) ∙ opens in absurd cc)
+    by_up : (x : Bool) → w.up o.brick.0 ≡ x → (y : Bool) → nat_eq (w.nodes o.brick.0).boot o.boot ≡ y → (z : Option Coordinator)
+        → (w.nodes o.brick.0).calls o.seq ≡ z → is_some (cond (x && y) z None) ≡ true → HasOpen w o
+    by_up true up true same (Some c) call goes =
+        record { up = up; boot = eqb-true (w.nodes o.brick.0).boot o.boot same; coordinator = c; call = call }
+    by_up true up true same None call goes = absurd (let never : false ≡ true = goes in cc)
+    by_up true up false other z call goes = absurd (let never : false ≡ true = goes in cc)
+    by_up false down y same z call goes = absurd (let never : false ≡ true = goes in cc)
+
+-- a message of an open operation has its receiver report nothing
+message_as_quiet : (setting : Setting) (w : World) (n : ℕ) (from to : BrickId) (message : Message) → NumbersSay w → n ≢ 0 → is_some (open_call w n) ≡ true
+    → operation_of w (record { from = from; to = to; message = message }) ≡ n
+    → (step_on setting w (record { from = from; to = to; message = message })).reports ≡ []
+unfolding received
+message_as_quiet setting w n from to (Message.Request call request) says some opens its = request_quiet setting to from (w.nodes to.0) call request
+message_as_quiet setting w n from to (Message.Reply call reply) says some opens its =
+    let found = says to.0 call.boot call.seq (λ none. some (sym its ∙ none)) in
+    let has = has_open w n found.1.0 opens (ap w.operations (sym its) ∙ found.1.1) in
+    reply_quiet setting to (w.clocks to.0) from (w.nodes to.0) call reply has.coordinator
+    (ap (λ (k : ℕ). (w.nodes to.0).calls k) (sym found.1.2.2) ∙ ap (λ (i : ℕ). (w.nodes i).calls found.1.0.seq) (sym found.1.2.0) ∙ has.call)
+message_as_quiet setting w n from to message says some opens its = absurd (some (sym its))
+
+message_quiet : (setting : Setting) (w : World) (n : ℕ) (packet : Packet) → NumbersSay w → n ≢ 0 → is_some (open_call w n) ≡ true
+    → operation_of w packet ≡ n → (step_on setting w packet).reports ≡ []
+message_quiet setting w n packet says some opens its = message_as_quiet setting w n packet.from packet.to packet.message says some opens its
 
 -- one of these bricks is up, where each is
 among_up : (layout : Layout) (w : World) (bricks : List BrickId) → ((k : ℕ) (brick : BrickId) → slice_get bricks k ≡ Some brick → is_up layout w brick ≡ true)
@@ -193,7 +238,7 @@ receiver_up layout w n bricks packet says of_brick some opens ups = by_message p
     by_message from to (Message.Reply call reply) its goes =
         let found = says to.0 call.boot call.seq (λ none. some (sym its ∙ none)) in
         let is : w.operations n ≡ Some found.1.0 = ap w.operations (sym its) ∙ found.1.1 in
-        let up : w.up found.1.0.brick.0 ≡ true = open_up w n found.1.0 opens is in
+        let up : w.up found.1.0.brick.0 ≡ true = (has_open w n found.1.0 opens is).up in
         let there : is_up layout w found.1.0.brick ≡ true = ap (λ (b : Bool). b && w.up found.1.0.brick.0) (of_brick n found.1.0 is) ∙ up in
         subst (λ (i : ℕ). is_up layout w (brick_of i) ≡ true) found.1.2.0 there
     by_message from to message its goes = absurd (let never : false ≡ true = goes in cc)
@@ -219,6 +264,7 @@ pub record SoFar (layout : Layout) (w : World) (n : ℕ) (numbers : List ℕ) (d
   pub made : List Mark
   pub marks : last.marks ≡ w.marks ++ made
   pub prints : text_of (coding layout) w events ≡ marks_text made
+  pub reports : last.choices.reports ≡ w.choices.reports
   pub up : last.up ≡ w.up
   pub seen : SeenTo last n (map brick_of numbers) from
 
@@ -241,12 +287,13 @@ none_yet layout w n numbers state reached shows = record {
   made = [];
   marks = sym (append-nil w.marks);
   prints = refl;
+  reports = refl;
   up = refl;
   seen = λ k packet less at. absurd (omega arith);
 }
 
 module _ (layout : Layout) (w : World) (n : ℕ) (numbers : List ℕ) (disks : List MemDisk) (state : Simulation) (from : ℕ) (some : Bool)
-    (calm : IsCalm (coding layout) w n (map brick_of numbers)) (so : SoFar layout w n numbers disks state from some) where
+    (may : MayRunAlone (coding layout) w n (map brick_of numbers)) (so : SoFar layout w n numbers disks state from some) where
   abbrev bricks : List BrickId
   bricks = map brick_of numbers
 
@@ -259,6 +306,7 @@ module _ (layout : Layout) (w : World) (n : ℕ) (numbers : List ℕ) (disks : L
     events = so.events;
     some_is = so.some_is;
     prints = prints_new;
+    reports = so.reports;
     last = so.last;
     runs = runs_ended (coding layout) n bricks w so.last so.events so.begins ended;
     shows = so.shows;
@@ -291,6 +339,7 @@ module _ (layout : Layout) (w : World) (n : ℕ) (numbers : List ℕ) (disks : L
       events = so.events;
       some_is = so.some_is;
       prints = prints_new;
+      reports = so.reports;
       last = so.last;
       runs =
           runs_stuck (coding layout) n bricks w so.last so.events so.begins opens.0
@@ -327,8 +376,9 @@ module _ (layout : Layout) (w : World) (n : ℕ) (numbers : List ℕ) (disks : L
           ∙ ap (λ (text : List ℕ). text ++ event_text (coding layout) (run (coding layout) so.events w) (Delivers (place + 1))) so.prints
           ∙ ap (λ (text : List ℕ). marks_text so.made ++ text)
           (ap (λ (v : World). event_text (coding layout) v (Delivers (place + 1))) (sym (begins_run (coding layout) n bricks w so.last so.events so.begins))
-          ∙ text_after (coding layout) so.last (place + 1) packet sent up)
+          ∙ text_after (coding layout) so.last (place + 1) packet sent up quiet)
           ∙ sym (marks_text-append so.made (marks_after (coding layout) so.last (place + 1) packet sent up).0);
+      reports = reports_stay (coding layout) so.last (place + 1) packet sent up quiet ∙ so.reports;
       up = up_after (coding layout) so.last (place + 1) packet sent up ∙ so.up;
       seen = seen_after (coding layout) so.last n bricks place packet at up before;
     }
@@ -349,14 +399,20 @@ module _ (layout : Layout) (w : World) (n : ℕ) (numbers : List ℕ) (disks : L
         goes = (and_parts (nat_eq (operation_of so.last packet) n) (not (so.last.reached (place + 1)) && goes_among bricks packet) left).1
 
         ready_up : (k : ℕ) (brick : BrickId) → slice_get bricks k ≡ Some brick → is_up layout so.last brick ≡ true
-        ready_up k brick there = ap (λ (f : ℕ → Bool). is_brick layout brick && f brick.0) so.up ∙ (calm.ready k brick there).up
+        ready_up k brick there = ap (λ (f : ℕ → Bool). is_brick layout brick && f brick.0) so.up ∙ (may.calm.ready k brick there).up
+
+        its : operation_of so.last packet ≡ n
+        its =
+            eqb-true (operation_of so.last packet) n
+            (and_parts (nat_eq (operation_of so.last packet) n) (not (so.last.reached (place + 1)) && goes_among bricks packet) left).0
+
+        quiet : (step_on (coding layout) so.last packet).reports ≡ []
+        quiet = message_quiet (coding layout) so.last n packet says noted.3 opens.0 its
 
         up : is_up layout so.last packet.to ≡ true
         up =
             receiver_up layout so.last n bricks packet says
-            (subst (AreOfBricks layout) (sym so.reached.1) (of_bricks layout so.reached.0)) noted.3 opens.0 ready_up
-            (eqb-true (operation_of so.last packet) n
-            (and_parts (nat_eq (operation_of so.last packet) n) (not (so.last.reached (place + 1)) && goes_among bricks packet) left).0)
+            (subst (AreOfBricks layout) (sym so.reached.1) (of_bricks layout so.reached.0)) noted.3 opens.0 ready_up its
             (and_parts (not (so.last.reached (place + 1))) (goes_among bricks packet) goes).1
 
         before : SeenTo so.last n bricks place

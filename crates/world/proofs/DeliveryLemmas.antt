@@ -1,7 +1,6 @@
 -- What a line that delivers a message, or another line, comes to.
-use Rattle.std.proofs.Common.{◌≡◌, inl, inr, ℕ, Bool, true, false, cond, List, [], ◌∷◌, length, append-nil, arith, Option, Some, None, Result, Ok, Err, refl, sym, ap, ◌∙◌, subst}
+use Rattle.std.proofs.Common.{◌≡◌, inl, inr, ℕ, Bool, true, false, cond, List, [], ◌∷◌, append-nil, arith, Option, Some, None, Result, Ok, Err, refl, sym, ap, ◌∙◌, subst}
 use Rattle.std.specs.Prelude.{slice_get, map, IfOk}
-use Rattle.std.proofs.lemmas.List.{drop_all}
 use Rattle.std.proofs.lemmas.Bool.{eq-eqb}
 use Rattle.fab_base.specs.declared.identities.BrickId.{BrickId}
 use Rattle.fab_base.specs.Layouts.{Layout}
@@ -16,15 +15,15 @@ use Rattle.node.specs.Calls.{packet_calls}
 use Rattle.node.specs.Outcomes.{Outcome as Sent}
 use Rattle.stripe_code.specs.Codes.{coding}
 use Rattle.protocol.specs.Settings.{Setting}
-use Rattle.protocol.specs.Nodes.{Node, put, received, absorbed, stopped}
-use Rattle.protocol.specs.Worlds.{World, Event, Delivers, Stops, is_up, packet_of, reached_at, reached_during, left_after, replies_with, world_stepped, world_stopped, happens, run}
-use Rattle.protocol.specs.Calms.{IsCalm}
+use Rattle.protocol.specs.Nodes.{Node, put, absorbed, stopped}
+use Rattle.protocol.specs.Worlds.{World, Event, Delivers, Stops, is_up, packet_of, reached_at, reached_during, left_after, world_stopped, happens, run}
+use Rattle.world.specs.Calms.{MayRunAlone}
 use Rattle.world.specs.Runs.{brick_of}
 use Rattle.world.specs.Faults.{IsEventsOf, IsReached, plan_of}
 use Rattle.world.specs.Disks.{KeepsOthers, LeavesDisks, ListsEvent, ListsHandled, receiver_of, changes_disk_of}
 use Rattle.world.specs.EventCalls.{handled_calls}
 use Rattle.world.specs.Shown.{Shows, ShowsBricks, StartsAs, Tells, Comes, TakesEvent, StaysAs, RunsLine, RefusesLine, HandledWhole, HandledPart, disks_of}
-use Rattle.world.specs.Texts.{marks_if, is_deliverable, outcome_of, marks_text, outcome_text, new_marks, event_text, text_of, line_text}
+use Rattle.world.specs.Texts.{marks_if, is_deliverable, outcome_of, outcome_text, new_marks, new_reports, event_text, text_of, line_text}
 use Rattle.world.specs.declared.simulations.Outcome.{Outcome}
 use Rattle.world.specs.declared.simulations.Outcome.TheVariants.{Marks, Idle}
 use Rattle.world.specs.declared.simulations.Simulation.{Simulation}
@@ -32,8 +31,9 @@ use Rattle.world.specs.declared.histories.History.{History}
 use Rattle.world.proofs.DiskLemmas.{same_kept, one_kept}
 use Rattle.world.proofs.HistoryLemmas.{tells_during}
 use Rattle.world.proofs.MachineBegins.{happens_stopped_during, happens_unsent, happens_astray}
-use Rattle.world.proofs.RunLemmas.{came_text, start_few}
+use Rattle.world.proofs.RunLemmas.{nothing_text, came_text, start_few}
 use Rattle.world.proofs.SimulationLemmas.{shows_still, shows_handled, handled_here, handled_astray}
+use Rattle.protocol.proofs.Events.{world_handled}
 
 -- what follows of each value follows of a result
 pub ok_each : {T E : Type 0} (r : Result T E) (Q R : T → Type 0) → ((x : T) → Q x → R x) → IfOk r Q → IfOk r R
@@ -51,7 +51,7 @@ one_event layout w disks state line outcome event are shows comes kept = (
   record {
     are = are;
     shows = shows;
-    prints = ap (λ (o : Outcome). outcome_text o (new_marks w (happens (coding layout) w event))) comes
+    prints = ap (λ (o : Outcome). outcome_text o (new_marks w (happens (coding layout) w event)) (new_reports w (happens (coding layout) w event))) comes
         ∙ sym (append-nil (event_text (coding layout) w event));
     kept = one_kept (coding layout) w event disks (disks_of state.bricks.items) kept;
   },
@@ -104,8 +104,7 @@ module _ (layout : Layout) (w : World) (old new : Simulation) (number : ℕ) (fa
       ∙ ap (λ (b : Bool). cond b (packet_calls layout packet.to (w.nodes packet.to.0) packet listed) 0) up
 
   pub whole_comes : (outs : Sent) → HandledWhole layout w packet.to packet fault old.bricks.items new.bricks.items outs
-      → Tells new.history (world_stepped (coding layout) (record w { replies = replies_with (coding layout) w packet; reached = put w.reached number true }) packet.to
-      (received (coding layout) packet.to (w.clocks packet.to.0) (w.nodes packet.to.0) packet))
+      → Tells new.history (world_handled (coding layout) w number packet)
       → Comes layout w (disks_of old.bricks.items) new (Deliver number fault) Marks
   whole_comes outs handled history =
       one_event layout w (disks_of old.bricks.items) new (Deliver number fault) Marks (Delivers number)
@@ -183,7 +182,7 @@ start_comes layout w old new brick fault started same shows (events, starts) = (
       bricks = starts.bricks;
       history = starts.tells new.history (subst (λ (h : History). Tells h w) (sym same) shows.history);
     };
-    prints = ap (λ (o : Outcome). outcome_text o (new_marks w (run (coding layout) events w))) starts.comes
+    prints = ap (λ (o : Outcome). outcome_text o (new_marks w (run (coding layout) events w)) (new_reports w (run (coding layout) events w))) starts.comes
         ∙ came_text (coding layout) w events (start_few layout w (disks_of old.bricks.items) (disks_of new.bricks.items) brick fault events starts.are)
         ∙ sym (start_text (coding layout) w brick.0 fault events);
     kept = starts.kept;
@@ -194,11 +193,11 @@ start_comes layout w old new brick fault started same shows (events, starts) = (
 pub nothing_comes : (layout : Layout) (w : World) (state : Simulation) → Shows layout state w
     → Comes layout w (disks_of state.bricks.items) state Nothing Marks
 nothing_comes layout w state shows =
-    ([], record { are = refl; shows = shows; prints = ap marks_text (drop_all (length w.marks) w.marks (omega arith)); kept = refl })
+    ([], record { are = refl; shows = shows; prints = nothing_text w; kept = refl })
 
 -- an operation that may not run alone
 pub idle_comes : (layout : Layout) (w : World) (state : Simulation) (n : ℕ) (bricks : List ℕ)
-    → (IsCalm (coding layout) w n (map brick_of bricks) → ⊥) → Shows layout state w
+    → (MayRunAlone (coding layout) w n (map brick_of bricks) → ⊥) → Shows layout state w
     → Comes layout w (disks_of state.bricks.items) state (Calm n bricks) Idle
 idle_comes layout w state n bricks not shows =
     ([], record { are = inr (not, refl); shows = shows; prints = refl; kept = refl })
@@ -209,7 +208,7 @@ pub takes_runs : (layout : Layout) (old new : Simulation) (line : Line) (event :
     → ((w : World) → ListsEvent layout w event (disks_of old.bricks.items) (disks_of new.bricks.items))
     → TakesEvent layout old new event outcome → RunsLine layout old new line outcome
 takes_runs layout old new line event outcome are lists takes w reached shows =
-    one_event layout w (disks_of old.bricks.items) new line outcome event (are w) (takes.shows w shows) (takes.outcome_is w shows)
+    one_event layout w (disks_of old.bricks.items) new line outcome event (are w) (takes.shows w reached shows) (takes.outcome_is w shows)
     (same_kept layout w event (disks_of old.bricks.items) (disks_of new.bricks.items) takes.disks (lists w))
 
 -- and no memory was left for one where nothing happened

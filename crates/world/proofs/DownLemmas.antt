@@ -1,5 +1,5 @@
 -- What is left of a brick whose disk was befallen, and what a start finds.
-use Rattle.std.proofs.Common.{◌≡◌, ◌⊎◌, inl, inr, ⊎_elim, ℕ, ◌+◌, ◌-◌, ◌^◌, ◌<◌, ◌&&◌, Bool, true, false, List, Option, Result, Err, refl, sym, ap, ◌∙◌, subst, arith}
+use Rattle.std.proofs.Common.{◌≡◌, ◌⊎◌, inl, inr, ⊎_elim, ℕ, ◌+◌, ◌-◌, ◌^◌, ◌<◌, ◌&&◌, Bool, true, false, List, Option, None, Result, Err, refl, sym, ap, ◌∙◌, subst, arith}
 use Rattle.std.specs.Prelude.{nat_lt}
 use Rattle.std.proofs.lemmas.Bool.Decides.{nat_tests}
 use Rattle.fab_base.specs.declared.identities.BrickId.{BrickId}
@@ -163,7 +163,7 @@ may_open_never state openings boot is most =
 restarted_again : (node : machine.Node) (openings : ℕ) → machine.restarted 1 (opened_more openings node) ≡ machine.restarted (openings + 1) node
 unfolding machine.restarted
 restarted_again node openings =
-    ap (λ (k : ℕ). record node { boot = k; seq = 0; known = 0; busy = 0; calls = machine.no_calls }) (omega arith)
+    ap (λ (k : ℕ). record node { boot = k; seq = 0; known = 0; round = 0; busy = 0; calls = machine.no_calls; proposal = None; job = None }) (omega arith)
 
 -- how long the list of a brick's disk is, by what its store says
 listed_by : (layout : Layout) (me : BrickId) (node : Running MemDisk) (listed : ℕ) → node.layout ≡ layout → node.me ≡ me
@@ -413,6 +413,7 @@ module _ (layout : Layout) (me : BrickId) (state : machine.Node) (time : ℕ) (p
             ∙ ap (λ (s : machine.NodeStep). s.packets) steps_there;
         told = steps.told ∙ ap (λ (s : machine.NodeStep). s.told) steps_there;
         answers = steps.answers ∙ ap (λ (s : machine.NodeStep). s.answers) steps_there;
+        reports = steps.reports ∙ ap (λ (s : machine.NodeStep). s.reports) steps_there;
         on = λ after. (
           refl,
           on_there next new up stays_new stays_up is up_is

@@ -1,29 +1,31 @@
 -- What a history tells, step by step.
-use Rattle.std.proofs.Common.{◌≡◌, ◌≢◌, ℕ, zero, suc, ◌+◌, ◌<◌, ◌≤◌, ◌-◌, ⊎_elim, get_or, set, Bool, true, false, cond, nat_eq, List, [], ◌∷◌, ◌++◌, length, Option, Some, None, refl, sym, ap, ◌∙◌, subst, arith, add-one, length-append}
+use Rattle.std.proofs.Common.{◌≡◌, ◌≢◌, ℕ, zero, suc, ◌+◌, ◌<◌, ◌≤◌, ◌-◌, ◌⊎◌, inl, inr, ⊎_elim, get_or, set, Bool, true, false, cond, nat_eq, List, [], ◌∷◌, ◌++◌, length, Option, Some, None, refl, sym, ap, ◌∙◌, subst, arith, add-one, length-append, append-nil}
 use Rattle.std.specs.Prelude.{option_to_list, slice_get, if◌then◌else◌}
 use Rattle.std.specs.Option.{option_map}
-use Rattle.std.proofs.lemmas.Bool.{cond_both, eqb-true, eqb-false, ne_eqb}
+use Rattle.std.proofs.lemmas.Bool.{cond_both, eqb-true, eqb-false, ne_eqb, cases_lt}
 use Rattle.std.proofs.lemmas.List.{get_or_append_left}
 use Rattle.std.proofs.lemmas.Option.{same_Some, slice_get_within, slice_get_past, slice_get-get_or}
 use Rattle.fab_base.specs.declared.answers.Answer.{Answer}
 use Rattle.fab_base.specs.declared.asks.Ask.{Ask}
 use Rattle.fab_base.specs.declared.identities.BrickId.{BrickId}
+use Rattle.fab_base.specs.declared.identities.ViewNo.{ViewNo}
 use Rattle.fab_base.specs.declared.stamps.Stamp.{Stamp}
 use Rattle.messages.specs.declared.packets.Packet.{Packet}
 use Rattle.reg_model.specs.declared.marks.Mark.{Mark}
 use Rattle.reg_model.specs.declared.marks.Mark.TheVariants.{Begin, End, Crash}
-use Rattle.protocol.specs.Nodes.{Node, NodeStep, put, stopped, restarted}
+use Rattle.protocol.specs.declared.tellings.Report.{Report}
+use Rattle.protocol.specs.Nodes.{Node, NodeStep, put, view_at, stopped, restarted}
 use Rattle.protocol.specs.declared.tellings.Answered.{Answered}
 use Rattle.protocol.specs.declared.tellings.Told.{Told}
 use Rattle.protocol.specs.declared.tellings.Told.TheVariants.{Made, Seen}
 use Rattle.protocol.specs.Settings.{Setting}
-use Rattle.protocol.specs.Worlds.{World, Operation, Found, Before, After, number_of, with_number, world_began, world_stepped, world_stopped, world_found, world_started, world_told, world_tells, world_answered, world_answers, reached_during, with_made, with_seen, with_answer, is_answer}
+use Rattle.protocol.specs.Worlds.{World, Operation, Choices, Found, Before, After, number_of, with_number, world_began, world_stepped, world_stopped, world_found, world_started, world_told, world_tells, world_answered, world_answers, reports_of, reached_during, with_made, with_seen, with_answer, is_answer}
 use Rattle.protocol.specs.Happenings.{writes}
 use Rattle.protocol_laws.proofs.MarkNumbers.{KeepsMark, made_mark, seen_mark, answer_mark, own_number, own_changed, own_more}
 use Rattle.world.specs.declared.histories.History.{History}
 use Rattle.world.specs.declared.histories.OperationRecord.{OperationRecord}
 use Rattle.world.specs.CallNumbers.{AreCalls, calls_in, call_at}
-use Rattle.world.specs.Shown.{TellsOperations, ChangesAt, TellsOperation, Tells, made_kept, seen_kept, ended_kept}
+use Rattle.world.specs.Shown.{TellsOperations, ChangesAt, TellsOperation, Tells, OpensAside, made_kept, seen_kept, ended_kept, calls_used, calls_aside}
 use Rattle.world.specs.declared.call_numbers.CallNumbers.{CallNumbers}
 use Rattle.world.specs.declared.deliveries.Deliveries.{Deliveries}
 use Rattle.world.proofs.Places.{grown, each_value, value_here, value_elsewhere, get_or_end, set_here, set_elsewhere, slice_get_not_none}
@@ -31,12 +33,13 @@ use Rattle.world.proofs.Places.{grown, each_value, value_here, value_elsewhere, 
 -- room alone changes nothing that is told
 pub tells_same : (old new : History) (w : World) → new.sent.packets.items ≡ old.sent.packets.items
     → ((k : ℕ) → get_or new.delivered.reached.items k false ≡ get_or old.delivered.reached.items k false)
-    → new.marks.items ≡ old.marks.items → new.operations.items ≡ old.operations.items
+    → new.marks.items ≡ old.marks.items → new.reports.items ≡ old.reports.items → new.operations.items ≡ old.operations.items
     → ((i : ℕ) → calls_in new.calls i ≡ calls_in old.calls i) → Tells old w → Tells new w
-tells_same old new w sent reached marks operations calls tells = record {
+tells_same old new w sent reached marks reports operations calls tells = record {
   packets = sent ∙ tells.packets;
   reached = λ k. reached k ∙ tells.reached k;
   marks = marks ∙ tells.marks;
+  reports = reports ∙ tells.reports;
   begun = ap length operations ∙ tells.begun;
   own = tells.own;
   operations = subst (λ (kept : List OperationRecord). TellsOperations kept w.operations) (sym operations) tells.operations;
@@ -67,11 +70,13 @@ calls_same w v up boots seqs numbers i calls are =
 
 -- a world that differs in what no history tells
 pub tells_other : (history : History) (w v : World) → v.packets ≡ w.packets → v.reached ≡ w.reached → v.marks ≡ w.marks → v.marked ≡ w.marked
+    → v.choices.reports ≡ w.choices.reports
     → v.begun ≡ w.begun → v.operations ≡ w.operations → KeepsCalls w v → Tells history w → Tells history v
-tells_other history w v packets reached marks marked begun operations calls tells = record {
+tells_other history w v packets reached marks marked reports begun operations calls tells = record {
   packets = tells.packets ∙ sym packets;
   reached = λ k. tells.reached k ∙ ap (λ (f : ℕ → Bool). f (k + 1)) (sym reached);
   marks = tells.marks ∙ sym marks;
+  reports = tells.reports ∙ sym reports;
   begun = tells.begun ∙ sym begun;
   own = record {
     count = marked ∙ tells.own.count ∙ sym begun;
@@ -90,6 +95,22 @@ tells_delivered old new w number rest reached tells =
       packets = tells.packets;
       reached = λ k. reached k ∙ ap (λ (b : Bool). if nat_eq (k + 1) number then true else b) (tells.reached k);
       marks = tells.marks;
+      reports = tells.reports;
+      begun = tells.begun;
+      own = tells.own;
+      operations = tells.operations;
+      calls = tells.calls;
+    })
+
+-- something was reported
+pub tells_reported : (old new : History) (w : World) (more : List (BrickId × Report)) → new ≡ record old { reports = new.reports }
+    → new.reports.items ≡ old.reports.items ++ more → Tells old w → Tells new (record w { choices = record w.choices { reports = w.choices.reports ++ more } })
+tells_reported old new w more rest reports tells =
+    subst (λ (h : History). Tells h (record w { choices = record w.choices { reports = w.choices.reports ++ more } })) (sym rest) (record {
+      packets = tells.packets;
+      reached = tells.reached;
+      marks = tells.marks;
+      reports = reports ∙ ap (λ (xs : List (BrickId × Report)). xs ++ more) tells.reports;
       begun = tells.begun;
       own = tells.own;
       operations = tells.operations;
@@ -135,17 +156,17 @@ known_changed old new operations number change next alike changed known n k is =
 -- an operation that made a version
 pub made_alike : (stamp : Stamp) (base : Option Stamp) (known : OperationRecord) (o : Operation) → TellsOperation known o
     → (p : Operation) × (with_made stamp base (Some o) ≡ Some p) × TellsOperation (made_kept stamp base known) p
-made_alike stamp base known o is = (_, refl, record { brick = is.brick; boot = is.boot; seq = is.seq; begin = is.begin; group = is.group; stripe = is.stripe; version = refl; made = refl; base = refl; writes = is.writes; answered = is.answered })
+made_alike stamp base known o is = (_, refl, record { brick = is.brick; boot = is.boot; seq = is.seq; begin = is.begin; group = is.group; stripe = is.stripe; version = refl; made = refl; base = refl; writes = is.writes; answered = is.answered; view = is.view })
 
 -- an operation that read a version at once
 pub seen_alike : (stamp : Stamp) (known : OperationRecord) (o : Operation) → TellsOperation known o
     → (p : Operation) × (with_seen stamp (Some o) ≡ Some p) × TellsOperation (seen_kept stamp known) p
-seen_alike stamp known o is = (_, refl, record { brick = is.brick; boot = is.boot; seq = is.seq; begin = is.begin; group = is.group; stripe = is.stripe; version = refl; made = is.made; base = is.base; writes = is.writes; answered = is.answered })
+seen_alike stamp known o is = (_, refl, record { brick = is.brick; boot = is.boot; seq = is.seq; begin = is.begin; group = is.group; stripe = is.stripe; version = refl; made = is.made; base = is.base; writes = is.writes; answered = is.answered; view = is.view })
 
 -- an operation that ended
 pub ended_alike : (answer : Answer) (known : OperationRecord) (o : Operation) → TellsOperation known o
     → (p : Operation) × (with_answer answer (Some o) ≡ Some p) × TellsOperation (ended_kept (is_answer answer) known) p
-ended_alike answer known o is = (_, refl, record { brick = is.brick; boot = is.boot; seq = is.seq; begin = is.begin; group = is.group; stripe = is.stripe; version = is.version; made = is.made; base = is.base; writes = is.writes; answered = refl })
+ended_alike answer known o is = (_, refl, record { brick = is.brick; boot = is.boot; seq = is.seq; begin = is.begin; group = is.group; stripe = is.stripe; version = is.version; made = is.made; base = is.base; writes = is.writes; answered = refl; view = is.view })
 
 -- a brick that stops stays at its boot and its calls so far; one that starts again has none
 stopped_boot : (node : Node) → (stopped node).boot ≡ node.boot
@@ -162,12 +183,13 @@ tells_changed : (old new : History) (w : World) (number : ℕ) (kept after : Lis
     → KeepsMark next → Tells old w → kept ≡ old.operations.items → new.operations.items ≡ after
     → ((known : OperationRecord) (o : Operation) → TellsOperation known o → (p : Operation) × (next (Some o) ≡ Some p) × TellsOperation (change known) p)
     → ChangesAt kept after number change → length after ≡ length kept
-    → new.sent.packets.items ≡ old.sent.packets.items → new.delivered ≡ old.delivered → new.calls ≡ old.calls → (marks : List Mark)
-    → new.marks.items ≡ marks → Tells new (record w { marks = marks; operations = put w.operations number (next (w.operations number)) })
-tells_changed old new w number kept after change next keeps tells are become alike changed count sent delivered calls marks marked = record {
+    → new.sent.packets.items ≡ old.sent.packets.items → new.delivered ≡ old.delivered → new.reports.items ≡ old.reports.items → new.calls ≡ old.calls
+    → (marks : List Mark) → new.marks.items ≡ marks → Tells new (record w { marks = marks; operations = put w.operations number (next (w.operations number)) })
+tells_changed old new w number kept after change next keeps tells are become alike changed count sent delivered reports calls marks marked = record {
   packets = sent ∙ tells.packets;
   reached = λ k. ap (λ (d : Deliveries). get_or d.reached.items k false) delivered ∙ tells.reached k;
   marks = marked;
+  reports = reports ∙ tells.reports;
   begun = ap length become ∙ count ∙ ap length are ∙ tells.begun;
   own = own_changed w.marked w.begun w.operations tells.own number next keeps;
   operations = subst (λ (x : List OperationRecord). TellsOperations x (put w.operations number (next (w.operations number)))) (sym become)
@@ -216,6 +238,38 @@ calls_grow w calls b number node up boot next are i = by_brick (nat_eq i b) refl
         (sym (ap w.up (eqb-true i b same) ∙ up)) one_more
     by_brick false other = are i
 
+-- the same of a call of no operation
+calls_grow_aside : (w : World) (calls : ℕ → List ℕ) (b : ℕ) (node : Node) → w.up b ≡ true → node.boot ≡ (w.nodes b).boot
+    → node.seq ≡ (w.nodes b).seq + 1 → number_of w b ((w.nodes b).seq + 1) ≡ 0
+    → ((i : ℕ) → AreCalls (w.up i) (calls i) (number_of w i) (w.nodes i).seq)
+    → (i : ℕ) → AreCalls (w.up i) (put calls b (calls b ++ 0 ∷ []) i) (w.numbers i (put w.nodes b node i).boot) (put w.nodes b node i).seq
+calls_grow_aside w calls b node up boot next none are i = by_brick (nat_eq i b) refl
+  where
+    was : AreCalls true (calls b) (number_of w b) (w.nodes b).seq
+    was = subst (λ (x : Bool). AreCalls x (calls b) (number_of w b) (w.nodes b).seq) up (are b)
+
+    at : (k : ℕ) → k < node.seq → (k < (w.nodes b).seq) ⊎ ((w.nodes b).seq ≤ k) → get_or (calls b ++ 0 ∷ []) k 0 ≡ w.numbers b node.boot (k + 1)
+    at k less (inl within) =
+        get_or_append_left (calls b) (0 ∷ []) 0 k (omega (arith, within, was.0)) ∙ was.1 k within ∙ ap (λ x. w.numbers b x (k + 1)) (sym boot)
+    at k less (inr past) =
+        let last : k ≡ length (calls b) = omega (arith, less, next, past, was.0) in
+        let own : k + 1 ≡ (w.nodes b).seq + 1 = omega (arith, less, next, past) in
+        ap (λ j. get_or (calls b ++ 0 ∷ []) j 0) last ∙ get_or_end (calls b) 0 0 ∙ sym none
+        ∙ ap (λ j. w.numbers b (w.nodes b).boot j) (sym own) ∙ ap (λ x. w.numbers b x (k + 1)) (sym boot)
+
+    one_more : AreCalls true (calls b ++ 0 ∷ []) (w.numbers b node.boot) node.seq
+    one_more = (
+      length-append (calls b) (0 ∷ []) ∙ (let count = was.0 in let e : length (calls b) + 1 ≡ node.seq = omega (arith, count, next) in e),
+      λ k less. at k less (cases_lt k (w.nodes b).seq),
+    )
+
+    by_brick : (x : Bool) → nat_eq i b ≡ x
+        → AreCalls (w.up i) (cond x (calls b ++ 0 ∷ []) (calls i)) (w.numbers i (cond x node (w.nodes i)).boot) (cond x node (w.nodes i)).seq
+    by_brick true same =
+        subst (λ (j : ℕ). AreCalls (w.up j) (calls b ++ 0 ∷ []) (w.numbers j node.boot) node.seq) (sym (eqb-true i b same))
+        (subst (λ (y : Bool). AreCalls y (calls b ++ 0 ∷ []) (w.numbers b node.boot) node.seq) (sym up) one_more)
+    by_brick false other = are i
+
 -- what is kept of the operations with one more
 known_begun : (kept : List OperationRecord) (operations : ℕ → Option Operation) (begun : ℕ) (known : OperationRecord) (o : Operation)
     → length kept ≡ begun → TellsOperation known o → TellsOperations kept operations → TellsOperations (kept ++ known ∷ []) (put operations (begun + 1) (Some o))
@@ -232,8 +286,8 @@ known_begun kept operations begun known o count is old n k found =
     (grown kept known n k found)
 
 -- what is kept of an operation that began at a position
-abbrev pub begun_kept : BrickId → ℕ → ℕ → ℕ → Ask → OperationRecord
-begun_kept brick boot seq begin ask =
+abbrev pub begun_kept : BrickId → ℕ → ℕ → ℕ → ViewNo → Ask → OperationRecord
+begun_kept brick boot seq begin view ask =
     record {
       brick = brick;
       boot = boot;
@@ -246,21 +300,24 @@ begun_kept brick boot seq begin ask =
       base = None;
       writes = writes ask.op;
       answered = false;
+      view = view;
     }
 
 -- an operation that began
-pub tells_began : (old new : History) (w : World) (brick : BrickId) (ask : Ask) (step : NodeStep) → Tells old w → w.up brick.0 ≡ true
-    → new.sent.packets.items ≡ old.sent.packets.items ++ step.packets → new.delivered ≡ old.delivered
+pub tells_began : (old new : History) (w : World) (brick : BrickId) (view : ViewNo) (ask : Ask) (step : NodeStep) → Tells old w → w.up brick.0 ≡ true
+    → new.sent.packets.items ≡ old.sent.packets.items ++ step.packets → new.delivered ≡ old.delivered → new.reports.items ≡ old.reports.items
     → new.marks.items ≡ old.marks.items ++ Begin (length old.marks.items) (length old.operations.items + 1) brick ask ∷ []
-    → new.operations.items ≡ old.operations.items ++ begun_kept brick step.node.boot step.node.seq (length old.marks.items) ask ∷ []
+    → new.operations.items ≡ old.operations.items ++ begun_kept brick step.node.boot step.node.seq (length old.marks.items) view ask ∷ []
     → ((i : ℕ) → calls_in new.calls i
     ≡ put (calls_in old.calls) brick.0 (calls_in old.calls brick.0 ++ (length old.operations.items + 1) ∷ []) i)
-    → step.node.boot ≡ (w.nodes brick.0).boot → step.node.seq ≡ (w.nodes brick.0).seq + 1 → Tells new (world_began w brick ask step)
-tells_began old new w brick ask step tells up sent delivered marks operations calls boot next = record {
+    → step.node.boot ≡ (w.nodes brick.0).boot → step.node.seq ≡ (w.nodes brick.0).seq + 1 → view.0 ≡ view_at (w.nodes brick.0) ask.group.0
+    → Tells new (world_began w brick ask step)
+tells_began old new w brick view ask step tells up sent delivered reports marks operations calls boot next view_is = record {
   packets = sent ∙ ap (λ xs. xs ++ step.packets) tells.packets;
   reached = λ k. ap (λ (d : Deliveries). get_or d.reached.items k false) delivered ∙ tells.reached k;
   marks = marks ∙ ap (λ (xs : List Mark). xs ++ Begin (length xs) (length old.operations.items + 1) brick ask ∷ []) tells.marks
       ∙ ap (λ n. w.marks ++ Begin (length w.marks) (n + 1) brick ask ∷ []) (tells.begun ∙ sym tells.own.count);
+  reports = reports ∙ tells.reports;
   begun = ap length operations ∙ length-append old.operations.items _ ∙ ap (λ n. n + 1) tells.begun;
   own = own_more w.marked w.begun w.operations tells.own _ refl;
   operations = subst (λ (kept : List OperationRecord). TellsOperations kept (world_began w brick ask step).operations) (sym operations)
@@ -277,6 +334,7 @@ tells_began old new w brick ask step tells up sent delivered marks operations ca
         base = refl;
         writes = refl;
         answered = refl;
+        view = view_is;
       }) tells.operations);
   calls = λ i.
       subst (λ (l : List ℕ). AreCalls (w.up i) l (with_number w.numbers brick.0 step.node (w.begun + 1) i (put w.nodes brick.0 step.node i).boot)
@@ -342,35 +400,38 @@ has_number history w b (suc k) tells up low high none =
 pub tells_made : (old new : History) (w : World) (b seq number : ℕ) (stamp : Stamp) (base : Option Stamp) (kept after : List OperationRecord) → Tells old w
     → number ≡ number_of w b seq → kept ≡ old.operations.items → new.operations.items ≡ after
     → new.sent.packets.items ≡ old.sent.packets.items → new.marks.items ≡ old.marks.items
-    → ChangesAt kept after number (made_kept stamp base) → length after ≡ length kept → new.delivered ≡ old.delivered → new.calls ≡ old.calls
+    → ChangesAt kept after number (made_kept stamp base) → length after ≡ length kept → new.delivered ≡ old.delivered → new.reports.items ≡ old.reports.items
+    → new.calls ≡ old.calls
     → Tells new (record w { operations = put w.operations (number_of w b seq) (with_made stamp base (w.operations (number_of w b seq))) })
-tells_made old new w b seq number stamp base kept after tells is are become sent marks changed count delivered calls =
+tells_made old new w b seq number stamp base kept after tells is are become sent marks changed count delivered reports calls =
     tells_changed old new w (number_of w b seq) kept after (made_kept stamp base) (with_made stamp base) (made_mark stamp base) tells are become (made_alike stamp base)
-    (subst (λ n. ChangesAt kept after n (made_kept stamp base)) is changed) count sent delivered calls w.marks (marks ∙ tells.marks)
+    (subst (λ n. ChangesAt kept after n (made_kept stamp base)) is changed) count sent delivered reports calls w.marks (marks ∙ tells.marks)
 
 -- an operation read a version at once
 pub tells_seen : (old new : History) (w : World) (b seq number : ℕ) (stamp : Stamp) (kept after : List OperationRecord) → Tells old w
     → number ≡ number_of w b seq → kept ≡ old.operations.items → new.operations.items ≡ after
     → new.sent.packets.items ≡ old.sent.packets.items → new.marks.items ≡ old.marks.items
-    → ChangesAt kept after number (seen_kept stamp) → length after ≡ length kept → new.delivered ≡ old.delivered → new.calls ≡ old.calls
+    → ChangesAt kept after number (seen_kept stamp) → length after ≡ length kept → new.delivered ≡ old.delivered → new.reports.items ≡ old.reports.items
+    → new.calls ≡ old.calls
     → Tells new (record w { operations = put w.operations (number_of w b seq) (with_seen stamp (w.operations (number_of w b seq))) })
-tells_seen old new w b seq number stamp kept after tells is are become sent marks changed count delivered calls =
+tells_seen old new w b seq number stamp kept after tells is are become sent marks changed count delivered reports calls =
     tells_changed old new w (number_of w b seq) kept after (seen_kept stamp) (with_seen stamp) (seen_mark stamp) tells are become (seen_alike stamp)
-    (subst (λ n. ChangesAt kept after n (seen_kept stamp)) is changed) count sent delivered calls w.marks (marks ∙ tells.marks)
+    (subst (λ n. ChangesAt kept after n (seen_kept stamp)) is changed) count sent delivered reports calls w.marks (marks ∙ tells.marks)
 
 -- an operation ended
 pub tells_ended : (old new : History) (w : World) (brick : BrickId) (seq number : ℕ) (answer : Answer) (answered : Bool)
     (kept after : List OperationRecord)
     → Tells old w → number ≡ number_of w brick.0 seq → kept ≡ old.operations.items → new.operations.items ≡ after → answered ≡ is_answer answer
     → new.sent.packets.items ≡ old.sent.packets.items → new.marks.items ≡ old.marks.items ++ End (length old.marks.items) number answer ∷ []
-    → ChangesAt kept after number (ended_kept answered) → length after ≡ length kept → new.delivered ≡ old.delivered → new.calls ≡ old.calls
+    → ChangesAt kept after number (ended_kept answered) → length after ≡ length kept → new.delivered ≡ old.delivered → new.reports.items ≡ old.reports.items
+    → new.calls ≡ old.calls
     → Tells new (world_answered w brick (record { seq = seq; answer = answer }))
-tells_ended old new w brick seq number answer answered kept after tells is are become right sent marks changed count delivered calls =
+tells_ended old new w brick seq number answer answered kept after tells is are become right sent marks changed count delivered reports calls =
     let at : ChangesAt kept after (number_of w brick.0 seq) (ended_kept answered) =
     subst (λ n. ChangesAt kept after n (ended_kept answered)) is changed in
     tells_changed old new w (number_of w brick.0 seq) kept after (ended_kept (is_answer answer)) (with_answer answer) (answer_mark answer) tells are become
     (ended_alike answer)
-    (subst (λ (x : Bool). ChangesAt kept after (number_of w brick.0 seq) (ended_kept x)) right at) count sent delivered calls _
+    (subst (λ (x : Bool). ChangesAt kept after (number_of w brick.0 seq) (ended_kept x)) right at) count sent delivered reports calls _
     (marks ∙ ap (λ n. old.marks.items ++ End (length old.marks.items) n answer ∷ []) is
     ∙ ap (λ (xs : List Mark). xs ++ End (length xs) (number_of w brick.0 seq) answer ∷ []) tells.marks
     ∙ ap (λ n. w.marks ++ End (length w.marks) n answer ∷ []) (sym (own_number w.marked w.begun w.operations tells.own (number_of w brick.0 seq))))
@@ -389,21 +450,22 @@ pub record KeepsRest (w v : World) : Type 0 where
   pub clocks : v.clocks ≡ w.clocks
   pub packets : v.packets ≡ w.packets
   pub reached : v.reached ≡ w.reached
+  pub choices : v.choices ≡ w.choices
 
 told_keeps : (setting : Setting) (w : World) (brick : BrickId) (told : List Told) → KeepsRest w (world_tells setting w brick told)
-told_keeps setting w brick [] = record { nodes = refl; after = refl; up = refl; clocks = refl; packets = refl; reached = refl }
+told_keeps setting w brick [] = record { nodes = refl; after = refl; up = refl; clocks = refl; packets = refl; reached = refl; choices = refl }
 told_keeps setting w brick (Made seq stamp base ∷ more) =
     let k = told_keeps setting (world_told setting w brick (Made seq stamp base)) brick more in
-    record { nodes = k.nodes; after = k.after; up = k.up; clocks = k.clocks; packets = k.packets; reached = k.reached }
+    record { nodes = k.nodes; after = k.after; up = k.up; clocks = k.clocks; packets = k.packets; reached = k.reached; choices = k.choices }
 told_keeps setting w brick (Seen seq stamp ∷ more) =
     let k = told_keeps setting (world_told setting w brick (Seen seq stamp)) brick more in
-    record { nodes = k.nodes; after = k.after; up = k.up; clocks = k.clocks; packets = k.packets; reached = k.reached }
+    record { nodes = k.nodes; after = k.after; up = k.up; clocks = k.clocks; packets = k.packets; reached = k.reached; choices = k.choices }
 
 answers_keep : (w : World) (brick : BrickId) (answers : List Answered) → KeepsRest w (world_answers w brick answers)
-answers_keep w brick [] = record { nodes = refl; after = refl; up = refl; clocks = refl; packets = refl; reached = refl }
+answers_keep w brick [] = record { nodes = refl; after = refl; up = refl; clocks = refl; packets = refl; reached = refl; choices = refl }
 answers_keep w brick (one ∷ more) =
     let k = answers_keep (world_answered w brick one) brick more in
-    record { nodes = k.nodes; after = k.after; up = k.up; clocks = k.clocks; packets = k.packets; reached = k.reached }
+    record { nodes = k.nodes; after = k.after; up = k.up; clocks = k.clocks; packets = k.packets; reached = k.reached; choices = k.choices }
 
 -- the world once a step told and answered what it did
 abbrev pub world_heard : Setting → World → BrickId → NodeStep → World
@@ -426,21 +488,81 @@ heard_keeps setting w brick step =
       clocks = answered.clocks ∙ told.clocks;
       packets = answered.packets ∙ told.packets;
       reached = answered.reached ∙ told.reached;
+      choices = answered.choices ∙ told.choices;
     }
 
--- a step that told, answered and sent
+-- a step that told, answered, sent and reported, with as many calls as its brick had, or more
 pub tells_stepped : (setting : Setting) (history : History) (w : World) (brick : BrickId) (step : NodeStep) (packets : List Packet)
-    → packets ≡ step.packets → step.node.boot ≡ (w.nodes brick.0).boot → step.node.seq ≡ (w.nodes brick.0).seq
-    → Tells history (record (world_heard setting w brick step) { packets = (world_heard setting w brick step).packets ++ packets })
-    → Tells history (world_stepped setting w brick step)
-tells_stepped setting history w brick step packets sent boot next tells =
+    (reports : List (BrickId × Report)) → packets ≡ step.packets → reports ≡ reports_of brick step.reports
+    → (let heard : World = world_heard setting w brick step in
+    let spoken : World = record heard { packets = heard.packets ++ packets; choices = record heard.choices { reports = heard.choices.reports ++ reports } } in
+    KeepsCalls spoken (world_stepped setting w brick step) → Tells history spoken → Tells history (world_stepped setting w brick step))
+tells_stepped setting history w brick step packets reports sent told calls tells =
     let heard : World = world_heard setting w brick step in
     let keeps = heard_keeps setting w brick step in
-    tells_other history (record heard { packets = heard.packets ++ packets }) (world_stepped setting w brick step)
-    (ap (λ (xs : List Packet). xs ++ step.packets) (sym keeps.packets) ∙ ap (λ (xs : List Packet). heard.packets ++ xs) (sym sent)) refl refl refl refl refl
-    (calls_same (record heard { packets = heard.packets ++ packets }) (world_stepped setting w brick step) refl
+    tells_other history (record heard { packets = heard.packets ++ packets; choices = record heard.choices { reports = heard.choices.reports ++ reports } })
+    (world_stepped setting w brick step)
+    (ap (λ (xs : List Packet). xs ++ step.packets) (sym keeps.packets) ∙ ap (λ (xs : List Packet). heard.packets ++ xs) (sym sent)) refl refl refl
+    (ap (λ (x : Choices). x.reports ++ reports_of brick step.reports) (sym keeps.choices)
+    ∙ ap (λ (xs : List (BrickId × Report)). heard.choices.reports ++ xs) (sym told)) refl refl calls tells
+
+-- so where the step opens no call
+pub tells_handled : (setting : Setting) (history : History) (w : World) (brick : BrickId) (step : NodeStep) (packets : List Packet)
+    (reports : List (BrickId × Report)) → packets ≡ step.packets → reports ≡ reports_of brick step.reports
+    → step.node.boot ≡ (w.nodes brick.0).boot → step.node.seq ≡ (w.nodes brick.0).seq
+    → (let heard : World = world_heard setting w brick step in
+    Tells history (record heard { packets = heard.packets ++ packets; choices = record heard.choices { reports = heard.choices.reports ++ reports } })
+    → Tells history (world_stepped setting w brick step))
+tells_handled setting history w brick step packets reports sent told boot next tells =
+    let heard : World = world_heard setting w brick step in
+    let keeps = heard_keeps setting w brick step in
+    tells_stepped setting history w brick step packets reports sent told
+    (calls_same (record heard { packets = heard.packets ++ packets; choices = record heard.choices { reports = heard.choices.reports ++ reports } })
+    (world_stepped setting w brick step) refl
     (λ i. boots_stay w brick step.node boot i ∙ ap (λ (f : ℕ → Node). (f i).boot) (sym keeps.nodes))
     (λ i. seqs_stay w brick step.node next i ∙ ap (λ (f : ℕ → Node). (f i).seq) (sym keeps.nodes)) refl) tells
+
+-- a step that tells and answers nothing
+aside_is : (setting : Setting) (w : World) (brick : BrickId) (step : NodeStep) → step.told ≡ [] → step.answers ≡ []
+    → world_stepped setting w brick step ≡ world_stepped setting w brick (record step { told = []; answers = [] })
+aside_is setting w brick step told answers =
+    ap (λ (l : List Told). world_stepped setting w brick (record step { told = l })) told
+    ∙ ap (λ (l : List Answered). world_stepped setting w brick (record step { told = []; answers = l })) answers
+
+-- the calls of each brick, where one used up a call of no operation, or none
+calls_besides : (w : World) (calls : ℕ → List ℕ) (b : ℕ) (node : Node) (report : Option Report) → w.up b ≡ true → node.boot ≡ (w.nodes b).boot
+    → node.seq ≡ (w.nodes b).seq + calls_used (option_to_list report) → number_of w b ((w.nodes b).seq + 1) ≡ 0
+    → ((i : ℕ) → AreCalls (w.up i) (calls i) (number_of w i) (w.nodes i).seq)
+    → (i : ℕ) → AreCalls (w.up i) (calls_aside calls b report i) (w.numbers i (put w.nodes b node i).boot) (put w.nodes b node i).seq
+calls_besides w calls b node None up boot next none are = calls_grow_aside w calls b node up boot next none are
+calls_besides w calls b node (Some report) up boot next none are =
+    each_value (λ i x. AreCalls (w.up i) (calls i) (w.numbers i x.boot) x.seq) w.nodes b node
+    (subst (λ (k : ℕ). AreCalls (w.up b) (calls b) (w.numbers b node.boot) k) (let e : (w.nodes b).seq ≡ node.seq = omega (arith, next) in e)
+    (subst (λ (k : ℕ). AreCalls (w.up b) (calls b) (w.numbers b k) (w.nodes b).seq) (sym boot) (are b)))
+    (λ i other. are i)
+
+-- a brick was asked to propose
+pub tells_proposed : (setting : Setting) (old new : History) (w : World) (brick : BrickId) (step : NodeStep) (packets : List Packet) (report : Option Report)
+    → Tells old w → w.up brick.0 ≡ true → OpensAside w brick step → packets ≡ step.packets → option_to_list report ≡ step.reports
+    → new.sent.packets.items ≡ old.sent.packets.items ++ packets → new.delivered ≡ old.delivered → new.marks.items ≡ old.marks.items
+    → new.reports.items ≡ old.reports.items ++ reports_of brick (option_to_list report) → new.operations.items ≡ old.operations.items
+    → ((i : ℕ) → calls_in new.calls i ≡ calls_aside (calls_in old.calls) brick.0 report i) → Tells new (world_stepped setting w brick step)
+tells_proposed setting old new w brick step packets report tells up opens sent_is report_is sent delivered marks reports operations calls =
+    subst (Tells new) (sym (aside_is setting w brick step opens.told opens.answers)) (record {
+      packets = sent ∙ ap (λ (xs : List Packet). xs ++ packets) tells.packets ∙ ap (λ (xs : List Packet). w.packets ++ xs) sent_is;
+      reached = λ k. ap (λ (d : Deliveries). get_or d.reached.items k false) delivered ∙ tells.reached k;
+      marks = marks ∙ tells.marks;
+      reports =
+          reports ∙ ap (λ (xs : List (BrickId × Report)). xs ++ reports_of brick (option_to_list report)) tells.reports
+          ∙ ap (λ (xs : List Report). w.choices.reports ++ reports_of brick xs) report_is;
+      begun = ap length operations ∙ tells.begun;
+      own = tells.own;
+      operations = subst (λ (kept : List OperationRecord). TellsOperations kept w.operations) (sym operations) tells.operations;
+      calls = λ i.
+          subst (λ (l : List ℕ). AreCalls (w.up i) l (w.numbers i (put w.nodes brick.0 step.node i).boot) (put w.nodes brick.0 step.node i).seq) (sym (calls i))
+          (calls_besides w (calls_in old.calls) brick.0 step.node report up opens.boot
+          (opens.seq ∙ ap (λ (xs : List Report). (w.nodes brick.0).seq + calls_used xs) (sym report_is)) opens.unnumbered tells.calls i);
+    })
 
 -- a brick stopped, which has made no call then
 pub tells_crashed : (setting : Setting) (old new : History) (w : World) (brick : BrickId) → Tells old w
@@ -452,6 +574,7 @@ tells_crashed setting old new w brick tells rest marks calls =
       packets = tells.packets;
       reached = tells.reached;
       marks = marks ∙ ap (λ (xs : List Mark). xs ++ Crash (length xs) brick ∷ []) tells.marks;
+      reports = tells.reports;
       begun = tells.begun;
       own = tells.own;
       operations = tells.operations;
@@ -492,9 +615,9 @@ module _ (w : World) (brick : BrickId) (openings : ℕ) (down : w.up brick.0 ≡
   pub tells_found_started : (history : History) (found : Found) → Tells history w
       → Tells history (world_started (world_found w brick found) brick openings)
   tells_found_started history Before tells =
-      tells_other history w (world_started w brick openings) refl refl refl refl refl refl (started_calls w.nodes (λ i other. refl)) tells
+      tells_other history w (world_started w brick openings) refl refl refl refl refl refl refl (started_calls w.nodes (λ i other. refl)) tells
   tells_found_started history After tells =
-      tells_other history w (world_started (world_found w brick After) brick openings) refl refl refl refl refl refl
+      tells_other history w (world_started (world_found w brick After) brick openings) refl refl refl refl (append-nil w.choices.reports) refl refl
       (started_calls (put w.nodes brick.0 (w.after brick.0)) (λ i other. value_elsewhere w.nodes brick.0 i (w.after brick.0) other)) tells
 
 -- what a brick that is down would have kept is told by no history, and that a message was delivered in whose midst it stopped is
@@ -504,4 +627,4 @@ pub tells_during : (setting : Setting) (history : History) (w : World) (brick : 
     → Tells history (world_stopped setting w brick (Some number))
 tells_during setting history w brick number reached tells =
     tells_other history (world_stopped setting (record w { reached = put w.reached number true }) brick None)
-    (world_stopped setting w brick (Some number)) refl reached refl refl refl refl (λ i calls are. are) tells
+    (world_stopped setting w brick (Some number)) refl reached refl refl refl refl refl (λ i calls are. are) tells

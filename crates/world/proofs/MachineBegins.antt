@@ -1,19 +1,26 @@
--- When an operation begins in the machine, and what a message does there.
-use Rattle.std.proofs.Common.{◌≡◌, ℕ, ◌+◌, ◌<◌, ◌≤◌, Bool, true, false, not, cond, nat_lt, ◌&&◌, List, Option, Some, None, refl, ap, ◌∙◌, arith}
+-- When an operation or a proposal begins in the machine, and what a message does there.
+use Rattle.std.proofs.Common.{◌≡◌, ℕ, ◌+◌, ◌<◌, ◌≤◌, Bool, true, false, not, cond, nat_lt, ◌&&◌, List, [], Option, Some, None, refl, ap, ◌∙◌, arith}
 use Rattle.std.specs.Prelude.{if◌then◌else◌}
 use Rattle.std.specs.Option.{is_some, option_map}
+use Rattle.std.proofs.lemmas.Bool.{cond_both}
 use Rattle.std.proofs.lemmas.Bool.Decides.{nat_tests}
+use Rattle.quorum.specs.Memberships.{is_membership}
 use Rattle.fab_base.specs.declared.asks.Ask.{Ask}
 use Rattle.fab_base.specs.declared.asks.Op.{Op}
 use Rattle.fab_base.specs.declared.answers.Refusal.{Refusal}
 use Rattle.fab_base.specs.declared.identities.BrickId.{BrickId}
+use Rattle.fab_base.specs.declared.identities.GroupId.{GroupId}
 use Rattle.messages.specs.declared.packets.Packet.{Packet}
 use Rattle.fab_base.specs.Layouts.{Layout, Group, group_of}
 use Rattle.protocol.specs.Settings.{Setting}
 use Rattle.protocol.specs.Views.{kept_by}
-use Rattle.protocol.specs.Nodes.{Node, group_at, put, has_block, has_length, is_spent, most_open, refusal_in, refusal_of, began, invoked}
-use Rattle.protocol.specs.Worlds.{World, Invokes, Delivers, Sets, Ticks, Stops, Starts, Found, is_up, may_start, world_began, world_ticked, world_stopped, world_found, world_started, delivered, packet_of, happens}
-use Rattle.world.specs.Runs.{ask_of, refusal_at}
+use Rattle.protocol.specs.declared.tellings.Report.TheVariants as report
+use Rattle.protocol.specs.declared.tellings.ViewAnswer.TheVariants.{BadMembers}
+use Rattle.protocol.specs.Proposals.{Proposal, ballot_packets}
+use Rattle.protocol.specs.Nodes.{Node, NodeStep, group_at, put, has_block, has_length, is_spent, most_open, refusal_in, refusal_of, began, invoked, new_proposal, proposing, reporting, sending, proposal_refusal_in, proposal_refusal, proposed_in, proposed}
+use Rattle.protocol.specs.Worlds.{World, Invokes, Proposes, Delivers, Sets, Ticks, Stops, Starts, Found, is_up, may_start, world_began, world_stepped, world_ticked, world_stopped, world_found, world_started, delivered, packet_of, happens}
+use Rattle.world.specs.Runs.{ask_of, refusal_at, proposal_refusal_at}
+use Rattle.world.specs.Shown.{calls_used}
 use Rattle.protocol.proofs.Events.{world_handled}
 
 -- where there is no such group there is no such stripe
@@ -116,7 +123,79 @@ pub invoked_boot : (setting : Setting) (brick : BrickId) (now : ℕ) (node : Nod
 unfolding invoked
 invoked_boot setting brick now node ask = invoked_boot_in setting brick now node ask (group_at setting.layout node ask.group.0)
 
+-- an operation that is not refused is of a group of the layout
+begun_in : (block : ℕ) (node : Node) (ask : Ask) (found : Option Group) → refusal_in block node ask found ≡ None → (group : Group) × (found ≡ Some group)
+begun_in block node ask None none = absurd (let never : Some Refusal.NoStripe ≡ None = none in cc)
+begun_in block node ask (Some group) none = (group, refl)
+
+pub begun_group : (layout : Layout) (node : Node) (ask : Ask) → refusal_of layout node ask ≡ None → (group : Group) × (group_of layout ask.group.0 ≡ Some group)
+unfolding refusal_of
+begun_group layout node ask none = begun_in layout.block node ask (group_of layout ask.group.0) none
+
+-- where there is no such group no brick proposes its next view
+pub unproposed_no_group : (layout : Layout) (g : ℕ) (node : Node) → group_of layout g ≡ None → proposal_refusal layout node g ≡ Some Refusal.NoStripe
+unfolding proposal_refusal
+unproposed_no_group layout g node none = ap (proposal_refusal_in node g) none
+
+-- a brick that is up refuses to propose for its own reason
+pub unproposed_here : (setting : Setting) (w : World) (brick : BrickId) (group : GroupId) → is_up setting.layout w brick ≡ true
+    → proposal_refusal_at setting w brick group ≡ proposal_refusal setting.layout (w.nodes brick.0) group.0
+unproposed_here setting w brick group up = ap (λ b. cond b (proposal_refusal setting.layout (w.nodes brick.0) group.0) (Some Refusal.Down)) up
+
+-- there is no such brick that is up
+pub unproposed_down : (setting : Setting) (w : World) (brick : BrickId) (group : GroupId) → is_up setting.layout w brick ≡ false
+    → proposal_refusal_at setting w brick group ≡ Some Refusal.Down
+unproposed_down setting w brick group down = ap (λ b. cond b (proposal_refusal setting.layout (w.nodes brick.0) group.0) (Some Refusal.Down)) down
+
+-- What a brick does that does not refuse to propose: it is of the same boot, tells and answers nothing, and uses up a call unless it reports at once.
+pub record ProposesAside (node : Node) (step : NodeStep) : Type 0 where
+  pub boot : step.node.boot ≡ node.boot
+  pub told : step.told ≡ []
+  pub answers : step.answers ≡ []
+  pub seq : step.node.seq ≡ node.seq + calls_used step.reports
+
+proposed_aside_in : (setting : Setting) (me : BrickId) (node : Node) (group : GroupId) (members : List BrickId) (found : Option Group)
+    → proposal_refusal_in node group.0 found ≡ None → ProposesAside node (proposed_in setting me node group members found)
+proposed_aside_in setting me node group members None none = absurd (let never : Some Refusal.NoStripe ≡ None = none in cc)
+proposed_aside_in setting me node group members (Some kept) none =
+    let p : Proposal = new_proposal me node kept.m group members in
+    cond_both (is_membership kept.m setting.layout.bricks members) (sending (proposing node p) (ballot_packets me p))
+    (reporting node [] (report.View group None BadMembers)) (ProposesAside node)
+    (λ may. record { boot = refl; told = refl; answers = refl; seq = refl })
+    (λ isnt. record { boot = refl; told = refl; answers = refl; seq = (let same : node.seq ≡ node.seq + 0 = omega arith in same) })
+
+pub proposed_aside : (setting : Setting) (me : BrickId) (node : Node) (group : GroupId) (members : List BrickId)
+    → proposal_refusal setting.layout node group.0 ≡ None → ProposesAside node (proposed setting me node group members)
+unfolding proposed proposal_refusal
+proposed_aside setting me node group members none = proposed_aside_in setting me node group members (group_of setting.layout group.0) none
+
 module _ (setting : Setting) (w : World) where
+  -- a proposal that is refused changes nothing
+  pub happens_unproposed : (brick : BrickId) (group : GroupId) (members : List BrickId) (reason : Refusal)
+      → proposal_refusal setting.layout (w.nodes brick.0) group.0 ≡ Some reason → happens setting w (Proposes brick group members) ≡ w
+  unfolding happens
+  happens_unproposed brick group members reason is =
+      ap (λ b. cond b (world_stepped setting w brick (proposed setting brick (w.nodes brick.0) group members)) w)
+      (may_not (is_up setting.layout w brick) (proposal_refusal setting.layout (w.nodes brick.0) group.0) reason is)
+
+  -- no brick that is not up proposes
+  pub happens_unproposed_down : (brick : BrickId) (group : GroupId) (members : List BrickId) → is_up setting.layout w brick ≡ false
+      → happens setting w (Proposes brick group members) ≡ w
+  unfolding happens
+  happens_unproposed_down brick group members down =
+      ap (λ b. cond (b && not (is_some (proposal_refusal setting.layout (w.nodes brick.0) group.0)))
+      (world_stepped setting w brick (proposed setting brick (w.nodes brick.0) group members)) w)
+      down
+
+  -- a brick that does not refuse to propose takes its step
+  pub happens_proposed : (brick : BrickId) (group : GroupId) (members : List BrickId) → is_up setting.layout w brick ≡ true
+      → proposal_refusal setting.layout (w.nodes brick.0) group.0 ≡ None
+      → happens setting w (Proposes brick group members) ≡ world_stepped setting w brick (proposed setting brick (w.nodes brick.0) group members)
+  unfolding happens
+  happens_proposed brick group members up none =
+      ap (λ b. cond b (world_stepped setting w brick (proposed setting brick (w.nodes brick.0) group members)) w)
+      (may (is_up setting.layout w brick) (proposal_refusal setting.layout (w.nodes brick.0) group.0) up none)
+
   -- a number that was not sent changes nothing
   pub happens_unsent : (number : ℕ) → packet_of w.packets number ≡ None → happens setting w (Delivers number) ≡ w
   unfolding happens

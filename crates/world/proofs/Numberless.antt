@@ -4,8 +4,8 @@ use Rattle.std.proofs.lemmas.Bool.{cond_both}
 use Rattle.fab_base.specs.declared.identities.BrickId.{BrickId}
 use Rattle.messages.specs.declared.packets.Packet.{Packet}
 use Rattle.protocol.specs.Settings.{Setting}
-use Rattle.protocol.specs.Nodes.{put}
-use Rattle.protocol.specs.Worlds.{World, packet_of, reached_at, reached_during}
+use Rattle.protocol.specs.Nodes.{NodeStep, put, proposed}
+use Rattle.protocol.specs.Worlds.{World, packet_of, reached_at, reached_during, world_stepped}
 use Rattle.stripe_code.specs.Codes.{coding}
 use Rattle.world.specs.Deliveries.{is_noted}
 use Rattle.world.specs.Runs.{Run, all_events, world_of}
@@ -20,13 +20,18 @@ NoneAtZero w = w.reached 0 ≡ false
 zero_put : (reached : ℕ → Bool) (k : ℕ) → reached 0 ≡ false → put reached (suc k) true 0 ≡ false
 zero_put reached k none = value_elsewhere reached (suc k) 0 true (λ e. omega arith) ∙ none
 
+-- a brick's step delivers none
+zero_stepped : (setting : Setting) (w : World) (brick : BrickId) (step : NodeStep) → NoneAtZero w → NoneAtZero (world_stepped setting w brick step)
+zero_stepped setting w brick step none =
+    stepped_each NoneAtZero setting brick step (λ x seq t base holds. holds) (λ x seq v holds. holds) (λ x one holds. holds)
+    (λ x nodes held packets choices holds. holds) w none
+
 -- so it stays at a delivery
 zero_handled : (setting : Setting) (w : World) (number : ℕ) (packet : Packet) → packet_of w.packets number ≡ Some packet → NoneAtZero w
     → NoneAtZero (world_handled setting w number packet)
 zero_handled setting w zero packet at none = absurd (let never : None ≡ Some packet = at in cc)
 zero_handled setting w (suc k) packet at none =
-    stepped_each NoneAtZero setting packet.to (step_on setting w packet) (λ x seq t base holds. holds) (λ x seq v holds. holds) (λ x one holds. holds)
-    (λ x nodes held packets holds. holds) (world_counting setting w (suc k) packet) (zero_put w.reached k none)
+    zero_stepped setting (world_counting setting w (suc k) packet) packet.to (step_on setting w packet) (zero_put w.reached k none)
 
 -- and where a brick stops in the midst of one
 zero_during : (w : World) (brick : BrickId) (during : Option ℕ) → NoneAtZero w → reached_during w brick during 0 ≡ false
@@ -44,6 +49,7 @@ zero_during w brick (Some (suc k)) none = by_packet (packet_of w.packets (suc k)
 zero_cases : (setting : Setting) (w : World) → NoneAtZero w → EventCases setting w NoneAtZero
 zero_cases setting w none = record {
   begins = λ brick ask may. none;
+  proposes = λ brick group members may. zero_stepped setting w brick (proposed setting brick (w.nodes brick.0) group members) none;
   handles = λ number packet at up. zero_handled setting w number packet at none;
   sets = λ brick time is. none;
   ticks = λ brick up. none;

@@ -1,19 +1,22 @@
 -- What holds in the world that a run leaves, since a schedule of events reaches it.
-use Rattle.protocol_laws.proofs.FirstWorlds.{AreInFirst, always_in_first}
-use Rattle.std.proofs.Common.{refl, sym, subst}
-use Rattle.fab_base.specs.Layouts.{Layout}
-use Rattle.protocol.specs.Worlds.{World}
+use Rattle.std.proofs.Common.{◌≡◌, ℕ, ◌+◌, Some, refl, sym, ap, ◌∙◌, subst}
+use Rattle.fab_base.specs.Layouts.{Layout, group_of}
+use Rattle.protocol.specs.Worlds.{World, first_world, number_of, run}
 use Rattle.stripe_code.specs.Codes.{coding}
 use Rattle.protocol.specs.Settings.{IsSound}
-use Rattle.protocol.specs.Views.{views_in}
+use Rattle.protocol.specs.Coordinators.{Coordinator}
+use Rattle.protocol.specs.Views.{Views, views_in, group_in}
 use Rattle.protocol_laws.specs.Laws.{Laws}
 use Rattle.protocol_laws.proofs.Books.{Books}
 use Rattle.protocol_laws.proofs.BooksEvents.{books}
 use Rattle.protocol_laws.proofs.EveryRun.{every_views_run}
+use Rattle.protocol_laws.proofs.FirstViews.{first_group}
+use Rattle.protocol_laws.proofs.SaidAlways.{always_said}
+use Rattle.view_laws.proofs.Followed.{every_run_follows}
 use Rattle.world.specs.Runs.{Run, world_of, all_events}
 use Rattle.world.specs.Shown.{IsNumbered, IsReachedBy}
 use Rattle.world.specs.Walks.{BeginsAgree}
-use Rattle.world.proofs.CallNumbers.{NumbersSay, AreOfBricks, KnowsCalls, numbers_say, of_bricks, knows_calls}
+use Rattle.world.proofs.CallNumbers.{NumbersSay, AreOfBricks, KnowsCalls, numbers_say, of_bricks, knows_calls, next_unnumbered}
 use Rattle.world.proofs.KeptOperations.{begins_from_books}
 use Rattle.world.proofs.RunLemmas.{numbered_from_books}
 
@@ -29,9 +32,16 @@ numbered r = numbered_from_books (coding r.layout) (world_of r) (books_of r)
 pub reached_books : (layout : Layout) (w : World) → IsReachedBy layout w → Books (coding layout) w
 reached_books layout w (events, is) = subst (λ (v : World). Books (coding layout) v) (sym is) (books (coding layout) events)
 
--- its bricks have learnt no other view than 1
-pub reached_first : (layout : Layout) (w : World) → IsReachedBy layout w → AreInFirst (coding layout) w
-reached_first layout w (events, is) = subst (λ (v : World). AreInFirst (coding layout) v) (sym is) (always_in_first (coding layout) events)
+-- an open operation in view 1 is of a group that the layout's members keep
+pub reached_group : (layout : Layout) (w : World) (i k : ℕ) (c : Coordinator) → IsSound (coding layout) → IsReachedBy layout w
+    → (w.nodes i).calls k ≡ Some c → c.call.view.0 ≡ 1 → group_of layout c.call.group.0 ≡ Some c.group
+reached_group layout w i k c sound (events, is) call first =
+    let v : World = run (coding layout) events (first_world layout) in
+    let views : Views = views_in layout v.packets in
+    let said = always_said (coding layout) views events sound (every_run_follows (coding layout) events sound) in
+    sym (first_group layout v.packets c.call.group.0)
+    ∙ ap (λ (e : ℕ). group_in layout views c.call.group.0 e) (sym first)
+    ∙ (said.1.calls i k c (ap (λ (x : World). (x.nodes i).calls k) (sym is) ∙ call)).group
 
 pub reached_numbered : (layout : Layout) (w : World) → IsReachedBy layout w → IsNumbered w
 reached_numbered layout w reached = numbered_from_books (coding layout) w (reached_books layout w reached)
@@ -44,6 +54,10 @@ reached_numbers layout w (events, is) = subst NumbersSay (sym is) (numbers_say l
 
 pub reached_bricks : (layout : Layout) (w : World) → IsReachedBy layout w → AreOfBricks layout w
 reached_bricks layout w (events, is) = subst (AreOfBricks layout) (sym is) (of_bricks layout events)
+
+-- a brick's next call is that of no operation yet
+pub reached_next : (layout : Layout) (w : World) → IsReachedBy layout w → (i : ℕ) → number_of w i ((w.nodes i).seq + 1) ≡ 0
+reached_next layout w reached = next_unnumbered w (reached_numbers layout w reached) (reached_knows layout w reached)
 
 -- a run's world is reached by its events
 pub run_reached : (r : Run) → IsReachedBy r.layout (world_of r)

@@ -13,9 +13,10 @@ use Rattle.lines.specs.declared.forms.Line.{Line}
 use Rattle.lines.specs.declared.forms.Fault.{Fault}
 use Rattle.stripe_code.specs.Codes.{coding}
 use Rattle.fab_base.specs.Layouts.{Layout}
-use Rattle.protocol.specs.Nodes.{Node}
+use Rattle.protocol.specs.Nodes.{Node, NodeStep, proposed}
 use Rattle.protocol.specs.Settings.{Setting}
-use Rattle.protocol.specs.Worlds.{World, Event, Stops, Starts, Before, first_world, number_of, run}
+use Rattle.protocol.specs.declared.tellings.Report.{Report}
+use Rattle.protocol.specs.Worlds.{World, Event, Stops, Starts, Before, first_world, number_of, reports_of, world_stepped, run}
 use Rattle.protocol_laws.proofs.Books.{Books}
 use Rattle.world.specs.Runs.{Run, Step, world_of, all_events, brick_of}
 use Rattle.world.specs.Faults.{IsEventsOf, IsStartOf, StaysDown, IsStarted, IsNoStart}
@@ -23,7 +24,7 @@ use Rattle.world.specs.Disks.{ShowsDiskOf, ShowsDisks, KeepsDisks, LeavesContent
 use Rattle.world.specs.Shown.{IsNumbered, Shows, ShowsBricks, ShowsPower, ComesTo, Leaves, disk_in, disks_of, came_to}
 use Rattle.protocol.proofs.Events.{run-append, EventCases, step_on, world_counting, stepped_each, started_each, run_each}
 use Rattle.world.specs.Steps.{Runs, RunsTo, LeavesSome, with_step}
-use Rattle.world.specs.Texts.{text_of, event_text, marks_text, outcome_text, new_marks, line_text, step_text}
+use Rattle.world.specs.Texts.{text_of, event_text, marks_text, reports_text, outcome_text, new_marks, new_reports, line_text, step_text}
 use Rattle.world.specs.declared.bricks.Brick.{Brick}
 use Rattle.world.specs.declared.bricks.Power.{Power}
 use Rattle.world.specs.declared.bricks.Power.TheVariants.{Up, Down}
@@ -86,13 +87,18 @@ HasAtLeast marks w = marks ≤ length w.marks
 grown_by : (marks : List Mark) (mark : Mark) (least : ℕ) → least ≤ length marks → least ≤ length (marks ++ (mark ∷ []))
 grown_by marks mark least few = omega (arith, few, length-append marks (mark ∷ []))
 
+grow_stepped : (setting : Setting) (least : ℕ) (w : World) (brick : BrickId) (step : NodeStep) → HasAtLeast least w
+    → HasAtLeast least (world_stepped setting w brick step)
+grow_stepped setting least w brick step few =
+    stepped_each (HasAtLeast least) setting brick step (λ x seq t base holds. holds) (λ x seq v holds. holds)
+    (λ x one holds. grown_by x.marks (mark.End (length x.marks) _ one.answer) least holds)
+    (λ x nodes held packets choices holds. holds) w few
+
 grow_cases : (setting : Setting) (least : ℕ) (w : World) → HasAtLeast least w → EventCases setting w (HasAtLeast least)
 grow_cases setting least w few = record {
+  proposes = λ brick group members may. grow_stepped setting least w brick (proposed setting brick (w.nodes brick.0) group members) few;
   begins = λ brick ask may. grown_by w.marks (mark.Begin (length w.marks) (w.marked + 1) brick ask) least few;
-  handles = λ number packet at up.
-      stepped_each (HasAtLeast least) setting packet.to (step_on setting w packet) (λ x seq t base holds. holds) (λ x seq v holds. holds)
-      (λ x one holds. grown_by x.marks (mark.End (length x.marks) _ one.answer) least holds)
-      (λ x nodes held packets holds. holds) (world_counting setting w number packet) few;
+  handles = λ number packet at up. grow_stepped setting least (world_counting setting w number packet) packet.to (step_on setting w packet) few;
   sets = λ brick time is. few;
   ticks = λ brick up. few;
   stops = λ brick during up. grown_by w.marks (mark.Crash (length w.marks) brick) least few;
@@ -103,6 +109,28 @@ run_grows : (setting : Setting) (w : World) (events : List Event) → length w.m
 run_grows setting w events =
     run_each (HasAtLeast (length w.marks)) (λ x. Unit {0}) setting (λ x known. grow_cases setting (length w.marks) x) events w (λ more. tt) (omega arith)
 
+-- so are reports
+reports_grown : (reports more : List (BrickId × Report)) (least : ℕ) → least ≤ length reports → least ≤ length (reports ++ more)
+reports_grown reports more least few = omega (arith, few, length-append reports more)
+
+report_cases : (setting : Setting) (least : ℕ) (w : World) → least ≤ length w.choices.reports → EventCases setting w (λ x. least ≤ length x.choices.reports)
+report_cases setting least w few = record {
+  begins = λ brick ask may. few;
+  proposes = λ brick group members may.
+      reports_grown w.choices.reports (reports_of brick (proposed setting brick (w.nodes brick.0) group members).reports) least few;
+  handles = λ number packet at up. reports_grown w.choices.reports (reports_of packet.to (step_on setting w packet).reports) least few;
+  sets = λ brick time is. few;
+  ticks = λ brick up. few;
+  stops = λ brick during up. few;
+  starts = λ brick openings found may.
+      started_each (λ (x : World). least ≤ length x.choices.reports) w brick openings few (reports_grown w.choices.reports [] least few) found;
+}
+
+run_reports : (setting : Setting) (w : World) (events : List Event) → length w.choices.reports ≤ length (run setting events w).choices.reports
+run_reports setting w events =
+    run_each (λ (x : World). length w.choices.reports ≤ length x.choices.reports) (λ x. Unit {0}) setting
+    (λ x known. report_cases setting (length w.choices.reports) x) events w (λ more. tt) (omega arith)
+
 -- so a run with one step more has no fewer
 pub marks_grow : (layout : Layout) (old new : List Step) (step : Step) (before disks : List MemDisk) → new ≡ old ++ step ∷ []
     → length (world_of (record { layout = layout; steps = old; disks = before })).marks
@@ -112,6 +140,15 @@ marks_grow layout old new step before disks grown =
     subst (λ (v : World). length w.marks ≤ length v.marks)
     (sym (ap (λ (steps : List Step). world_of (record { layout = layout; steps = steps; disks = disks })) grown
     ∙ world_of-with_step (record { layout = layout; steps = old; disks = before }) step disks)) (run_grows (coding layout) w step.events)
+
+pub reports_grow : (layout : Layout) (old new : List Step) (step : Step) (before disks : List MemDisk) → new ≡ old ++ step ∷ []
+    → length (world_of (record { layout = layout; steps = old; disks = before })).choices.reports
+    ≤ length (world_of (record { layout = layout; steps = new; disks = disks })).choices.reports
+reports_grow layout old new step before disks grown =
+    let w : World = world_of (record { layout = layout; steps = old; disks = before }) in
+    subst (λ (v : World). length w.choices.reports ≤ length v.choices.reports)
+    (sym (ap (λ (steps : List Step). world_of (record { layout = layout; steps = steps; disks = disks })) grown
+    ∙ world_of-with_step (record { layout = layout; steps = old; disks = before }) step disks)) (run_reports (coding layout) w step.events)
 
 -- what a world's books say of its open calls
 pub numbered_from_books : (setting : Setting) (w : World) → Books setting w → IsNumbered w
@@ -132,32 +169,41 @@ start_few layout w old new brick fault events are = ⊎_elim
     inr (Starts brick (is.start.finds.openings + 1) is.start.finds.found, is.events_are))
     (λ (is : IsNoStart layout w brick events). inr (Starts brick 1 Before, is.events_are)) other) are
 
--- what such events came to, with the marks behind those before, is what they print
+-- no mark and no report have no text
+pub nothing_text : (w : World) → marks_text (new_marks w w) ++ reports_text (new_reports w w) ≡ []
+nothing_text w =
+    ap (λ (marks : List Mark). marks_text marks ++ reports_text (new_reports w w)) (drop_all (length w.marks) w.marks (omega arith))
+    ∙ ap reports_text (drop_all (length w.choices.reports) w.choices.reports (omega arith))
+
+-- what such events came to, with the marks and the reports behind those before, is what they print
+abbrev CameText : Setting → World → List Event → Type 0
+CameText setting w events =
+    (let next : World = run setting events w in outcome_text (came_to setting w events) (new_marks w next) (new_reports w next) ≡ text_of setting w events)
+
 pub came_text : (setting : Setting) (w : World) (events : List Event) → (events ≡ []) ⊎ ((event : Event) × (events ≡ event ∷ []))
-    → outcome_text (came_to setting w events) (new_marks w (run setting events w)) ≡ text_of setting w events
+    → CameText setting w events
 came_text setting w events few = ⊎_elim
-    (λ (none : events ≡ []).
-    subst (λ (e : List Event). outcome_text (came_to setting w e) (new_marks w (run setting e w)) ≡ text_of setting w e) (sym none)
-    (ap marks_text (drop_all (length w.marks) w.marks (omega arith))))
-    (λ (one : (event : Event) × (events ≡ event ∷ [])).
-    subst (λ (e : List Event). outcome_text (came_to setting w e) (new_marks w (run setting e w)) ≡ text_of setting w e) (sym one.1)
-    (sym (append-nil (event_text setting w one.0))))
+    (λ (none : events ≡ []). subst (CameText setting w) (sym none) (nothing_text w))
+    (λ (one : (event : Event) × (events ≡ event ∷ [])). subst (CameText setting w) (sym one.1) (sym (append-nil (event_text setting w one.0))))
     few
 
-pub text_is : (old new : Run) (line : Line) (step : Step) (outcome : Outcome) (marks : List Mark) (before : ℕ) (text : List ℕ)
+-- what stands in a list behind those that stood in another
+pub rest_is : {A : Type 0} (xs is was : List A) (before : ℕ) → xs ≡ is → before ≡ length was
+    → take (length xs - before) (drop before xs) ≡ drop (length was) is
+rest_is xs is was before are count =
+    take_all (length xs - before) (drop before xs) (omega (arith, length-drop before xs))
+    ∙ ap (λ n. drop n xs) count ∙ ap (λ (ys : List _). drop (length was) ys) are
+
+-- the text of a line is that of its step
+pub text_is : (old new : Run) (line : Line) (step : Step) (outcome : Outcome) (marks : List Mark) (reports : List (BrickId × Report)) (text : List ℕ)
     → Runs old new line step
-    → outcome_text outcome (new_marks (world_of old) (world_of new)) ≡ line_text (coding old.layout) (world_of old) line step.events
-    → marks ≡ (world_of new).marks
-    → before ≡ length (world_of old).marks → text ≡ outcome_text outcome (take (length marks - before) (drop before marks))
+    → outcome_text outcome (new_marks (world_of old) (world_of new)) (new_reports (world_of old) (world_of new))
+    ≡ line_text (coding old.layout) (world_of old) line step.events
+    → marks ≡ new_marks (world_of old) (world_of new) → reports ≡ new_reports (world_of old) (world_of new) → text ≡ outcome_text outcome marks reports
     → text ≡ step_text (coding old.layout) (world_of old) step
-text_is old new line step outcome marks before text runs prints are count is =
-    let rest : take (length marks - before) (drop before marks) ≡ drop before marks =
-    take_all (length marks - before) (drop before marks) (omega (arith, length-drop before marks))
-    in
-    let made : drop before marks ≡ new_marks (world_of old) (world_of new) =
-    ap (λ n. drop n marks) count ∙ ap (λ (xs : List Mark). drop (length (world_of old).marks) xs) are
-    in
-    is ∙ ap (λ (xs : List Mark). outcome_text outcome xs) (rest ∙ made) ∙ prints
+text_is old new line step outcome marks reports text runs prints made told is =
+    is ∙ ap (λ (xs : List Mark). outcome_text outcome xs reports) made
+    ∙ ap (λ (xs : List (BrickId × Report)). outcome_text outcome (new_marks (world_of old) (world_of new)) xs) told ∙ prints
     ∙ ap (λ (l : Line). line_text (coding old.layout) (world_of old) l step.events) (sym runs.line_is)
 
 -- a step that a trail took is one that was run
@@ -179,7 +225,7 @@ runs_to layout old new before disks state line outcome same (events, comes, grow
             (disks_shown layout state new
             (stands_step (Shows layout state) layout old new (record { line = line; events = events }) before disks grown comes.shows));
       };
-      prints = ap (λ (v : World). outcome_text outcome (new_marks (world_of r) v))
+      prints = ap (λ (v : World). outcome_text outcome (new_marks (world_of r) v) (new_reports (world_of r) v))
           (ap (λ (steps : List Step). world_of (record { layout = layout; steps = steps; disks = disks })) grown
           ∙ world_of-with_step r (record { line = line; events = events }) disks) ∙ comes.prints;
     }

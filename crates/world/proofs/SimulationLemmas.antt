@@ -1,24 +1,26 @@
 -- What a state shows, line by line.
-use Rattle.std.proofs.Common.{◌≡◌, ℕ, ◌<◌, ◌≤◌, Bool, true, false, cond, nat_lt, ◌++◌, Option, Some, None, refl, sym, ap, ◌∙◌, subst, arith}
+use Rattle.std.proofs.Common.{◌≡◌, ℕ, ◌<◌, ◌≤◌, Bool, true, false, cond, nat_lt, List, ◌++◌, Option, Some, None, refl, sym, ap, ◌∙◌, subst, arith}
 use Rattle.std.specs.Prelude.{Result, Ok, Err, IfNone, OnErr}
 use Rattle.std.proofs.lemmas.Bool.Decides.{nat_tests}
 use Rattle.fab_base.specs.declared.asks.Ask.{Ask}
 use Rattle.fab_base.specs.declared.asks.Op.{Op}
 use Rattle.fab_base.specs.declared.identities.BrickId.{BrickId}
+use Rattle.fab_base.specs.declared.identities.GroupId.{GroupId}
 use Rattle.messages.specs.declared.packets.Packet.{Packet}
 use Rattle.stripe_code.specs.Codes.{coding}
 use Rattle.fab_base.specs.Layouts.{Layout}
-use Rattle.protocol.specs.Nodes.{Node, NodeStep, put, refusal_of, invoked, received, ticked, stopped}
-use Rattle.protocol.specs.Worlds.{World, Invokes, Delivers, Sets, Ticks, Stops, is_brick, is_up, packet_of, replies_with, world_began, world_stopped, happens}
+use Rattle.protocol.specs.Nodes.{Node, NodeStep, put, refusal_of, proposal_refusal, invoked, proposed, received, ticked, stopped}
+use Rattle.protocol.specs.Worlds.{World, Invokes, Proposes, Delivers, Sets, Ticks, Stops, is_brick, is_up, packet_of, world_began, world_stepped, world_stopped, happens}
 use Rattle.world.specs.Runs.{ask_of}
 use Rattle.world.specs.Shown.{Shows, ShowsBricks, Tells}
 use Rattle.world.specs.Texts.{marks_if, is_deliverable}
 use Rattle.world.specs.declared.simulations.Outcome.TheVariants.{Marks, Idle}
+use Rattle.world.specs.declared.bricks.Brick.{Brick}
 use Rattle.world.specs.declared.histories.History.{History}
 use Rattle.world.specs.declared.simulations.Simulation.{Simulation}
-use Rattle.world.proofs.MachineBegins.{happens_begun, happens_handled, happens_set, happens_ticked, happens_stopped}
+use Rattle.world.proofs.MachineBegins.{happens_begun, happens_proposed, happens_handled, happens_set, happens_ticked, happens_stopped}
 use Rattle.world.proofs.HistoryLemmas.{tells_other, heard_keeps}
-use Rattle.protocol.proofs.Events.{world_handled}
+use Rattle.protocol.proofs.Events.{world_counting, world_handled}
 
 -- what holds anyway holds where there is an error
 pub on_err_always : {T E P : Type 0} (r : Result T E) → P → OnErr r P
@@ -52,10 +54,21 @@ shows_still layout state w v same shows = subst (λ (x : World). Shows layout st
 
 -- which replies count is told by no history
 pub tells_replies : (layout : Layout) (history : History) (w : World) (number : ℕ) (packet : Packet)
-    → Tells history (record w { reached = put w.reached number true }) → Tells history (record w { replies = replies_with (coding layout) w packet; reached = put w.reached number true })
+    → Tells history (record w { reached = put w.reached number true }) → Tells history (world_counting (coding layout) w number packet)
 tells_replies layout history w number packet tells =
-    let v : World = record w { replies = replies_with (coding layout) w packet; reached = put w.reached number true } in
-    tells_other history (record w { reached = put w.reached number true }) v refl refl refl refl refl refl (λ i calls are. are) tells
+    tells_other history (record w { reached = put w.reached number true }) (world_counting (coding layout) w number packet) refl refl refl refl refl refl refl
+    (λ i calls are. are) tells
+
+-- what a step tells and answers changes no brick but its own
+bricks_stepped : (layout : Layout) (bricks : List Brick) (w : World) (brick : BrickId) (step : NodeStep)
+    → ShowsBricks layout bricks (put w.nodes brick.0 step.node) w.after w.up w.clocks
+    → (let next : World = world_stepped (coding layout) w brick step in ShowsBricks layout bricks next.nodes next.after next.up next.clocks)
+bricks_stepped layout bricks w brick step shows =
+    let next : World = world_stepped (coding layout) w brick step in
+    let keeps = heard_keeps (coding layout) w brick step in
+    subst (λ (f : ℕ → ℕ). ShowsBricks layout bricks next.nodes next.after next.up f) (sym keeps.clocks)
+    (subst (λ (f : ℕ → Bool). ShowsBricks layout bricks next.nodes next.after f w.clocks) (sym keeps.up)
+    (subst (λ (f : ℕ → Node). ShowsBricks layout bricks next.nodes f w.up w.clocks) (sym keeps.after) shows))
 
 -- a message that was handled
 pub shows_handled : (layout : Layout) (state : Simulation) (w : World) (number : ℕ) (packet : Packet) → packet_of w.packets number ≡ Some packet
@@ -66,18 +79,18 @@ pub shows_handled : (layout : Layout) (state : Simulation) (w : World) (number :
     → Shows layout state (happens (coding layout) w (Delivers number))
 shows_handled layout state w number packet sent up bricks history =
     let step : NodeStep = received (coding layout) packet.to (w.clocks packet.to.0) (w.nodes packet.to.0) packet in
-    let v : World = record w { replies = replies_with (coding layout) w packet; reached = put w.reached number true } in
     subst (λ (x : World). Shows layout state x) (sym (happens_handled (coding layout) w number packet sent up))
-    (record {
-      bricks = subst (λ (f : ℕ → ℕ). ShowsBricks layout state.bricks.items (world_handled (coding layout) w number packet).nodes
-          (world_handled (coding layout) w number packet).after (world_handled (coding layout) w number packet).up f)
-          (sym (heard_keeps (coding layout) v packet.to step).clocks)
-          (subst (λ (f : ℕ → Bool). ShowsBricks layout state.bricks.items (world_handled (coding layout) w number packet).nodes
-          (world_handled (coding layout) w number packet).after f w.clocks)
-          (sym (heard_keeps (coding layout) v packet.to step).up)
-          (subst (λ (f : ℕ → Node). ShowsBricks layout state.bricks.items (world_handled (coding layout) w number packet).nodes f w.up w.clocks)
-          (sym (heard_keeps (coding layout) v packet.to step).after)
-          bricks));
+    (record { bricks = bricks_stepped layout state.bricks.items (world_counting (coding layout) w number packet) packet.to step bricks; history = history })
+
+-- a brick that proposed, or reported that it may not
+pub shows_proposed : (layout : Layout) (state : Simulation) (w : World) (brick : BrickId) (group : GroupId) (members : List BrickId)
+    → is_up layout w brick ≡ true → proposal_refusal layout (w.nodes brick.0) group.0 ≡ None
+    → (let step : NodeStep = proposed (coding layout) brick (w.nodes brick.0) group members in
+    ShowsBricks layout state.bricks.items (put w.nodes brick.0 step.node) w.after w.up w.clocks
+    → Tells state.history (world_stepped (coding layout) w brick step) → Shows layout state (happens (coding layout) w (Proposes brick group members)))
+shows_proposed layout state w brick group members up none bricks history =
+    subst (λ (x : World). Shows layout state x) (sym (happens_proposed (coding layout) w brick group members up none)) (record {
+      bricks = bricks_stepped layout state.bricks.items w brick (proposed (coding layout) brick (w.nodes brick.0) group members) bricks;
       history = history;
     })
 
@@ -90,7 +103,7 @@ shows_set layout old new w brick time within bricks same shows =
     (record {
       bricks = bricks;
       history = subst (λ (h : History). Tells h (record w { clocks = put w.clocks brick.0 time })) (sym same)
-          (tells_other old.history w (record w { clocks = put w.clocks brick.0 time }) refl refl refl refl refl refl (λ i calls are. are)
+          (tells_other old.history w (record w { clocks = put w.clocks brick.0 time }) refl refl refl refl refl refl refl (λ i calls are. are)
           shows.history);
     })
 

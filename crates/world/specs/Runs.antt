@@ -1,6 +1,7 @@
 -- A run: the steps of a schedule, one after another, over the disk of a layout.
-use Rattle.std.specs.Prelude.{ℕ, nat_lt, if◌then◌else◌, List, [], ◌∷◌, ◌++◌, Option, Some, None}
+use Rattle.std.specs.Prelude.{ℕ, nat_lt, if◌then◌else◌, List, [], ◌∷◌, ◌++◌, map, Option, Some, None}
 use Rattle.fab_base.specs.declared.identities.BrickId.{BrickId}
+use Rattle.fab_base.specs.declared.identities.GroupId.{GroupId}
 use Rattle.fab_base.specs.declared.asks.Ask.{Ask}
 use Rattle.fab_base.specs.declared.asks.Op.{Op}
 use Rattle.fab_base.specs.declared.asks.Op.TheVariants as op
@@ -10,11 +11,11 @@ use Rattle.fab_disk.specs.declared.mem_disk.MemDisk.{MemDisk}
 use Rattle.lines.specs.declared.forms.Access.{Access}
 use Rattle.lines.specs.declared.forms.Access.TheVariants.{ReadBlock, WriteBlock, ReadStripe, WriteStripe}
 use Rattle.lines.specs.declared.forms.Line.{Line}
-use Rattle.lines.specs.declared.forms.Line.TheVariants.{Nothing, Invoke, Deliver, SetClock, Tick, Crash, Start, Calm}
+use Rattle.lines.specs.declared.forms.Line.TheVariants.{Nothing, Invoke, Deliver, SetClock, Tick, Crash, Start, Propose, Calm}
 use Rattle.fab_base.specs.Layouts.{Layout}
 use Rattle.protocol.specs.Settings.{Setting}
-use Rattle.protocol.specs.Nodes.{refusal_of}
-use Rattle.protocol.specs.Worlds.{World, Event, Invokes, Delivers, Sets, Ticks, Stops, Starts, Before, first_world, is_up, run}
+use Rattle.protocol.specs.Nodes.{refusal_of, proposal_refusal}
+use Rattle.protocol.specs.Worlds.{World, Event, Invokes, Proposes, Delivers, Sets, Ticks, Stops, Starts, Before, first_world, is_up, run}
 use Rattle.stripe_code.specs.Codes.{coding}
 
 -- a line of a schedule that was run, and the events of the machine that it was
@@ -47,6 +48,14 @@ op_of (WriteBlock j bytes) = op.WriteBlock (block_no j) bytes
 op_of ReadStripe = op.ReadStripe
 op_of (WriteStripe bytes) = op.WriteStripe bytes
 
+-- the group of a number
+abbrev pub group_no : ℕ → GroupId
+group_no g = record { 0 = g }
+
+-- a member that a line names, as a brick is asked to propose it: every number past 65535 is as far past the last brick of a layout as that is
+abbrev pub member_no : ℕ → BrickId
+member_no number = brick_of (if nat_lt number 65536 then number else 65535)
+
 -- The events of a line of which no disk decides: a brick stops during no handling, and one that is not down does not start. An operation that is
 -- to run alone does not.
 abbrev pub events_of : Line → List Event
@@ -57,6 +66,7 @@ events_of (SetClock b v) = Sets (brick_of b) v ∷ []
 events_of (Tick b) = Ticks (brick_of b) ∷ []
 events_of (Crash b) = Stops (brick_of b) None ∷ []
 events_of (Start b fault) = Starts (brick_of b) 1 Before ∷ []
+events_of (Propose b g members) = Proposes (brick_of b) (group_no g) (map member_no members) ∷ []
 events_of (Calm n bricks) = []
 
 -- the events of steps, in order
@@ -72,3 +82,8 @@ world_of r = run (coding r.layout) (all_events r.steps) (first_world r.layout)
 abbrev pub refusal_at : Setting → World → BrickId → Ask → Option Refusal
 refusal_at setting w brick ask =
     if is_up setting.layout w brick then refusal_of setting.layout (w.nodes brick.0) ask else Some Down
+
+-- why a brick does not begin a proposal, where it does not: it is not up, or it refuses
+abbrev pub proposal_refusal_at : Setting → World → BrickId → GroupId → Option Refusal
+proposal_refusal_at setting w brick group =
+    if is_up setting.layout w brick then proposal_refusal setting.layout (w.nodes brick.0) group.0 else Some Down

@@ -1,5 +1,5 @@
 -- What a world keeps, and the machine's world that it shows.
-use Rattle.std.specs.Prelude.{◌≡◌, ◌⊎◌, ℕ, zero, suc, ◌+◌, ◌<◌, ◌≤◌, ◌&&◌, Bool, true, false, not, nat_eq, if◌then◌else◌, List, [], ◌∷◌, length, map, set, Option, Some, None, is_some, Result, Ok, Err, option_and_then, unwrap_or, get_or, slice_get, vec_len, vec_capacity}
+use Rattle.std.specs.Prelude.{◌≡◌, ◌⊎◌, ℕ, zero, suc, ◌+◌, ◌<◌, ◌≤◌, ◌&&◌, Bool, true, false, not, nat_eq, if◌then◌else◌, List, [], ◌∷◌, ◌++◌, length, map, set, Option, Some, None, is_some, Result, Ok, Err, option_and_then, unwrap_or, get_or, slice_get, vec_len, vec_capacity}
 use Rattle.std.specs.Bool.{Decides}
 use Rattle.std.specs.declared.cmp.Ordering.{Ordering}
 use Rattle.std.specs.Ordering.{nat_cmp, ordering_then}
@@ -8,6 +8,7 @@ use Rattle.std.specs.Option.{option_map}
 use Rattle.fab_base.specs.declared.asks.Ask.{Ask}
 use Rattle.fab_base.specs.declared.faults.NoMem.{NoMem}
 use Rattle.fab_base.specs.declared.identities.BrickId.{BrickId}
+use Rattle.fab_base.specs.declared.identities.GroupId.{GroupId}
 use Rattle.fab_base.specs.declared.stamps.Stamp.{Stamp}
 use Rattle.fab_disk.specs.MemDisk.{IsSound, content_of}
 use Rattle.fab_disk.specs.declared.mem_disk.MemDisk.{MemDisk}
@@ -23,6 +24,7 @@ use Rattle.fab_base.specs.Layouts.{Layout}
 use Rattle.protocol.specs.Coordinators.{Coordinator}
 use Rattle.protocol.specs.Nodes as machine
 use Rattle.protocol.specs.declared.tellings.Answered.{Answered}
+use Rattle.protocol.specs.declared.tellings.Report.{Report}
 use Rattle.protocol.specs.declared.tellings.Told.{Told}
 use Rattle.protocol.specs.declared.tellings.Told.TheVariants as told
 use Rattle.protocol.specs.Worlds.{World, Operation, is_up, number_of, first_world, happens, run}
@@ -41,9 +43,9 @@ use Rattle.messages.specs.declared.packets.Packet.{Packet}
 use Rattle.coord_phase.specs.Messages.{packets_from}
 use Rattle.node.specs.Outcomes.{Outcome as Sent}
 use Rattle.stripe_code.specs.Codes.{coding}
-use Rattle.protocol.specs.Calms.{IsCalm, IsEarly, RunsAlone, early, open_call}
-use Rattle.world.specs.Calms.{BeginsCalm, BeginsAlone}
-use Rattle.world.specs.Texts.{outcome_of, outcome_text, new_marks, marks_text, line_text, text_of}
+use Rattle.protocol.specs.Calms.{IsEarly, RunsAlone, early, open_call}
+use Rattle.world.specs.Calms.{MayRunAlone, BeginsCalm, BeginsAlone}
+use Rattle.world.specs.Texts.{outcome_of, outcome_text, new_marks, new_reports, marks_text, line_text, text_of}
 use Rattle.world.specs.declared.simulations.Outcome.{Outcome}
 use Rattle.world.specs.declared.simulations.Outcome.TheVariants.{Marks, Idle}
 use Rattle.world.specs.declared.histories.History.{History}
@@ -70,6 +72,7 @@ pub record TellsOperation (kept : OperationRecord) (o : Operation) : Type 0 wher
   pub base : kept.base ≡ o.base
   pub writes : kept.writes ≡ writes o.ask.op
   pub answered : kept.answered ≡ o.answered
+  pub view : kept.view.0 ≡ o.view
 
 -- what is kept of the operations, from the first, is the machine's
 abbrev pub TellsOperations : List OperationRecord → (ℕ → Option Operation) → Type 0
@@ -197,6 +200,7 @@ pub record TookWhole (layout : Layout) (me : BrickId) (state : machine.Node) (ti
   pub packets : packets_from me outs.messages ≡ (machine.received (coding layout) me time state packet).packets
   pub told : outs.told ≡ (machine.received (coding layout) me time state packet).told
   pub answers : outs.answers ≡ (machine.received (coding layout) me time state packet).answers
+  pub reports : outs.reports ≡ (machine.received (coding layout) me time state packet).reports
   pub on : (after : machine.Node) → ShowsPower layout me (machine.received (coding layout) me time state packet).node after true power
   pub spared : IsReached layout me state packet disk (plan_of fault) → ⊥
   pub still : ((listed : ℕ) → packet_calls layout me state packet listed ≡ 0) → IsUnwritten disk (disk_in power)
@@ -253,6 +257,7 @@ pub record HandledWhole (layout : Layout) (w : World) (number : BrickId) (packet
   pub packets : packets_from number outs.messages ≡ (machine.received (coding layout) number (w.clocks number.0) (w.nodes number.0) packet).packets
   pub told : outs.told ≡ (machine.received (coding layout) number (w.clocks number.0) (w.nodes number.0) packet).told
   pub answers : outs.answers ≡ (machine.received (coding layout) number (w.clocks number.0) (w.nodes number.0) packet).answers
+  pub reports : outs.reports ≡ (machine.received (coding layout) number (w.clocks number.0) (w.nodes number.0) packet).reports
   pub bricks : ShowsBricks layout new
       (machine.put w.nodes number.0 (machine.received (coding layout) number (w.clocks number.0) (w.nodes number.0) packet).node) w.after w.up w.clocks
   pub spared : (disk : MemDisk) → slice_get (disks_of old) number.0 ≡ Some disk
@@ -293,17 +298,36 @@ BeginsBrick old new number ask begun = (layout : Layout) (w : World) → ShowsBr
     (packets_from number begun.messages.items ≡ step.packets) × (begun.seq ≡ step.node.seq)
     × ShowsBricks layout new (machine.put w.nodes number.0 step.node) w.after w.up w.clocks)
 
+-- a brick was asked to propose, and refused it or not as the machine's does
+abbrev pub RefusesProposal : List Brick → BrickId → GroupId → Result Sent NodeFault → Type 0
+RefusesProposal old number group result = (layout : Layout) (w : World) → ShowsBricks layout old w.nodes w.after w.up w.clocks
+    → RefusesAs result (machine.proposal_refusal layout (w.nodes number.0) group.0)
+
+-- The bricks after one proposed as the machine's does: what it sends, tells, answers and reports is the machine's.
+pub record ProposedAs (layout : Layout) (w : World) (number : BrickId) (step : machine.NodeStep) (new : List Brick) (outs : Sent) : Type 0 where
+  pub packets : packets_from number outs.messages ≡ step.packets
+  pub told : outs.told ≡ step.told
+  pub answers : outs.answers ≡ step.answers
+  pub reports : outs.reports ≡ step.reports
+  pub bricks : ShowsBricks layout new (machine.put w.nodes number.0 step.node) w.after w.up w.clocks
+
+-- so it did in each world that the bricks show
+abbrev pub ProposesBrick : List Brick → List Brick → BrickId → GroupId → List BrickId → Sent → Type 0
+ProposesBrick old new number group members outs = (layout : Layout) (w : World) → ShowsBricks layout old w.nodes w.after w.up w.clocks
+    → ProposedAs layout w number (machine.proposed (coding layout) number (w.nodes number.0) group members) new outs
+
 -- the bricks show what they showed
 abbrev pub BricksStay : Layout → List Brick → List Brick → Type 0
 BricksStay layout old new = (w : World) → ShowsBricks layout old w.nodes w.after w.up w.clocks
     → ShowsBricks layout new w.nodes w.after w.up w.clocks
 
--- The history tells the machine's world: every message, and which were delivered, every mark, each operation, whose marks have its number, and
--- the operations of the calls so far of each brick that is up.
+-- The history tells the machine's world: every message, and which were delivered, every mark, every report, each operation, whose marks have its
+-- number, and the operations of the calls so far of each brick that is up.
 pub record Tells (history : History) (w : World) : Type 0 where
   pub packets : history.sent.packets.items ≡ w.packets
   pub reached : (k : ℕ) → get_or history.delivered.reached.items k false ≡ w.reached (k + 1)
   pub marks : history.marks.items ≡ w.marks
+  pub reports : history.reports.items ≡ w.choices.reports
   pub begun : length history.operations.items ≡ w.begun
   pub own : OwnMarks w
   pub operations : TellsOperations history.operations.items w.operations
@@ -314,10 +338,15 @@ pub record Shows (layout : Layout) (state : Simulation) (w : World) : Type 0 whe
   pub bricks : ShowsBricks layout state.bricks.items w.nodes w.after w.up w.clocks
   pub history : Tells state.history w
 
+-- how many messages a step of a brick sends at most, on a message or as an operation or a proposal begins: one to each brick of a layout
+abbrev pub most_sent : ℕ
+most_sent = 64
+
 -- there is room for what one step of a brick adds
 pub record HasStepRoom (history : History) : Type 0 where
-  pub sent : vec_len history.sent.packets + 32 ≤ vec_capacity history.sent.packets
+  pub sent : vec_len history.sent.packets + most_sent ≤ vec_capacity history.sent.packets
   pub marks : vec_len history.marks < vec_capacity history.marks
+  pub reports : vec_len history.reports < vec_capacity history.reports
   pub operations : vec_len history.operations < vec_capacity history.operations
 
 -- a schedule of events reaches the world
@@ -351,6 +380,25 @@ pub record OpensNone (node : machine.Node) (step : machine.NodeStep) : Type 0 wh
   pub told : AreTold node step.told
   pub answers : AreAnswered node step.answers
 
+-- how many calls a brick uses up as it is asked to propose: none where it reports at once that it begins no proposal
+abbrev pub calls_used : List Report → ℕ
+calls_used [] = 1
+calls_used (report ∷ reports) = 0
+
+-- the numbers of the operations of each brick's calls, once a brick was asked to propose and reported this at once, or nothing: a call of no operation
+-- is one more
+abbrev pub calls_aside : (ℕ → List ℕ) → ℕ → Option Report → ℕ → List ℕ
+calls_aside calls i None = machine.put calls i (calls i ++ 0 ∷ [])
+calls_aside calls i (Some report) = calls
+
+-- The step begins a proposal under the next call, which is that of no operation, or it reports that it begins none.
+pub record OpensAside (w : World) (brick : BrickId) (step : machine.NodeStep) : Type 0 where
+  pub boot : step.node.boot ≡ (w.nodes brick.0).boot
+  pub told : step.told ≡ []
+  pub answers : step.answers ≡ []
+  pub seq : step.node.seq ≡ (w.nodes brick.0).seq + calls_used step.reports
+  pub unnumbered : number_of w brick.0 ((w.nodes brick.0).seq + 1) ≡ 0
+
 -- the step opens the next call
 pub record OpensNext (node : machine.Node) (step : machine.NodeStep) : Type 0 where
   pub boot : step.node.boot ≡ node.boot
@@ -367,6 +415,10 @@ HistoryBecomes next old new = (w : World) → Tells old w → Tells new (next w)
 -- so it does where the brick is up in that world, and this holds of its state
 abbrev pub HistoryNotes : BrickId → (machine.Node → Type 0) → (World → World) → History → History → Type 0
 HistoryNotes brick Holds next old new = (w : World) → Tells old w → w.up brick.0 ≡ true → Holds (w.nodes brick.0) → Tells new (next w)
+
+-- so it does where the brick is up in that world, and its step opens there no call but one of no operation
+abbrev pub HistoryNotesAside : BrickId → machine.NodeStep → (World → World) → History → History → Type 0
+HistoryNotesAside brick step next old new = (w : World) → Tells old w → w.up brick.0 ≡ true → OpensAside w brick step → Tells new (next w)
 
 -- what events that are none or one come to
 abbrev pub came_to : Setting → World → List Event → Outcome
@@ -394,7 +446,8 @@ pub record ComesTo (layout : Layout) (w : World) (disks : List MemDisk) (state :
     (events : List Event) : Type 0 where
   pub are : IsEventsOf layout w disks (disks_of state.bricks.items) line events
   pub shows : Shows layout state (run (coding layout) events w)
-  pub prints : outcome_text outcome (new_marks w (run (coding layout) events w)) ≡ line_text (coding layout) w line events
+  pub prints : (let next : World = run (coding layout) events w in outcome_text outcome (new_marks w next) (new_reports w next))
+      ≡ line_text (coding layout) w line events
   pub kept : KeepsDisks (coding layout) w events disks (disks_of state.bricks.items)
 
 -- the events are the first of a line's: it is one that has an operation run alone, and was not run to its end
@@ -441,7 +494,7 @@ RefusesLine layout old new line = (w : World) → IsReachedBy layout w → Shows
 
 -- An event took one state to another, and came to this outcome. It makes no call of a disk.
 pub record TakesEvent (layout : Layout) (old new : Simulation) (event : Event) (outcome : Outcome) : Type 0 where
-  pub shows : (w : World) → Shows layout old w → Shows layout new (happens (coding layout) w event)
+  pub shows : (w : World) → IsReachedBy layout w → Shows layout old w → Shows layout new (happens (coding layout) w event)
   pub outcome_is : (w : World) → Shows layout old w → outcome ≡ outcome_of (coding layout) w event
   pub disks : disks_of new.bricks.items ≡ disks_of old.bricks.items
 
@@ -454,10 +507,16 @@ pub record StaysAs (layout : Layout) (old new : Simulation) : Type 0 where
 abbrev pub clock_at : List Brick → ℕ → ℕ
 clock_at bricks number = unwrap_or (option_map (λ brick. brick.clock) (slice_get bricks number)) 0
 
--- a brick runs that has room for two records more, and its times are early
-abbrev pub NodeIsAble : Layout → Option (Running MemDisk) → Type 0
-NodeIsAble layout None = ⊥
-NodeIsAble layout (Some node) = ((state_of node).live + 2 ≤ layout.records) × IsEarly (state_of node)
+-- a brick serves view 1 of a group: it has learnt no later one, and has accepted no list to follow it
+pub record ServesFirst (node : machine.Node) (group : ℕ) : Type 0 where
+  pub view : machine.view_at node group ≡ 1
+  pub serves : machine.has_accepted node group ≡ false
+
+-- a brick runs that serves view 1 of a group, has room for two records more, and its times are early
+abbrev pub NodeIsAble : Layout → ℕ → Option (Running MemDisk) → Type 0
+NodeIsAble layout group None = ⊥
+NodeIsAble layout group (Some node) =
+    ServesFirst (state_of node) group × ((state_of node).live + 2 ≤ layout.records) × IsEarly (state_of node)
 
 -- a brick runs whose clock reads this, and that and its times are early
 abbrev pub NodeIsInTime : ℕ → Option (Running MemDisk) → Type 0
@@ -477,9 +536,10 @@ if_open bricks (Some kept) = if node_has_open kept (running_at bricks kept.brick
 abbrev pub open_record : Simulation → ℕ → Option OperationRecord
 open_record state n = if_open state.bricks.items (record_at state.history.operations.items n)
 
--- the brick of a number is up, has room for two records more, and its times are early
-pub record IsAble (layout : Layout) (w : World) (number : ℕ) : Type 0 where
+-- the brick of a number is up, serves view 1 of a group, has room for two records more, and its times are early
+pub record IsAble (layout : Layout) (w : World) (group number : ℕ) : Type 0 where
   pub up : is_up layout w (brick_of number) ≡ true
+  pub first : ServesFirst (w.nodes number) group
   pub room : (w.nodes number).live + 2 ≤ layout.records
   pub times : IsEarly (w.nodes number)
 
@@ -505,6 +565,7 @@ pub record HasRun (layout : Layout) (w : World) (n : ℕ) (bricks : List BrickId
   pub some_is : some ≡ not (is_empty events)
   pub last : World
   pub prints : text_of (coding layout) w events ≡ marks_text (new_marks w last)
+  pub reports : last.choices.reports ≡ w.choices.reports
   pub runs : RunsAlone (coding layout) n bricks w events last
   pub shows : Shows layout state last
   pub kept : KeepsDisks (coding layout) w events disks (disks_of state.bricks.items)
@@ -520,13 +581,13 @@ pub record HasBegun (layout : Layout) (w : World) (n : ℕ) (bricks : List Brick
 -- it is said whether an operation may run alone among these bricks, in the world that the state shows
 abbrev pub DecidesCalm : Layout → Simulation → ℕ → List ℕ → Bool → Type 0
 DecidesCalm layout state n bricks may =
-    (w : World) → IsReachedBy layout w → Shows layout state w → Decides may (IsCalm (coding layout) w n (map brick_of bricks))
+    (w : World) → IsReachedBy layout w → Shows layout state w → Decides may (MayRunAlone (coding layout) w n (map brick_of bricks))
 
 -- one that may did, from one state to another; or it began to
 abbrev pub RunsAloneTo : Layout → Simulation → Simulation → ℕ → List ℕ → Bool → Type 0
-RunsAloneTo layout old new n bricks some = (w : World) → IsReachedBy layout w → Shows layout old w → IsCalm (coding layout) w n (map brick_of bricks)
+RunsAloneTo layout old new n bricks some = (w : World) → IsReachedBy layout w → Shows layout old w → MayRunAlone (coding layout) w n (map brick_of bricks)
     → HasRun layout w n (map brick_of bricks) (disks_of old.bricks.items) new some
 
 abbrev pub BeginsAloneTo : Layout → Simulation → Simulation → ℕ → List ℕ → Type 0
-BeginsAloneTo layout old new n bricks = (w : World) → IsReachedBy layout w → Shows layout old w → IsCalm (coding layout) w n (map brick_of bricks)
+BeginsAloneTo layout old new n bricks = (w : World) → IsReachedBy layout w → Shows layout old w → MayRunAlone (coding layout) w n (map brick_of bricks)
     → HasBegun layout w n (map brick_of bricks) (disks_of old.bricks.items) new

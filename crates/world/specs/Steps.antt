@@ -1,5 +1,9 @@
 -- What a step of a run comes to.
-use Rattle.std.specs.Prelude.{◌≡◌, ℕ, ◌⊎◌, List, [], ◌∷◌, ◌++◌, map, Option, Some, Result, Ok, Err}
+use Rattle.std.specs.Prelude.{◌≡◌, ℕ, ◌⊎◌, ◌&&◌, if◌then◌else◌, List, [], ◌∷◌, ◌++◌, map, Option, Some, None, is_some, Result, Ok, Err}
+use Rattle.fab_base.specs.declared.answers.Refusal.{Refusal}
+use Rattle.fab_base.specs.declared.answers.Refusal.TheVariants.{Down, NoStripe, Busy}
+use Rattle.fab_base.specs.declared.member_lists.View.{View}
+use Rattle.fab_base.specs.Layouts.{group_of}
 use Rattle.messages.specs.declared.requests.Version.{Version}
 use Rattle.fab_disk.specs.MemDisk.{content_of}
 use Rattle.fab_disk.specs.declared.mem_disk.MemDisk.{MemDisk}
@@ -7,11 +11,13 @@ use Rattle.lines.specs.Grammar.{line_of}
 use Rattle.lines.specs.declared.forms.Line.{Line}
 use Rattle.stripe_code.specs.Codes.{coding}
 use Rattle.calm_laws.specs.Logs.{log_in}
+use Rattle.protocol.specs.Nodes.{Node}
+use Rattle.protocol.specs.Worlds.{is_up}
 use Rattle.world.specs.Runs.{Run, Step, world_of, brick_of}
 use Rattle.world.specs.Faults.{IsEventsOf}
 use Rattle.world.specs.Disks.{ShowsDisks, KeepsDisks, LeavesContents}
 use Rattle.world.specs.Shown.{IsBegunBy}
-use Rattle.world.specs.Texts.{outcome_text, new_marks, line_text, step_text}
+use Rattle.world.specs.Texts.{outcome_text, new_marks, new_reports, line_text, step_text}
 use Rattle.world.specs.declared.simulations.Outcome.{Outcome}
 use Rattle.world.specs.declared.worlds.StepFault.{StepFault}
 use Rattle.world.specs.declared.worlds.StepFault.TheVariants.{BadLine, NoMemory}
@@ -29,11 +35,12 @@ pub record Runs (old new : Run) (line : Line) (step : Step) : Type 0 where
   pub disks : KeepsDisks (coding old.layout) (world_of old) step.events old.disks new.disks
   pub shows : ShowsDisks new
 
--- a step of this line was run, and what it came to, with the marks that were made, is printed so
+-- a step of this line was run, and what it came to, with the marks that were made and what was reported, is printed so
 pub record RunsTo (old new : Run) (line : Line) (outcome : Outcome) : Type 0 where
   pub step : Step
   pub runs : Runs old new line step
-  pub prints : outcome_text outcome (new_marks (world_of old) (world_of new)) ≡ line_text (coding old.layout) (world_of old) line step.events
+  pub prints : outcome_text outcome (new_marks (world_of old) (world_of new)) (new_reports (world_of old) (world_of new))
+      ≡ line_text (coding old.layout) (world_of old) line step.events
 
 -- the line that the content says was run, and the text is what it prints
 pub record Ran (old new : Run) (content text : List ℕ) : Type 0 where
@@ -72,3 +79,18 @@ Stands old new content (Err NoMemory) =
 -- the log of a brick's part of a stripe in the view that it has learnt, where there is such a brick, it is up, and there is such a stripe
 abbrev pub log_at : Run → ℕ → ℕ → ℕ → Option (List Version)
 log_at r b g s = log_in r.layout (world_of r) (brick_of b) g s
+
+-- the view of a group that a brick has learnt, where there is such a group, and such a brick that is up
+abbrev pub learnt_at : Run → ℕ → ℕ → Option View
+learnt_at r b g =
+    if is_some (group_of r.layout g) && is_up r.layout (world_of r) (brick_of b) then Some (((world_of r).nodes b).learnt g).view else None
+
+-- the same, of a brick that has no proposal
+abbrev pub proposer_in : Node → ℕ → Result View Refusal
+proposer_in node g = if is_some node.proposal then Err Busy else Ok (node.learnt g).view
+
+-- The view that a brick would propose the next of, or why it is not asked for that: it is not up, there is no such group, or it has a proposal.
+abbrev pub proposer_at : Run → ℕ → ℕ → Result View Refusal
+proposer_at r b g =
+    if is_up r.layout (world_of r) (brick_of b)
+    then (if is_some (group_of r.layout g) then proposer_in ((world_of r).nodes b) g else Err NoStripe) else Err Down

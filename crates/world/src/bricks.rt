@@ -1,8 +1,9 @@
 //! The bricks of a world: each is a disk in memory, and the brick that runs over it while it is up.
 
 ghost use Rattle.std.specs.Prelude.{◌≡◌, ◌≢◌, ◌+◌, ◌^◌, ◌<◌, ◌≤◌, true, false, List, Some, Err, IfOk, IfSome, OnErr, vec_len, length, map};
+ghost use Rattle.fab_base.specs.Layouts.{group_of};
 ghost use Rattle.protocol.specs.Nodes as machine;
-ghost use Rattle.protocol.specs.Nodes.{ticked};
+ghost use Rattle.protocol.specs.Nodes.{ticked, view_at};
 ghost use Rattle.protocol.specs.Worlds.{first_world};
 ghost use Rattle.stripe_code.specs.Codes.{coding};
 ghost use Rattle.coord_phase.specs.Messages.{packets_from};
@@ -11,10 +12,10 @@ ghost use Rattle.brick_store.specs.Images.{IsListed};
 ghost use Rattle.node.specs.Running.{shape_at, state_of};
 ghost use Rattle.world.specs.Faults.{LeftBy, plan_of};
 ghost use Rattle.world.specs.Disks.{ShowsDisk, AreFreshDisks, KeepsOthers};
-ghost use Rattle.world.specs.Shown.{Rests, IsRunning, IsFreshBrick, ShowsBricks, Takes, TurnsOn, FindsUp, IsUp, AreNodesOf, HandsOver, RefusesBrick, BeginsBrick, BricksStay, StopsBrick, StartsBrick, disk_in, disks_of, running_at, unopened};
+ghost use Rattle.world.specs.Shown.{Rests, IsRunning, IsFreshBrick, ShowsBricks, Takes, TurnsOn, FindsUp, IsUp, AreNodesOf, HandsOver, RefusesBrick, BeginsBrick, RefusesProposal, ProposesBrick, BricksStay, StopsBrick, StartsBrick, most_sent, disk_in, disks_of, running_at, unopened};
 
 use brick_store::OpenFault;
-use fab_base::{Ask, BrickId, IoFault, NoMem};
+use fab_base::{Ask, BrickId, GroupId, IoFault, NoMem, ViewNo};
 use fab_disk::{Armed, MemDisk, Plan};
 use layout::Layout;
 use lines::Fault;
@@ -83,7 +84,7 @@ fn take_message(
     requires { node.brick.halted ≡ false }
     ensures takes { (layout : _) (me : _) (state : machine.Node) → IsRunning layout me state node
         → Takes layout me state time packet.now node.brick.disk fault result.0 result.1 }
-    ensures few { IfOk result.1 (λ outs. IfSome outs (λ sent. length sent.messages ≤ 32)) }
+    ensures few { IfOk result.1 (λ outs. IfSome outs (λ sent. length sent.messages ≤ most_sent)) }
     ensures content { OnErr result.1 (content_of (disk_in result.0) ≡ content_of node.brick.disk) }
 {
     let mut node = node;
@@ -263,6 +264,44 @@ pub fn ask_brick(bricks: &mut Vec<Brick>, number: BrickId, ask: &Ask) -> Result<
     }
 }
 
+/// The number of the view of a group of the layout that a brick which is up has learnt.
+pub fn view_of(bricks: &[Brick], number: BrickId, group: GroupId) -> ViewNo
+    requires { IsUp bricks.now number }
+    ensures { IfSome (running_at bricks.now number.0) (λ node. (kept : _) → group_of node.layout group.0 ≡ Some kept
+        → result.0 ≡ view_at (state_of node) group.0) }
+{
+    match &bricks[number.0 as usize].power {
+        Power::Up(node) => match node.learnt(group) {
+            Some(view) => view.number,
+            None => ViewNo(1),
+        },
+        Power::Down(_) => unreachable!(),
+    }
+}
+
+/// A brick that is up is asked to propose the members of the next view of a group. After a refusal of any kind no brick has changed.
+pub fn ask_to_propose(
+    bricks: &mut Vec<Brick>,
+    number: BrickId,
+    group: GroupId,
+    members: &[BrickId],
+) -> Result<Outs, NodeFault>
+    requires { IsUp bricks.old.items number }
+    ensures refused { RefusesProposal bricks.old.items number group result }
+    ensures proposed { IfOk result (ProposesBrick bricks.old.items bricks.new.items number group members.now) }
+    ensures few { IfOk result (λ outs. length outs.messages ≤ most_sent) }
+    ensures err { OnErr result ((layout : _) → BricksStay layout bricks.old.items bricks.new.items) }
+    ensures disks { disks_of bricks.new.items ≡ disks_of bricks.old.items }
+    ensures not_halted { result ≢ Err NodeFault.Halted }
+    ensures not_disk { result ≢ Err NodeFault.Disk }
+{
+    let brick = &mut bricks[number.0 as usize];
+    match &mut brick.power {
+        Power::Up(node) => node.propose(group, members),
+        Power::Down(_) => unreachable!(),
+    }
+}
+
 /// A brick that is up is handed a message, and this is to befall a call of its disk in the midst of that. None where it did: the brick is down.
 /// After a refusal for want of memory no brick has changed.
 pub fn hand_over(
@@ -274,7 +313,7 @@ pub fn hand_over(
 ) -> Result<Option<Outs>, NoMem>
     requires { IsUp bricks.old.items number }
     ensures handled { HandsOver bricks.old.items bricks.new.items number packet.now fault result }
-    ensures few { IfOk result (λ outs. IfSome outs (λ sent. length sent.messages ≤ 32)) }
+    ensures few { IfOk result (λ outs. IfSome outs (λ sent. length sent.messages ≤ most_sent)) }
     ensures others { KeepsOthers (Some number) (disks_of bricks.old.items) (disks_of bricks.new.items) }
     ensures contents { OnErr result (map content_of (disks_of bricks.new.items) ≡ map content_of (disks_of bricks.old.items)) }
 {

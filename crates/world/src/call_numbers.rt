@@ -5,8 +5,8 @@ ghost use Rattle.std.specs.Prelude.{◌≡◌};
 use fab_base::{BrickId, NoMem};
 use std::alloc::Global;
 
-/// For each brick that is up, by number, the operations of its calls since it started: the number of each, in the order of the calls. A brick
-/// past the end has made no call.
+/// For each brick that is up, by number, the operations of its calls since it started: the number of each, in the order of the calls, and 0 of a call
+/// of no operation. A brick past the end has made no call.
 #[derive(Drop)]
 pub struct CallNumbers {
     pub rows: Vec<Vec<u64>>,
@@ -40,7 +40,7 @@ impl CallNumbers {
         Ok(())
     }
 
-    /// A brick's next call is of the operation of this number. There is room for it.
+    /// A brick's next call is of the operation of this number, or of none if it is 0. There is room for it.
     pub fn add(&mut self, brick: BrickId, number: u64)
         requires { HasCallRoom self.old brick.0 }
         ensures { (i : ℕ) → calls_in self.new i ≡ put (calls_in self.old) brick.0 (calls_in self.old brick.0 ++ number ∷ []) i }
@@ -60,7 +60,7 @@ impl CallNumbers {
         }
     }
 
-    /// The number of the operation of a brick's call. None where there is no such call.
+    /// The number of the operation of a brick's call, 0 if it is of none. None where there is no such call.
     pub fn number(&self, brick: BrickId, seq: u64) -> Option<u64>
         ensures { result ≡ call_at (calls_in self.now brick.0) seq }
     {

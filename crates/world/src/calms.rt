@@ -1,19 +1,19 @@
 //! Whether an operation may run alone among some bricks.
 
-ghost use Rattle.std.specs.Prelude.{◌≡◌, ◌&&◌, ℕ, map, nat_lt, nat_le, nat_eq, length, filter, is_some, slice_get, Some};
+ghost use Rattle.std.specs.Prelude.{◌≡◌, ◌&&◌, ◌+◌, ◌<◌, ◌≤◌, ℕ, map, nat_lt, nat_le, nat_eq, length, filter, is_some, slice_get, Some};
 ghost use Rattle.std.specs.List.{IsDistinct, list_any};
 ghost use Rattle.std.specs.Bool.{Decides};
 ghost use Rattle.std.specs.Option.{option_copied};
 ghost use Rattle.quorum.specs.Quorums.{quorum_of};
-ghost use Rattle.fab_base.specs.Layouts.{seat_in};
+ghost use Rattle.fab_base.specs.Layouts.{most_groups, seat_in};
 ghost use Rattle.protocol.specs.Calms.{IsEarly};
 ghost use Rattle.node.specs.Running.{state_of};
-ghost use Rattle.world.specs.Shown.{NodeIsAble, NodeIsInTime, running_at, clock_at};
+ghost use Rattle.world.specs.Shown.{NodeIsAble, NodeIsInTime, ServesFirst, running_at, clock_at};
 
 use crate::bricks::{Brick, Power};
 use crate::histories::{OperationRecord, record_at};
 use crate::simulations::Simulation;
-use fab_base::BrickId;
+use fab_base::{BrickId, GroupId};
 use fab_disk::MemDisk;
 use layout::{Group, Layout};
 use node::Node;
@@ -45,25 +45,44 @@ fn is_early(node: &Node<MemDisk>) -> bool
     node.known_time().max(store.top_time()) < LATE
 }
 
-/// Whether a brick is up, has room for two records more, and its times are early.
-fn is_able(bricks: &[Brick], layout: &Layout, number: u64) -> bool
-    ensures { Decides result (NodeIsAble layout.now (running_at bricks.now number)) }
+/// Whether a brick serves view 1 of a group: it has learnt no later view, and has accepted no list to follow it.
+fn serves_first(node: &Node<MemDisk>, group: GroupId) -> bool
+    requires { group.0 < most_groups }
+    ensures { Decides result (ServesFirst (state_of node.now) group.0) }
+{
+    let store = node.store();
+    if store.learnt(group).0 != 1 {
+        return false;
+    }
+    store.accepted(group).is_none()
+}
+
+/// Whether a brick has room for two records more.
+fn has_room(node: &Node<MemDisk>, layout: &Layout) -> bool
+    ensures { Decides result ((state_of node.now).live + 2 ≤ layout.now.records) }
+{
+    u64::from(node.store().live()) + 2 <= u64::from(layout.records())
+}
+
+/// Whether a brick is up, serves view 1 of a group, has room for two records more, and its times are early.
+fn is_able(bricks: &[Brick], layout: &Layout, group: GroupId, number: u64) -> bool
+    requires { group.0 < most_groups }
+    ensures { Decides result (NodeIsAble layout.now group.0 (running_at bricks.now number)) }
 {
     match running(bricks, number) {
-        Some(node) => {
-            u64::from(node.store().live()) + 2 <= u64::from(layout.records()) && is_early(node)
-        }
+        Some(node) => serves_first(node, group) && has_room(node, layout) && is_early(node),
         None => false,
     }
 }
 
-/// Whether all these bricks are up, have room, and their times are early.
-fn are_able(bricks: &[Brick], layout: &Layout, numbers: &[u64]) -> bool
+/// Whether all these bricks are up, serve view 1 of a group, have room, and their times are early.
+fn are_able(bricks: &[Brick], layout: &Layout, group: GroupId, numbers: &[u64]) -> bool
+    requires { group.0 < most_groups }
     ensures { Decides result ((k number : ℕ) → slice_get numbers.now k ≡ Some number
-        → NodeIsAble layout.now (running_at bricks.now number)) }
+        → NodeIsAble layout.now group.0 (running_at bricks.now number)) }
 {
     for number in numbers {
-        if !is_able(bricks, layout, *number) {
+        if !is_able(bricks, layout, group, *number) {
             return false;
         }
     }
@@ -138,13 +157,18 @@ impl Simulation {
         }
     }
 
-    /// Whether an operation may run alone among these bricks.
+    /// Whether an operation may run alone among these bricks, and is in view 1 of its group. One in a later view does not run alone yet.
     pub fn is_calm(&self, layout: &Layout, operation: u64, bricks: &[u64]) -> bool
         ensures { DecidesCalm layout.now self.now operation bricks.now result }
     {
         let Some(record) = self.open_record(operation) else {
             return false;
         };
+        if record.view.0 != 1 {
+            return false;
+        }
+        // It tells that the layout is within its limits.
+        let _ = layout.bricks();
         let Some(group) = layout.group(record.group) else {
             return false;
         };
@@ -157,7 +181,7 @@ impl Simulation {
         if !is_in_time(&self.bricks, u64::from(record.brick.0)) {
             return false;
         }
-        if !are_able(&self.bricks, layout, bricks) {
+        if !are_able(&self.bricks, layout, record.group, bricks) {
             return false;
         }
         let delivered = &self.history.delivered;

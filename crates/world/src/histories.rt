@@ -10,16 +10,15 @@ ghost use Rattle.world.specs.Shown.{ChangesAt, made_kept, seen_kept, ended_kept,
 use crate::call_numbers::CallNumbers;
 use crate::deliveries::Deliveries;
 use crate::sendings::Sendings;
-use fab_base::{Answer, Ask, BrickId, GroupId, NoMem, Op, Stamp, StripeNo};
+use fab_base::{Answer, Ask, BrickId, GroupId, NoMem, Op, Stamp, StripeNo, ViewNo};
 use messages::{Messages, Packet};
 use node::{Begun, Outs};
-use protocol::{Answered, Told};
+use protocol::{Answered, Report, Told};
 use reg_model::Mark;
 use std::alloc::Global;
 
-/// The most packets that a step of a brick sends on a message or for an operation that begins: one to each
-/// member of a group.
-const MOST_PACKETS: usize = 32;
+/// The most packets that a step of a brick sends on a message, or as an operation or a proposal begins: one to each brick of a layout.
+const MOST_PACKETS: usize = 64;
 
 /// What is kept of an operation.
 #[derive(Clone, Copy)]
@@ -46,6 +45,8 @@ pub struct OperationRecord {
     pub writes: bool,
     /// Whether it was answered, and not aborted.
     pub answered: bool,
+    /// The view of its group that it runs in.
+    pub view: ViewNo,
 }
 
 /// What happened. Operations are by number, from 1, and the number of an operation by its brick and call: a brick that starts again counts its
@@ -55,6 +56,8 @@ pub struct History {
     pub sent: Sendings,
     pub delivered: Deliveries,
     pub marks: Vec<Mark>,
+    /// What bricks reported of their proposals, in order.
+    pub reports: Vec<(BrickId, Report)>,
     pub operations: Vec<OperationRecord>,
     pub calls: CallNumbers,
 }
@@ -159,15 +162,15 @@ pub fn record_at(operations: &[OperationRecord], number: u64) -> Option<Operatio
 }
 
 impl History {
-    ghost use Rattle.std.specs.Prelude.{◌≡◌, ◌+◌, ◌<◌, ◌≤◌, ◌++◌, true, None, length, option_to_list, OnOk, OnErr, vec_len, vec_capacity};
+    ghost use Rattle.std.specs.Prelude.{◌≡◌, ◌+◌, ◌<◌, ◌≤◌, ◌++◌, ℕ, true, None, length, option_to_list, OnOk, OnErr, vec_len, vec_capacity};
     ghost use Rattle.fab_base.specs.Layouts.{Layout};
     ghost use Rattle.coord_phase.specs.Messages.{packets_from};
     ghost use Rattle.protocol.specs.Settings.{Setting};
     ghost use Rattle.protocol.specs.Nodes.{NodeStep};
-    ghost use Rattle.protocol.specs.Nodes.{put as changed};
-    ghost use Rattle.protocol.specs.Worlds.{first_world, number_of, world_began, world_stepped, world_stopped, world_tells, world_answers, with_made, with_seen};
+    ghost use Rattle.protocol.specs.Nodes.{put as changed, view_at};
+    ghost use Rattle.protocol.specs.Worlds.{first_world, number_of, world_began, world_stepped, world_stopped, world_tells, world_answers, with_made, with_seen, reports_of};
     ghost use Rattle.world.specs.CallNumbers.{HasCallRoom, calls_in, call_at};
-    ghost use Rattle.world.specs.Shown.{Tells, HasStepRoom, IsOfCall, AreTold, AreAnswered, OpensNone, OpensNext, HistoryStays, HistoryBecomes, HistoryNotes};
+    ghost use Rattle.world.specs.Shown.{Tells, HasStepRoom, IsOfCall, AreTold, AreAnswered, OpensNone, OpensNext, HistoryStays, HistoryBecomes, HistoryNotes, HistoryNotesAside, most_sent, calls_aside};
 
     /// Nothing yet.
     pub fn new(alloc: Global) -> History
@@ -177,6 +180,7 @@ impl History {
             sent: Sendings::new(alloc),
             delivered: Deliveries::new(alloc),
             marks: Vec::new(alloc),
+            reports: Vec::new(alloc),
             operations: Vec::new(alloc),
             calls: CallNumbers::new(alloc),
         }
@@ -189,11 +193,12 @@ impl History {
     {
         self.sent.reserve(MOST_PACKETS)?;
         self.marks.reserve(1)?;
+        self.reports.reserve(1)?;
         self.operations.reserve(1)?;
         Ok(())
     }
 
-    /// Makes room for what an operation adds that a brick begins.
+    /// Makes room for what an operation or a proposal adds that a brick begins.
     pub fn expect_call(&mut self, alloc: Global, brick: BrickId) -> Result<(), NoMem>
         ensures room { OnOk result (HasStepRoom self.new) }
         ensures call { OnOk result (HasCallRoom self.new.calls brick.0) }
@@ -253,12 +258,12 @@ impl History {
     }
 
     /// Notes an operation that begins, and what it sends.
-    pub fn begin(&mut self, brick: BrickId, boot: u32, ask: Ask, begun: Begun)
+    pub fn begin(&mut self, brick: BrickId, boot: u32, view: ViewNo, ask: Ask, begun: Begun)
         requires room { HasStepRoom self.old }
         requires call { HasCallRoom self.old.calls brick.0 }
-        requires few { vec_len begun.messages ≤ 32 }
+        requires few { vec_len begun.messages ≤ most_sent }
         ensures { (step : NodeStep) → packets_from brick begun.messages.items ≡ step.packets → boot ≡ step.node.boot → begun.seq ≡ step.node.seq
-            → HistoryNotes brick (λ node. OpensNext node step) (λ w. world_began w brick ask step) self.old self.new }
+            → HistoryNotes brick (λ node. OpensNext node step × (view.0 ≡ view_at node ask.group.0)) (λ w. world_began w brick ask step) self.old self.new }
     {
         let Begun { seq, messages } = begun;
         let position = self.marks.len() as u64;
@@ -275,6 +280,7 @@ impl History {
             base: None,
             writes: writes(&ask.op),
             answered: false,
+            view,
         });
         self.calls.add(brick, operation);
         self.marks.push_reserved(Mark::Begin {
@@ -292,6 +298,7 @@ impl History {
             record w { operations = changed w.operations n (with_made stamp base (w.operations n)) }) self.old self.new }
         ensures marks { self.new.marks ≡ self.old.marks }
         ensures sent { self.new.sent ≡ self.old.sent }
+        ensures reports { self.new.reports ≡ self.old.reports }
     {
         if let Some(number) = self.number(brick, seq) {
             note_made(&mut self.operations, number, stamp, base);
@@ -304,6 +311,7 @@ impl History {
             record w { operations = changed w.operations n (with_seen stamp (w.operations n)) }) self.old self.new }
         ensures marks { self.new.marks ≡ self.old.marks }
         ensures sent { self.new.sent ≡ self.old.sent }
+        ensures reports { self.new.reports ≡ self.old.reports }
     {
         if let Some(number) = self.number(brick, seq) {
             note_seen(&mut self.operations, number, stamp);
@@ -316,6 +324,7 @@ impl History {
             (λ w. world_tells setting w brick (option_to_list told)) self.old self.new }
         ensures marks { self.new.marks ≡ self.old.marks }
         ensures sent { self.new.sent ≡ self.old.sent }
+        ensures reports { self.new.reports ≡ self.old.reports }
     {
         match told {
             None => {}
@@ -330,6 +339,7 @@ impl History {
         ensures answered { HistoryNotes brick (λ node. AreAnswered node (option_to_list answer))
             (λ w. world_answers w brick (option_to_list answer)) self.old self.new }
         ensures sent { self.new.sent ≡ self.old.sent }
+        ensures reports { self.new.reports ≡ self.old.reports }
     {
         let Some(Answered { seq, answer }) = answer else {
             return;
@@ -346,17 +356,60 @@ impl History {
         });
     }
 
-    /// Notes what a step told, answered and sent.
+    /// Notes what a step reported, if anything.
+    fn report(&mut self, brick: BrickId, report: Option<Report>)
+        requires { vec_len self.old.reports < vec_capacity self.old.reports }
+        ensures reported { HistoryBecomes (λ w. record w {
+          choices = record w.choices {
+            reports = w.choices.reports
+                ++ reports_of brick (option_to_list report);
+          };
+        }) self.old self.new }
+        ensures items { self.new.reports.items ≡ self.old.reports.items ++ reports_of brick (option_to_list report) }
+        ensures rest { self.new ≡ record self.old { reports = self.new.reports } }
+    {
+        if let Some(report) = report {
+            self.reports.push_reserved((brick, report));
+        }
+    }
+
+    /// Notes what a step told, answered, sent and reported.
     pub fn step(&mut self, brick: BrickId, outs: Outs)
         requires room { HasStepRoom self.old }
-        requires few { length outs.messages ≤ 32 }
+        requires few { length outs.messages ≤ most_sent }
         ensures { (setting : Setting) (step : NodeStep) → packets_from brick outs.messages ≡ step.packets → outs.told ≡ step.told
-            → outs.answers ≡ step.answers
+            → outs.answers ≡ step.answers → outs.reports ≡ step.reports
             → HistoryNotes brick (λ node. OpensNone node step) (λ w. world_stepped setting w brick step) self.old self.new }
     {
-        let (messages, told, answer) = outs.into_parts();
+        let (messages, told, answer, report) = outs.into_parts();
         self.tell(brick, told);
         self.answer(brick, answer);
         self.send(brick, messages);
+        self.report(brick, report);
+    }
+
+    /// Notes the call that a brick used up as it was asked to propose, which is of no operation: it used up none if it reported at once.
+    fn count_call(&mut self, brick: BrickId, report: &Option<Report>)
+        requires { HasCallRoom self.old.calls brick.0 }
+        ensures calls { (i : ℕ) → calls_in self.new.calls i ≡ calls_aside (calls_in self.old.calls) brick.0 report.now i }
+        ensures rest { self.new ≡ record self.old { calls = self.new.calls } }
+    {
+        if report.is_none() {
+            self.calls.add(brick, 0);
+        }
+    }
+
+    /// Notes what a brick that is asked to propose sends and reports. It has used up a call, which is of no operation, unless it reports at once.
+    pub fn propose(&mut self, brick: BrickId, outs: Outs)
+        requires room { HasStepRoom self.old }
+        requires call { HasCallRoom self.old.calls brick.0 }
+        requires few { length outs.messages ≤ most_sent }
+        ensures { (setting : Setting) (step : NodeStep) → packets_from brick outs.messages ≡ step.packets → outs.reports ≡ step.reports
+            → HistoryNotesAside brick step (λ w. world_stepped setting w brick step) self.old self.new }
+    {
+        let (messages, _, _, report) = outs.into_parts();
+        self.count_call(brick, &report);
+        self.send(brick, messages);
+        self.report(brick, report);
     }
 }

@@ -1,13 +1,13 @@
 //! What a world keeps: its bricks and their clocks, and what happened.
 
-ghost use Rattle.std.specs.Prelude.{◌≡◌, Some, IfNone, IfSome, IfOk};
+ghost use Rattle.std.specs.Prelude.{◌≡◌, Some, IfNone, IfSome, IfOk, map};
 ghost use Rattle.protocol.specs.Nodes as machine;
-ghost use Rattle.protocol.specs.Nodes.{refusal_of};
-ghost use Rattle.world.specs.Runs.{ask_of, block_no, op_of};
+ghost use Rattle.protocol.specs.Nodes.{refusal_of, proposal_refusal};
+ghost use Rattle.world.specs.Runs.{ask_of, block_no, group_no, member_no, op_of};
 
 use crate::bricks::{
-    Brick, ask_brick, boot_of, find_up, fresh_bricks, hand_over, start_brick, stop_brick,
-    tick_brick,
+    Brick, ask_brick, ask_to_propose, boot_of, find_up, fresh_bricks, hand_over, start_brick,
+    stop_brick, tick_brick, view_of,
 };
 use crate::histories::{History, packet_at};
 use fab_base::{Ask, BrickId, GroupId, NoMem, Op, Refusal, StripeNo};
@@ -26,7 +26,7 @@ pub struct Simulation {
 /// What a line comes to.
 #[derive(Clone, Copy, PartialEq, Eq)]
 pub enum Outcome {
-    /// Its marks, none or one, stand at the end of the marks.
+    /// Its marks, none or one, stand at the end of the marks, and what a brick reported in it at the end of the reports.
     Marks,
     /// It was refused.
     Refused(Refusal),
@@ -51,6 +51,40 @@ fn place_of(layout: &Layout, group: u64, stripe: u64) -> Option<(GroupId, Stripe
     Some((group, StripeNo(stripe as u32)))
 }
 
+/// The group of a number. None exactly where there is none.
+fn group_of(layout: &Layout, group: u64) -> Option<GroupId>
+    ensures none { IfNone result ((node : machine.Node) → proposal_refusal layout.now node group ≡ Some Refusal.NoStripe) }
+    ensures some { IfSome result (λ found. found ≡ group_no group) }
+{
+    if group < layout.group_count() as u64 {
+        Some(GroupId(group as u32))
+    } else {
+        None
+    }
+}
+
+/// A member of a number, as a brick is asked to propose it.
+fn member_no(number: u64) -> BrickId
+    ensures { result ≡ member_no number }
+{
+    if number < 65536 {
+        BrickId(number as u16)
+    } else {
+        BrickId(u16::MAX)
+    }
+}
+
+/// The members of these numbers, as a brick is asked to propose them.
+fn members_of(alloc: Global, numbers: &[u64]) -> Result<Vec<BrickId>, NoMem>
+    ensures { IfOk result (λ members. members.items ≡ map member_no numbers.now) }
+{
+    let mut members = Vec::with_capacity(alloc, numbers.len())?;
+    for number in numbers {
+        members.push(member_no(*number))?;
+    }
+    Ok(members)
+}
+
 /// The data block of a number, as a brick is asked for it.
 fn block_no(number: u64) -> u8
     ensures { result ≡ block_no number }
@@ -73,11 +107,11 @@ fn op_of(alloc: Global, access: &Access) -> Result<Op, NoMem>
 }
 
 impl Simulation {
-    ghost use Rattle.std.specs.Prelude.{◌≡◌, None, vec_len, IfOk, OnErr};
+    ghost use Rattle.std.specs.Prelude.{◌≡◌, None, map, vec_len, IfOk, OnErr};
     ghost use Rattle.protocol.specs.Worlds.{first_world};
-    ghost use Rattle.protocol.specs.Worlds.Event.{Invokes, Sets, Ticks, Stops};
+    ghost use Rattle.protocol.specs.Worlds.Event.{Invokes, Proposes, Sets, Ticks, Stops};
     ghost use Rattle.lines.specs.declared.forms.Line.TheVariants.{Deliver, Start, Calm};
-    ghost use Rattle.world.specs.Runs.{brick_of, ask_of, op_of};
+    ghost use Rattle.world.specs.Runs.{brick_of, ask_of, group_no, member_no, op_of};
     ghost use Rattle.world.specs.Disks.{AreFreshDisks};
     ghost use Rattle.world.specs.Shown.{AreNodesOf, Shows, IsUp, IsReachable, RunsAloneTo, BeginsAloneTo, RunsLine, RefusesLine, TakesEvent, StaysAs, disks_of};
 
@@ -114,6 +148,11 @@ impl Simulation {
             Line::Tick { brick } => self.tick(layout, *brick),
             Line::Crash { brick } => self.crash(alloc, layout, *brick),
             Line::Start { brick, fault } => self.start(alloc, layout, *brick, *fault),
+            Line::Propose {
+                brick,
+                group,
+                members,
+            } => self.propose(alloc, layout, *brick, *group, members.as_slice()),
             Line::Calm { operation, bricks } => {
                 self.calm(alloc, layout, *operation, bricks.as_slice())
             }
@@ -161,9 +200,61 @@ impl Simulation {
     {
         self.history.expect_call(alloc, brick)?;
         let boot = boot_of(&self.bricks, brick);
+        let view = view_of(&self.bricks, brick, ask.group);
         match ask_brick(&mut self.bricks, brick, &ask) {
             Ok(begun) => {
-                self.history.begin(brick, boot, ask, begun);
+                self.history.begin(brick, boot, view, ask, begun);
+                Ok(Outcome::Marks)
+            }
+            Err(NodeFault::Refused(refusal)) => Ok(Outcome::Refused(refusal)),
+            Err(NodeFault::NoMemory) => Err(NoMem::NoMemory),
+            Err(NodeFault::Halted | NodeFault::Disk) => unreachable!(),
+        }
+    }
+
+    /// Asks a brick to propose the members of the next view of a group.
+    fn propose(
+        &mut self,
+        alloc: Global,
+        layout: &Layout,
+        brick: u64,
+        group: u64,
+        members: &[u64],
+    ) -> Result<Outcome, NoMem>
+        requires nodes { AreNodesOf layout.now self.old.bricks.items }
+        requires bricks { vec_len self.old.bricks ≡ layout.now.bricks }
+        ensures ok { IfOk result (TakesEvent layout.now self.old self.new (Proposes (brick_of brick) (group_no group) (map member_no members.now))) }
+        ensures err { OnErr result (StaysAs layout.now self.old self.new) }
+    {
+        let brick = match find_up(&self.bricks, layout, brick) {
+            Some(brick) => brick,
+            None => return Ok(Outcome::Refused(Refusal::Down)),
+        };
+        let group = match group_of(layout, group) {
+            Some(group) => group,
+            None => return Ok(Outcome::Refused(Refusal::NoStripe)),
+        };
+        let members = members_of(alloc, members)?;
+        self.begin_proposal(alloc, layout, brick, group, &members)
+    }
+
+    /// A brick begins a proposal, ends it at once, or refuses it.
+    fn begin_proposal(
+        &mut self,
+        alloc: Global,
+        _layout: &Layout,
+        brick: BrickId,
+        group: GroupId,
+        members: &[BrickId],
+    ) -> Result<Outcome, NoMem>
+        requires { IsUp self.old.bricks.items brick }
+        ensures ok { IfOk result (TakesEvent _layout.now self.old self.new (Proposes brick group members.now)) }
+        ensures err { OnErr result (StaysAs _layout.now self.old self.new) }
+    {
+        self.history.expect_call(alloc, brick)?;
+        match ask_to_propose(&mut self.bricks, brick, group, members) {
+            Ok(outs) => {
+                self.history.propose(brick, outs);
                 Ok(Outcome::Marks)
             }
             Err(NodeFault::Refused(refusal)) => Ok(Outcome::Refused(refusal)),
@@ -223,7 +314,7 @@ impl Simulation {
         Outcome::Marks
     }
 
-    /// A brick's clock ticks: it sends again what its open operations wait for.
+    /// A brick's clock ticks: it sends again what its open operations and its proposal wait for.
     fn tick(&mut self, layout: &Layout, brick: u64) -> Result<Outcome, NoMem>
         requires nodes { AreNodesOf layout.now self.old.bricks.items }
         requires bricks { vec_len self.old.bricks ≡ layout.now.bricks }
@@ -239,7 +330,7 @@ impl Simulation {
         Ok(Outcome::Marks)
     }
 
-    /// A brick stops: its open operations are gone, and what it keeps of stripes stays.
+    /// A brick stops: its open operations and its proposal are gone, and what it keeps of stripes, views and ballots stays.
     fn crash(&mut self, alloc: Global, layout: &Layout, brick: u64) -> Result<Outcome, NoMem>
         requires nodes { AreNodesOf layout.now self.old.bricks.items }
         requires bricks { vec_len self.old.bricks ≡ layout.now.bricks }

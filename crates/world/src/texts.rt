@@ -1,9 +1,10 @@
 //! The text of marks, a line each.
 
 ghost use Rattle.std.specs.Prelude.{◌≡◌, IfOk, string_bytes};
-ghost use Rattle.world.specs.Texts.{mark_text, marks_text, answer_text, ask_text, idle_text};
+ghost use Rattle.world.specs.Texts.{mark_text, marks_text, answer_text, ask_text, members_text, view_answer_text, sync_answer_text, report_text, reports_text, idle_text};
 
-use fab_base::{Answer, Ask, NoMem, Op};
+use fab_base::{Answer, Ask, BrickId, NoMem, Op};
+use protocol::{Report, SyncAnswer, ViewAnswer};
 use reg_model::Mark;
 use std::alloc::Global;
 
@@ -77,6 +78,94 @@ pub fn marks_text(alloc: Global, marks: &[Mark]) -> Result<String, NoMem>
     let mut text = String::new(alloc);
     for mark in marks {
         let line = mark_text(alloc, mark)?;
+        text.push_str(line.as_str())?;
+    }
+    Ok(text)
+}
+
+/// The members of a view, to the end of a line.
+fn members_text(alloc: Global, members: &[BrickId]) -> Result<String, NoMem>
+    ensures { IfOk result (λ text. string_bytes text ≡ members_text members.now) }
+{
+    let mut text = String::new(alloc);
+    for member in members {
+        let word = format!(in alloc; " {member}")?;
+        text.push_str(word.as_str())?;
+    }
+    text.push_str("\n")?;
+    Ok(text)
+}
+
+/// How a proposal ended.
+fn view_answer_text(alloc: Global, answer: &ViewAnswer) -> Result<String, NoMem>
+    ensures { IfOk result (λ text. string_bytes text ≡ view_answer_text answer.now) }
+{
+    Ok(match answer {
+        ViewAnswer::Decided { view, members } => {
+            let view = view.0;
+            let members = members_text(alloc, members.as_slice())?;
+            format!(in alloc; "decided {view}{members}")?
+        }
+        ViewAnswer::Outbid { ballot } => format!(in alloc; "outbid {ballot}\n")?,
+        ViewAnswer::NotSynced { brick } => format!(in alloc; "notsynced {brick}\n")?,
+        ViewAnswer::Moved { view } => {
+            let view = view.0;
+            format!(in alloc; "moved {view}\n")?
+        }
+        ViewAnswer::BadMembers => format!(in alloc; "badmembers\n")?,
+    })
+}
+
+/// How a synchronisation ended.
+fn sync_answer_text(alloc: Global, answer: &SyncAnswer) -> Result<String, NoMem>
+    ensures { IfOk result (λ text. string_bytes text ≡ sync_answer_text answer.now) }
+{
+    Ok(match answer {
+        SyncAnswer::Synced { view } => {
+            let view = view.0;
+            format!(in alloc; "synced {view}\n")?
+        }
+        SyncAnswer::Stopped { stripe, cause } => {
+            let stripe = stripe.0;
+            let cause = cause.text(alloc)?;
+            format!(in alloc; "stopped {stripe} {cause}")?
+        }
+        SyncAnswer::Spent { stripe } => {
+            let stripe = stripe.0;
+            format!(in alloc; "spent {stripe}\n")?
+        }
+    })
+}
+
+/// What a brick reported, on a line of its own.
+fn report_text(alloc: Global, report: &Report) -> Result<String, NoMem>
+    ensures { IfOk result (λ text. string_bytes text ≡ report_text report.now) }
+{
+    Ok(match report {
+        Report::View {
+            group,
+            call: _,
+            answer,
+        } => {
+            let group = group.0;
+            let answer = view_answer_text(alloc, answer)?;
+            format!(in alloc; "view {group} {answer}")?
+        }
+        Report::Sync { group, answer } => {
+            let group = group.0;
+            let answer = sync_answer_text(alloc, answer)?;
+            format!(in alloc; "sync {group} {answer}")?
+        }
+    })
+}
+
+/// What bricks reported, in order.
+pub fn reports_text(alloc: Global, reports: &[(BrickId, Report)]) -> Result<String, NoMem>
+    ensures { IfOk result (λ text. string_bytes text ≡ reports_text reports.now) }
+{
+    let mut text = String::new(alloc);
+    for told in reports {
+        let line = report_text(alloc, &told.1)?;
         text.push_str(line.as_str())?;
     }
     Ok(text)

@@ -6,13 +6,14 @@ ghost use Rattle.world.specs.Texts.{outcome_text};
 use crate::bricks::Power;
 use crate::simulations::{Outcome, Simulation};
 use crate::stripe_entries::StripeEntries;
-use crate::texts::{idle_text, marks_text};
+use crate::texts::{idle_text, marks_text, reports_text};
 use crate::trails::{Shelf, Trail};
 use crate::walks;
-use fab_base::{BrickId, Bytes, GroupId, NoMem, StripeNo};
+use fab_base::{BrickId, Bytes, GroupId, NoMem, Refusal, StripeNo, View};
 use layout::Layout;
 use lines::{Line, parse};
 use messages::Packet;
+use protocol::Report;
 use reg_model::{Happening, Mark};
 use std::alloc::Global;
 use std::marker::Model;
@@ -76,12 +77,21 @@ impl From<NoMem> for StepFault {
     }
 }
 
-/// The text of what a line came to, with the marks that it made.
-fn print(alloc: Global, outcome: Outcome, marks: &[Mark]) -> Result<Bytes, NoMem>
-    ensures { IfOk result (λ text. text ≡ outcome_text outcome marks.now) }
+/// The text of what a line came to, with the marks that it made, and then what a brick reported in it.
+fn print(
+    alloc: Global,
+    outcome: Outcome,
+    marks: &[Mark],
+    reports: &[(BrickId, Report)],
+) -> Result<Bytes, NoMem>
+    ensures { IfOk result (λ text. text ≡ outcome_text outcome marks.now reports.now) }
 {
     match outcome {
-        Outcome::Marks => Ok(Bytes::from_vec(marks_text(alloc, marks)?.into_bytes())),
+        Outcome::Marks => {
+            let mut text = marks_text(alloc, marks)?;
+            text.push_str(reports_text(alloc, reports)?.as_str())?;
+            Ok(Bytes::from_vec(text.into_bytes()))
+        }
         Outcome::Refused(refusal) => Ok(Bytes::from_vec(refusal.text(alloc)?.into_bytes())),
         Outcome::Idle => Ok(Bytes::from_vec(idle_text(alloc)?.into_bytes())),
     }
@@ -96,7 +106,7 @@ impl World {
     ghost use Rattle.protocol.specs.Happenings.{happenings_of};
     ghost use Rattle.world.specs.Runs.{world_of};
     ghost use Rattle.world.specs.Disks.{ShowsDisks, HasFreshDisks};
-    ghost use Rattle.world.specs.Steps.{Ran, RunsTo, LeavesSome, Stands, log_at};
+    ghost use Rattle.world.specs.Steps.{Ran, RunsTo, LeavesSome, Stands, log_at, learnt_at, proposer_at};
     ghost use Rattle.world.specs.Walks.{AreEntriesOf};
 
     /// All bricks up, their stores fresh, their clocks at 0, and nothing sent.
@@ -129,7 +139,8 @@ impl World {
         // Whatever it answers, each disk keeps what the machine's brick keeps.
         ensures disks { ShowsDisks self.new }
     {
-        let before = self.simulation.history.marks.len();
+        let marks = self.simulation.history.marks.len();
+        let reports = self.simulation.history.reports.len();
         let line = match parse(self.alloc, content)? {
             Some(line) => line,
             None => return Err(StepFault::BadLine),
@@ -138,7 +149,8 @@ impl World {
         Ok(print(
             self.alloc,
             outcome,
-            &self.simulation.history.marks[before..],
+            &self.simulation.history.marks[marks..],
+            &self.simulation.history.reports[reports..],
         )?)
     }
 
@@ -146,6 +158,7 @@ impl World {
     fn run(&mut self, line: &Line) -> Result<Outcome, NoMem>
         ensures ok { IfOk result (λ outcome. RunsTo self.old self.new line.now outcome) }
         ensures marks { OnOk result (length (world_of self.old).marks ≤ length (world_of self.new).marks) }
+        ensures reports { OnOk result (length (world_of self.old).choices.reports ≤ length (world_of self.new).choices.reports) }
         ensures err { OnErr result (LeavesSome self.old self.new line.now) }
         ensures disks { ShowsDisks self.new }
     {
@@ -183,6 +196,13 @@ impl World {
         self.simulation.history.marks.as_slice()
     }
 
+    /// What bricks reported of their proposals, in order, each with its brick.
+    pub fn reports(&self) -> &[(BrickId, Report)]
+        ensures { result.now ≡ (world_of self.now).choices.reports }
+    {
+        self.simulation.history.reports.as_slice()
+    }
+
     /// Every packet that was ever sent, in order.
     pub fn sent(&self) -> &[Packet]
         ensures { result.now ≡ (world_of self.now).packets }
@@ -198,7 +218,7 @@ impl World {
         self.simulation.history.delivered.was_delivered(number)
     }
 
-    /// A brick's part of a stripe, with its log, oldest version first. None exactly where there is no such
+    /// A brick's part of a stripe in the view that it has learnt, with its log, oldest version first. None exactly where there is no such
     /// group or stripe, or no such brick that is up.
     pub fn log_of(
         &self,
@@ -217,6 +237,41 @@ impl World {
             Power::Up(node) => Some(node.log(group, stripe)),
             Power::Down(_) => None,
         }
+    }
+
+    /// The view of a group that a brick has learnt. None exactly where there is no such group, or no such brick that is up.
+    pub fn learnt(&self, brick: BrickId, group: GroupId) -> Option<View>
+        ensures { result ≡ learnt_at self.now brick.0 group.0 }
+    {
+        let found = self.simulation.bricks.get(brick.0 as usize)?;
+        match &found.power {
+            Power::Up(node) => node.learnt(group),
+            Power::Down(_) => None,
+        }
+    }
+
+    /// The view of a group that a brick has learnt, where it may be asked for a proposal of the next.
+    ///
+    /// # Errors
+    ///
+    /// The first reason of these: `Down` where there is no such brick that is up; `NoStripe` where there is no such group; `Busy` where the brick
+    /// has a proposal.
+    pub fn proposer(&self, brick: BrickId, group: GroupId) -> Result<View, Refusal>
+        ensures { result ≡ proposer_at self.now brick.0 group.0 }
+    {
+        let Some(found) = self.simulation.bricks.get(brick.0 as usize) else {
+            return Err(Refusal::Down);
+        };
+        let Power::Up(node) = &found.power else {
+            return Err(Refusal::Down);
+        };
+        let Some(view) = node.learnt(group) else {
+            return Err(Refusal::NoStripe);
+        };
+        if node.proposing().is_some() {
+            return Err(Refusal::Busy);
+        }
+        Ok(view)
     }
 
     /// The entries of all stripes' operations, for `happenings_among`.

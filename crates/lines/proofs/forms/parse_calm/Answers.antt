@@ -1,25 +1,32 @@
--- The operation and its bricks, where these are 1 to 64.
-use Rattle.std.proofs.Common.{inl, inr, ⊎_elim, refl, sym, ◌∙◌}
-use Rattle.lines.proofs.BrickTokens.{calm_none, calm_count, calm_counted}
+-- The operation and its bricks.
+use Rattle.std.proofs.Common.{sym, ◌∙◌, refl}
+use Rattle.lines.specs.Grammar.{calm}
+use Rattle.lines.proofs.Arguments.{calm_none, first_and_rest}
 use Rattle.lines.proofs.forms.parse_calm.Goals as goal
 
 pub returns-in_default : goal.returns-in_default
 returns-in_default c = calm_none _ c.in_default.len_below
 
-pub returns-then-behind-eq0 : goal.returns-then-behind-eq0
-returns-then-behind-eq0 c = calm_count _ c.in-len1-up.len_at_least (⊎_elim inl (λ many. inr many.1) c.then-behind-eq0.either)
-
 pub returns-in_default-parse_number : goal.returns-in_default-parse_number
-returns-in_default-parse_number c =
-    calm_counted _ _ _ c.in-len1-up.len_at_least c.if-behind-eq0.false c.if-behind-gt-MOST_BRICKS.false
-    (sym c.in_default-parse_number.is ∙ c.parse_number.ensures) refl
+unfolding calm
+returns-in_default-parse_number c = rw (first_and_rest _ c.in-len1-up.len_at_least, sym c.parse_number.ensures ∙ c.in_default-parse_number.is) refl
 
 pub returns-in_default-2 : goal.returns-in_default-2
+unfolding calm
 returns-in_default-2 c =
-    calm_counted _ _ _ c.in-len1-up.len_at_least c.if-behind-eq0.false c.if-behind-gt-MOST_BRICKS.false
-    (sym c.in-Some.is ∙ c.parse_number.ensures) (sym c.in_default-2.is ∙ c.in_ok-bricks.ensures)
+    rw (
+      first_and_rest _ c.in-len1-up.len_at_least,
+      sym c.parse_number.ensures ∙ c.in-Some.is,
+      sym c.in_ok-bricks.ensures ∙ c.in_default-2.is,
+    )
+    refl
 
 pub returns : goal.returns
+unfolding calm
 returns c =
-    calm_counted _ _ _ c.in-len1-up.len_at_least c.if-behind-eq0.false c.if-behind-gt-MOST_BRICKS.false
-    (sym c.in-Some.is ∙ c.parse_number.ensures) (sym c.in-Some-2.is ∙ c.in_ok-bricks.ensures)
+    rw (
+      first_and_rest _ c.in-len1-up.len_at_least,
+      sym c.parse_number.ensures ∙ c.in-Some.is,
+      sym c.in_ok-bricks.ensures ∙ c.in-Some-2.is,
+    )
+    refl

@@ -107,11 +107,11 @@ returns-in-Promise g c =
     let later : stamp_below part.order t ≡ true = changed_as block part c.in-Promise.is c.requires.change in
     let grows = promise_grows block call st sorted t reply in
     let both = subst (λ (p : Plan). Handles d (Follows p) old new result × KeepsNext d (appends p) (Follows p) old new (end_of result)) (sym c.in-Promise.is)
-    (changed_next d (Follows (Promise t reply)) call.group.0 call.view.0 call.stripe.0 old new (ordered (place_of call) t st) 30
+    (changed_next d (Follows (Promise t reply)) old new (ordered (place_of call) t st) 30
     (adds_stamp t (stripe_at st (place_of call)).order) 4 (Some reply) c.requires.runs
     (order_made block call st sorted records t reply later)
     (λ adds. none_made block call st sorted records reaction (grows ∙ adds))
-    (order_moves block call st sorted t later) g.met.D.Disk.only_now (appends (Promise t reply))
+    (λ layout same. order_moves block call st sorted t later (same.parts call.group.0 call.view.0 call.stripe.0)) g.met.D.Disk.only_now (appends (Promise t reply))
     (λ room. ap made (sym (unless_room block call st sorted records part reaction (λ more. room (sym grows ∙ more)))) ∙ append_ordered false part t later)
     (λ adds most. ap made (sym (unless_none block call st sorted records part reaction (grows ∙ adds) most)) ∙ append_kept false part)
     c.set_order.result result c.answered.ensures c.set_order.ensures.change c.set_order.ensures.answer) in
@@ -140,10 +140,10 @@ returns-in-Store g c =
     let reaction = unless_full full part (stored part t bytes) in
     let both = subst (λ (r : Reaction). Handles d (Follows r) old new result × KeepsNext d (appends r) (Follows r) old new (end_of result))
     (sym (store_planned full part t log refl c.args.plan own c.in-Store.is))
-    (changed_next d (Follows reaction) call.group.0 call.view.0 call.stripe.0 old new (added (place_of call) (version t bytes) st)
+    (changed_next d (Follows reaction) old new (added (place_of call) (version t bytes) st)
     (version_size own) true (version_calls own) (Some Stored) c.requires.runs
     (store_made block call st sorted records t bytes) (none_made block call st sorted records (stored part t bytes))
-    (store_moves block call st sorted t bytes) g.met.D.Disk.only_now (appends reaction)
+    (λ layout same. store_moves block call st sorted t bytes (same.parts call.group.0 call.view.0 call.stripe.0)) g.met.D.Disk.only_now (appends reaction)
     (λ room. ap appends (sym (unless_room block call st sorted records part (stored part t bytes) room)) ∙ append_stored shared part _
     ∙ ap (λ (p : Plan). Some (stored_append (is_shared p))) c.in-Store.is ∙ version_stored own)
     (λ adds most. ap appends (sym (unless_none block call st sorted records part (stored part t bytes) adds most)) ∙ append_kept shared part)
@@ -176,9 +176,9 @@ returns-in-Collect g c =
     let appends = λ (p : Plan). part_append (is_shared p) part (planned full part p).replica in
     let Follows = λ (p : Plan). IsReacted block call st (planned full part p) in
     let both = subst (λ (p : Plan). Handles d (Follows p) old new result × KeepsNext d (appends p) (Follows p) old new (end_of result)) (sym c.in-Collect.is)
-    (changed_next d (Follows (Collect t)) call.group.0 call.view.0 call.stripe.0 old new (collected version_stamp (place_of call) t st) 30 false
+    (changed_next d (Follows (Collect t)) old new (collected version_stamp (place_of call) t st) 30 false
     4 None c.requires.runs (λ room. reacted_collect block call st sorted t change.0) (λ adds. absurd cc)
-    (collect_moves block call st sorted t change.1) g.met.D.Disk.only_now (appends (Collect t))
+    (λ layout same. collect_moves block call st sorted t change.1 (same.parts call.group.0 call.view.0 call.stripe.0)) g.met.D.Disk.only_now (appends (Collect t))
     (λ room. append_collected false part t change.0 change.1) (λ adds. absurd cc)
     c.collect.result result c.answered-in-Collect.ensures c.collect.ensures.change c.collect.ensures.answer) in
     record { handles = both.0; change = both.1 }

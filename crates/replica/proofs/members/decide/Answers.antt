@@ -3,7 +3,7 @@ use Rattle.std.proofs.Common.{◌≡◌, ℕ, Bool, true, false, length, sym, su
 use Rattle.std.specs.Prelude.{IfOk}
 use Rattle.std.proofs.lemmas.Bool.{eqb-true}
 use Rattle.messages.specs.declared.requests.Request.{Request}
-use Rattle.protocol.specs.Nodes.{fits_block}
+use Rattle.replica.specs.Courses.{fits_block}
 use Rattle.replica.specs.Parts.{part_seen}
 use Rattle.replica.specs.Plans.{IsChange}
 use Rattle.replica.specs.Calls.{shares_block}

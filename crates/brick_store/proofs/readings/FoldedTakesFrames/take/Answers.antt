@@ -23,7 +23,7 @@ returns c = λ first frames so_far.
     let whole : old.whole ≡ true = search rules in (
       here.limits ∙ so_far.0,
       fold_more (limits_of first.index) frames frame st next old.whole c.in_ok-self.field-0 whole so_far.1
-          (λ is. subst (λ (l : Limits). IsTaken l frame st next) so_far.0 (here.taken (ap Ok is)))
-          (λ is. subst (λ (l : Limits). EndsBefore l frame st next) so_far.0 (here.ended (ap Ok is)))
-          (here.members refl so_far.1.members),
+          (λ is. subst (λ (l : Limits). IsTaken l frame st next) so_far.0 (here.takes.taken (ap Ok is)))
+          (λ is. subst (λ (l : Limits). EndsBefore l frame st next) so_far.0 (here.takes.ended (ap Ok is)))
+          (here.takes.members refl so_far.1.members),
     )

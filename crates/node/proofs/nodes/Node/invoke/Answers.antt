@@ -1,17 +1,16 @@
 -- The open calls begin what the brick does.
 use Rattle.std.proofs.Common.{◌≡◌, true, length, Some, None, sym, ◌∙◌, ap, subst, rules}
 use Rattle.std.proofs.lemmas.Bool.{true≢false}
-use Rattle.fab_base.specs.declared.member_lists.View.{View}
 use Rattle.fab_base.specs.Layouts.{Group}
 use Rattle.quorum.specs.Quorums.{IsWithinLimits}
-use Rattle.protocol.specs.Nodes.{Node, refusal_of, invoked, began_in, coordinator_in, has_block, has_length}
+use Rattle.protocol.specs.Nodes.{Node, refusal_of, invoked, has_block, has_length}
 use Rattle.stripe_code.specs.Codes.{coding}
-use Rattle.coord_phase.specs.Operations.{group_in_view}
-use Rattle.node.specs.States.{KeptParts, state_with, parts_in, BeginsAs}
+use Rattle.node.specs.declared.open_work.OpenWork.{OpenWork}
+use Rattle.node.specs.States.{parts_in, parts_with, BeginsAs}
 use Rattle.node.specs.Running.{Running, running, state_of}
 use Rattle.node.proofs.Views.{seen_so}
 use Rattle.node.proofs.States.{on_err}
-use Rattle.node.proofs.Steps.{begins_so, stays_so, group_in_first_view}
+use Rattle.node.proofs.Steps.{begins_so, stays_so, group_in_view_is}
 use Rattle.node.proofs.nodes.Node.invoke.Goals as goal
 
 pub returns-in-Err : goal.returns-in-Err
@@ -19,8 +18,8 @@ returns-in-Err g c =
     let x = c.self.inside in
     record {
       refused = subst (λ (n : Running g.row.D.Denot). refusal_of n.layout (state_of n) c.args.ask.now ≡ Some c.in-Err.refusal) c.self.view_is
-          (ap (λ (s : Node). refusal_of x.layout s c.args.ask.now) (seen_so x.layout x.calls x.store c.self.invariant.boot)
-          ∙ sym (c.in-Err.ensures.refused (parts_in x.layout x.store.state)));
+          (ap (λ (s : Node). refusal_of x.layout s c.args.ask.now) (seen_so x.layout x.work x.store c.self.invariant.boot)
+          ∙ sym (c.in-Err.ensures.refused (parts_with (parts_in x.layout x.store.state) x.work.proposals)));
       begun = tt;
       err = search rules;
       few = tt;
@@ -35,67 +34,62 @@ pub returns-in_err-begin-clause-err : goal.returns-in_err-begin-clause-err
 returns-in_err-begin-clause-err g c =
     let x = c.self.inside in
     on_err _
-    (stays_so x.layout x.calls c.begin.new.self x.store c.self.invariant.boot c.in_err-begin.ensures.boot c.in_err-begin.ensures.err
+    (stays_so x.layout x.work (record { calls = c.begin.new.self; proposals = x.work.proposals }) x.store c.self.invariant.boot c.in_err-begin.ensures.same.boot
+    (c.in_err-begin.ensures.err (parts_with (parts_in x.layout x.store.state) x.work.proposals))
     ∙ ap (λ (n : Running g.row.D.Denot). state_of n) c.self.view_is)
 
 pub returns-in_err-begin-clause-refused : goal.returns-in_err-begin-clause-refused
 returns-in_err-begin-clause-refused g c =
     let x = c.self.inside in
     let none = subst (λ (n : Running g.row.D.Denot). refusal_of n.layout (state_of n) c.args.ask.now ≡ None) c.self.view_is
-    (ap (λ (s : Node). refusal_of x.layout s c.args.ask.now) (seen_so x.layout x.calls x.store c.self.invariant.boot)
-    ∙ sym (c.in-Ok.ensures.refused (parts_in x.layout x.store.state))) in
+    (ap (λ (s : Node). refusal_of x.layout s c.args.ask.now) (seen_so x.layout x.work x.store c.self.invariant.boot)
+    ∙ sym (c.in-Ok.ensures.refused (parts_with (parts_in x.layout x.store.state) x.work.proposals))) in
     search (rules, none)
 
 pub returns-clause-refused : goal.returns-clause-refused
 returns-clause-refused g c =
     let x = c.self.inside in
     subst (λ (n : Running g.row.D.Denot). refusal_of n.layout (state_of n) c.args.ask.now ≡ None) c.self.view_is
-    (ap (λ (s : Node). refusal_of x.layout s c.args.ask.now) (seen_so x.layout x.calls x.store c.self.invariant.boot)
-    ∙ sym (c.in-Ok.ensures.refused (parts_in x.layout x.store.state)))
+    (ap (λ (s : Node). refusal_of x.layout s c.args.ask.now) (seen_so x.layout x.work x.store c.self.invariant.boot)
+    ∙ sym (c.in-Ok.ensures.refused (parts_with (parts_in x.layout x.store.state) x.work.proposals)))
 
 pub begin-requires-clause-limits : goal.begin-requires-clause-limits
 begin-requires-clause-limits g c =
     let x = c.self.inside in
     let group = c.in-Ok.group.now in
-    let is : group_in_view x.layout c.first_view-view.result.members c.args.ask.now.group.0 ≡ group =
-    ap (λ (view : View). group_in_view x.layout view.members c.args.ask.now.group.0) c.first_view-view.ensures.view
-    ∙ group_in_first_view x.layout c.args.ask.now.group.0 group c.in-Ok.ensures.group in
-    subst (λ (view : View). IsWithinLimits (group_in_view x.layout view.members c.args.ask.now.group.0).m (length view.members))
-    (sym c.first_view-view.ensures.view)
-    (subst (λ (k : Group). IsWithinLimits k.m (length group.members))
-    (sym (group_in_first_view x.layout c.args.ask.now.group.0 group c.in-Ok.ensures.group)) c.first_view-view.ensures.limits)
+    let view = c.learnt_view-view.result in
+    let found = c.in-Ok.ensures.group in
+    subst (λ (k : Group). IsWithinLimits k.m (length view.members)) (sym (group_in_view_is x.layout view.members c.args.ask.now.group.0 group found))
+    (c.learnt_view-view.ensures.limits x.layout found c.self.invariant.lists)
 
 pub begin-requires-clause-block : goal.begin-requires-clause-block
 begin-requires-clause-block g c =
     let x = c.self.inside in
     let group = c.in-Ok.group.now in
-    let is : group_in_view x.layout c.first_view-view.result.members c.args.ask.now.group.0 ≡ group =
-    ap (λ (view : View). group_in_view x.layout view.members c.args.ask.now.group.0) c.first_view-view.ensures.view
-    ∙ group_in_first_view x.layout c.args.ask.now.group.0 group c.in-Ok.ensures.group in
-    subst (λ (k : Group). has_block k.m c.args.ask.now.op ≡ true) (sym is) c.in-Ok.ensures.block
+    subst (λ (k : Group). has_block k.m c.args.ask.now.op ≡ true)
+    (sym (group_in_view_is x.layout c.learnt_view-view.result.members c.args.ask.now.group.0 group c.in-Ok.ensures.group)) c.in-Ok.ensures.block
 
 pub begin-requires-clause-fits : goal.begin-requires-clause-fits
 begin-requires-clause-fits g c =
     let x = c.self.inside in
     let group = c.in-Ok.group.now in
-    let is : group_in_view x.layout c.first_view-view.result.members c.args.ask.now.group.0 ≡ group =
-    ap (λ (view : View). group_in_view x.layout view.members c.args.ask.now.group.0) c.first_view-view.ensures.view
-    ∙ group_in_first_view x.layout c.args.ask.now.group.0 group c.in-Ok.ensures.group in
-    subst (λ (k : Group). has_length k.m x.layout.block c.args.ask.now.op ≡ true) (sym is) c.in-Ok.ensures.fits
+    subst (λ (k : Group). has_length k.m x.layout.block c.args.ask.now.op ≡ true)
+    (sym (group_in_view_is x.layout c.learnt_view-view.result.members c.args.ask.now.group.0 group c.in-Ok.ensures.group)) c.in-Ok.ensures.fits
 
 pub returns-clause-begun : goal.returns-clause-begun
+unfolding state_of
 returns-clause-begun g c =
     let x = c.self.inside in
-    let begun = subst (λ (view : View). (parts : KeptParts) → BeginsAs x.calls.me (state_with parts c.begin.new.self)
-    (began_in (coding x.layout) x.calls.me (state_with parts x.calls)
-    (coordinator_in (group_in_view x.layout view.members c.args.ask.now.group.0) view.number x.calls.me c.args.now (state_with parts x.calls) c.args.ask.now))
-    c.in_ok-begin.field-0) c.first_view-view.ensures.view c.in_ok-begin.ensures.begun in
+    let view = c.learnt_view-view.result in
+    let found = c.in-Ok.ensures.group in
+    let after : OpenWork = record { calls = c.begin.new.self; proposals = x.work.proposals } in
     subst
-    (λ (n : Running g.row.D.Denot). BeginsAs n.me (state_of (running x.layout c.begin.new.self x.store))
+    (λ (n : Running g.row.D.Denot). BeginsAs n.me (state_of (running x.layout after x.store))
     (invoked (coding n.layout) n.me c.args.now (state_of n) c.args.ask.now) c.in_ok-begin.field-0)
     c.self.view_is
-    (begins_so x.layout x.calls c.begin.new.self x.store c.self.invariant.boot c.args.now c.args.ask.now c.in-Ok.group.now c.in_ok-begin.field-0
-    c.in_ok-begin.ensures.boot c.self.invariant.first c.in-Ok.ensures.group begun)
+    (begins_so x.layout x.work after x.store c.self.invariant.boot c.args.now c.args.ask.now c.in-Ok.group.now view c.in_ok-begin.field-0
+    c.in_ok-begin.ensures.same.boot (sym (c.learnt_view-view.ensures.view x.layout found)) found
+    (λ kept. c.in_ok-begin.ensures.begun (parts_with kept x.work.proposals)))
 
 pub returns-then-is_halted : goal.returns-then-is_halted
 returns-then-is_halted g c = search rules

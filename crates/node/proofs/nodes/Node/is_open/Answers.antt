@@ -8,4 +8,4 @@ pub returns : goal.returns
 unfolding state_of
 returns g c =
     subst (λ (n : Running g.row.D.Denot). c.is_open.result ≡ is_some ((state_of n).calls c.args.seq)) c.self.view_is
-    (c.is_open.ensures ∙ sym (open_seen c.self.inside.calls c.args.seq))
+    (c.is_open.ensures ∙ sym (open_seen c.self.inside.work.calls c.args.seq))

@@ -1,39 +1,11 @@
--- A reply leaves the store as it was.
-use Rattle.std.proofs.Common.{◌≡◌, false, Ok, refl, sym, subst, rules}
-use Rattle.std.specs.Result.{OnOk}
-use Rattle.fab_disk.specs.Disk.{IsUntouched}
-use Rattle.brick_store.specs.Bricks.{Brick}
+-- Each message is handled by its kind.
+use Rattle.std.proofs.Common.{◌≡◌, false, Ok, refl, sym, rules}
 use Rattle.node.specs.Calls.{packet_append}
-use Rattle.node.specs.Running.{state_of, KeepsUnseen}
-use Rattle.node.proofs.Moments.{untouched_same}
+use Rattle.node.specs.Running.{state_of}
 use Rattle.node.proofs.Shown.{step_refused, step_still}
-use Rattle.node.proofs.States.{on_ok}
 use Rattle.protocol.specs.Nodes.{received, requested, absorbed}
 use Rattle.stripe_code.specs.Codes.{coding}
 use Rattle.node.proofs.nodes.Node.on_message.Goals as goal
-
-pub returns-in-Reply-clause-unseen : goal.returns-in-Reply-clause-unseen
-returns-in-Reply-clause-unseen g c =
-    let old = c.args.self.now.brick in
-    subst (λ (b : Brick g.row.D.Denot). KeepsUnseen old.state b.state) (sym c.on_reply.ensures.brick)
-    (record { groups = refl; views = λ group view stripe other. refl })
-
-pub returns-in-Reply-clause-still : goal.returns-in-Reply-clause-still
-returns-in-Reply-clause-still g c = λ none.
-    let d = g.D.Disk in
-    let old = c.args.self.now.brick in
-    subst (λ (b : Brick g.row.D.Denot). OnOk c.on_reply.result ((b.state ≡ old.state) × IsUntouched d.seen d.may_leave d.moment d.left_since old.disk b.disk))
-    (sym c.on_reply.ensures.brick)
-    (on_ok c.on_reply.result (refl, untouched_same d.moment d.left_since d.seen d.may_leave old.disk))
-
-pub returns-in-Reply-clause-change : goal.returns-in-Reply-clause-change
-unfolding received requested absorbed
-returns-in-Reply-clause-change g c =
-    let runs : c.args.self.now.brick.halted ≡ false = sym c.if-is_halted.ensures.value in
-    let change =
-    step_still g.D.Disk g.met.D.Disk.only_now c.args.self.now c.on_reply.new.self _ c.on_reply.result c.on_reply.ensures.only c.on_reply.ensures.brick
-    c.on_reply.ensures.shown c.is_halted.ensures.stands runs in
-    search (rules, change)
 
 pub returns-then-is_halted : goal.returns-then-is_halted
 unfolding received requested absorbed
@@ -50,7 +22,14 @@ returns-in-Request g c = search rules
 
 pub returns-in-Learn : goal.returns-in-Learn
 unfolding received requested absorbed
-returns-in-Learn g c =
+returns-in-Learn g c = search rules
+
+pub returns-in-Reply : goal.returns-in-Reply
+returns-in-Reply g c = search rules
+
+pub returns-in-Synced : goal.returns-in-Synced
+unfolding received requested absorbed
+returns-in-Synced g c =
     let old = c.args.self.now in
     let runs : old.brick.halted ≡ false = sym c.if-is_halted.ensures.value in
     let change =

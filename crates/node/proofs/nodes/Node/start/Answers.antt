@@ -13,7 +13,7 @@ use Rattle.brick_store.specs.Openings.{IsCounted, IsListedOnOpening, IsWornOut, 
 use Rattle.brick_store.specs.Openings as stores
 use Rattle.brick_store.specs.declared.faults.OpenFault.TheVariants as faults
 use Rattle.protocol.specs.Nodes.{Node, restarted}
-use Rattle.replica.specs.Parts.{IsFirstView}
+use Rattle.replica.specs.Parts.{ListsStand}
 use Rattle.node.specs.Running.{running, state_of, shape_at, ImageShows}
 use Rattle.node.proofs.Requests.{live_seen}
 use Rattle.node.proofs.Shown.{shown_so}
@@ -36,12 +36,12 @@ returns-in-Err g c =
     (subst (λ (s : Shape). Opens d s disk c.in-Err.refused.1 (stores.stopped_by fault)) same here.opens) none in
     let not_a_store : fault ≡ faults.NotAStore → d.tells
     → (IsNoStore (shape_at layout me) (d.seen disk) × IsUntouched d.seen d.may_leave d.moment d.left_since disk c.in-Err.refused.1)
-    ⊎ ((st : StateOf Version) × IsFound (shape_at layout me) st (d.seen disk) × (IsFirstView st → ⊥)) = λ is told. inl (none is told, here.opens.not_begun (ap stores.stopped_by is)) in
+    ⊎ ((st : StateOf Version) × IsFound (shape_at layout me) st (d.seen disk) × (ListsStand layout st → ⊥)) = λ is told. inl (none is told, here.opens.not_begun (ap stores.stopped_by is)) in
     let worn = subst (λ (s : Shape). fault ≡ faults.Worn → d.tells → IsWornOut s (d.seen disk)) same here.worn in
     search (rules, opens, not_a_store, worn)
 
-pub returns-then-not-is_first_view : goal.returns-then-not-is_first_view
-returns-then-not-is_first_view g c =
+pub returns-then-not-do_lists_stand : goal.returns-then-not-do_lists_stand
+returns-then-not-do_lists_stand g c =
     let d = g.D.Disk in
     let disk = c.args.disk in
     let layout = c.args.layout in
@@ -52,12 +52,12 @@ returns-then-not-is_first_view g c =
     (subst (λ (last : g.row.D.Denot). Opens d (shape_at layout me) disk last Whole) (sym c.into_disk.ensures.disk)
     (subst (λ (s : Shape). Opens d s disk c.in-Ok.store.disk Whole) same c.in-Ok.ensures.opens)) in
     let not_a_store : d.tells → (IsNoStore (shape_at layout me) (d.seen disk) × IsUntouched d.seen d.may_leave d.moment d.left_since disk c.into_disk.result)
-    ⊎ ((st : StateOf Version) × IsFound (shape_at layout me) st (d.seen disk) × (IsFirstView st → ⊥)) = λ told.
+    ⊎ ((st : StateOf Version) × IsFound (shape_at layout me) st (d.seen disk) × (ListsStand layout st → ⊥)) = λ told.
     let counted = subst (λ (s : Shape). IsCounted s (d.seen disk) c.in-Ok.store.state) same (c.in-Ok.ensures.found told) in
     inr (
       counted.before,
       counted.found,
-      λ first. c.if-not-is_first_view.ensures.later refl (subst (λ (st : StateOf Version). IsFirstView st) (sym counted.counted) first),
+      λ first. c.if-not-do_lists_stand.ensures.fall refl (subst (λ (st : StateOf Version). ListsStand layout st) (sym counted.counted) first),
     ) in
     search (rules, opens, not_a_store)
 
@@ -68,10 +68,10 @@ invariant_of-result g c =
     let same : shape_of me.0 c.block.result c.records.result ≡ shape_at layout me = λ i. shape_of me.0 (c.block.ensures i)
     (c.records.ensures.value i) in
     record {
-      shape_is = c.in-Ok.ensures.shape ∙ same ∙ ap (λ (brick : BrickId). shape_at layout brick) (sym c.new-calls.ensures.me);
-      boot = c.new-calls.ensures.boot ∙ c.boot.ensures;
-      first = c.if-not-is_first_view.ensures.first refl;
-      open_calls = c.new-calls.ensures.calls layout;
+      shape_is = c.in-Ok.ensures.shape ∙ same ∙ ap (λ (brick : BrickId). shape_at layout brick) (sym c.new-work.ensures.me);
+      boot = c.new-work.ensures.boot ∙ c.boot.ensures;
+      lists = c.if-not-do_lists_stand.ensures.stand refl;
+      work_is = c.new-work.ensures.of layout;
     }
 
 pub returns : goal.returns
@@ -83,18 +83,18 @@ returns g c =
     let same : shape_of me.0 c.block.result c.records.result ≡ shape_at layout me = λ i. shape_of me.0 (c.block.ensures i)
     (c.records.ensures.value i) in
     let store = c.in-Ok.store in
-    let calls = c.new-calls.result in
+    let work = c.new-work.result in
     let found : d.tells → IsCounted (shape_at layout me) (d.seen disk) store.state = λ told.
     subst (λ (s : Shape). IsCounted s (d.seen disk) store.state) same (c.in-Ok.ensures.found told) in
-    let state : d.tells → (before : Node) → ImageShows layout me before (d.seen disk) → state_of (running layout calls store) ≡ restarted 1 before =
+    let state : d.tells → (before : Node) → ImageShows layout me before (d.seen disk) → state_of (running layout work store) ≡ restarted 1 before =
     λ told before shows.
-    restarts_so layout me calls store c.boot.result before (d.seen disk) (c.new-calls.ensures.boot ∙ c.boot.ensures) c.boot.ensures
-    c.new-calls.ensures.state shows (found told) in
-    let stands : d.tells → Stands d (ImageShows layout me (state_of (running layout calls store))) store.disk = λ told.
-    subst (λ (brick : BrickId). Stands d (ImageShows layout brick (state_of (running layout calls store))) store.disk) c.new-calls.ensures.me
-    (shown_so d layout calls store store.disk (invariant_of-result g c) (c.in-Ok.ensures.stands told)) in
+    restarts_so layout me work store c.boot.result before (d.seen disk) (c.new-work.ensures.boot ∙ c.boot.ensures) c.boot.ensures
+    c.new-work.ensures.state shows (found told) in
+    let stands : d.tells → Stands d (ImageShows layout me (state_of (running layout work store))) store.disk = λ told.
+    subst (λ (brick : BrickId). Stands d (ImageShows layout brick (state_of (running layout work store))) store.disk) c.new-work.ensures.me
+    (shown_so d layout work store store.disk (invariant_of-result g c) (c.in-Ok.ensures.stands told)) in
     let opens = opens_so d layout me disk store.disk Whole (subst (λ (s : Shape). Opens d s disk store.disk Whole) same c.in-Ok.ensures.opens) in
-    let listed : d.tells → IsListedOnOpening (shape_at layout me) (d.seen disk) (state_of (running layout calls store)).live store.listed = λ told.
-    subst (λ (n : ℕ). IsListedOnOpening (shape_at layout me) (d.seen disk) n store.listed) (live_seen layout calls store)
+    let listed : d.tells → IsListedOnOpening (shape_at layout me) (d.seen disk) (state_of (running layout work store)).live store.listed = λ told.
+    subst (λ (n : ℕ). IsListedOnOpening (shape_at layout me) (d.seen disk) n store.listed) (live_seen layout work store)
     (subst (λ (s : Shape). IsListedOnOpening s (d.seen disk) (live store.state) store.listed) (c.in-Ok.ensures.shape ∙ same) (c.in-Ok.ensures.listed told)) in
     search (rules, found, state, stands, opens, listed)

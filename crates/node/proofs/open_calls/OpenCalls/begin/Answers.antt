@@ -12,7 +12,7 @@ use Rattle.coord_phase.specs.Operations as phased
 use Rattle.coord_phase.specs.Operations.{group_in_view, first_op}
 use Rattle.node.specs.declared.operations.Operation.{Operation}
 use Rattle.node.specs.Operations.{coordinator_of}
-use Rattle.node.specs.States.{KeptParts, state_with, IsAt}
+use Rattle.node.specs.States.{OtherParts, state_with, IsAt}
 use Rattle.node.proofs.States.{same_states, on_err}
 use Rattle.node.proofs.Tables.{shown_after, same_calls, each_after, each_same}
 use Rattle.node.proofs.Sent.{made_is}
@@ -24,17 +24,21 @@ returns-in_err-keep_open-in-Ok-clause-err c =
     let m = c.args.self.now.operations in
     let n = c.keep_open.new.values in
     let entries = c.in_err-keep_open-in-Ok.ensures.err in
-    let same : (parts : KeptParts) → record (state_with parts c.args.self.now) {
+    let same : (parts : OtherParts) → record (state_with parts c.args.self.now) {
       busy = btree_map_len n;
       calls = λ k. option_map coordinator_of
           (get nat_cmp n k);
     } ≡ state_with parts c.args.self.now =
-    λ parts. same_states _ _ refl refl refl (ap length entries) refl (λ g. refl) (λ g. refl) (λ g e s. refl) (λ k. ap (option_map coordinator_of) (same_calls m n entries k)) in
+    λ parts. same_states _ _ refl refl refl refl (ap length entries) refl (λ g e. refl) (λ g. refl) (λ g. refl) (λ g e s. refl) (λ k. ap (option_map coordinator_of) (same_calls m n entries k)) refl refl in
     on_err _ same
 
-pub returns-in_err-keep_open-in-Ok-clause-node : goal.returns-in_err-keep_open-in-Ok-clause-node
-returns-in_err-keep_open-in-Ok-clause-node c =
-    each_same (λ k (operation : Operation). IsAt c.args.layout.now k operation) c.args.self.now.operations c.keep_open.new.values c.in_err-keep_open-in-Ok.ensures.err c.requires.node
+pub returns-in_err-keep_open-in-Ok-clause-same : goal.returns-in_err-keep_open-in-Ok-clause-same
+returns-in_err-keep_open-in-Ok-clause-same c = record {
+  me = refl;
+  boot = refl;
+  of = λ of.
+      each_same (λ k (operation : Operation). IsAt c.args.layout.now k operation) c.args.self.now.operations c.keep_open.new.values c.in_err-keep_open-in-Ok.ensures.err of;
+}
 
 pub returns-in_ok-keep_open-in-Ok-clause-begun : goal.returns-in_ok-keep_open-in-Ok-clause-begun
 unfolding state_with
@@ -51,21 +55,20 @@ returns-in_ok-keep_open-in-Ok-clause-begun c = λ parts.
     made_is me view.number c.args.now before.boot before.known c.in-Some.stamp c.requires.known (sym c.fresh_stamp.ensures ∙ c.in-Some.is) in
     let call : CallId = record { boot = c.args.self.now.stamps.boot; seq = seq } in
     let same : coordinator_of operation
-    ≡ coordinator_in (group_in_view layout view.members c.args.ask.now.group.0) view.number me c.args.now before c.args.ask.now =
+    ≡ coordinator_in (group_in_view layout view.members c.args.ask.now.group.0) view me c.args.now before c.args.ask.now =
     ap (λ (op : phased.Operation). op.state) c.in-Ok.ensures.operation
     ∙ (λ i. (first_op layout view call c.args.ask.now (stamp i)).state) in
     record {
       packets = c.in-Ok.ensures.sends me ∙ ap (phase_packets (coding layout) me) same;
       seq = refl;
-      state_is = same_states _ _ refl refl (ap (λ (t : Stamp). t.time) stamp)
-          c.in_ok-keep_open-in-Ok.ensures.opened.count
-          refl (λ g. refl) (λ g. refl) (λ g e s. refl)
+      state_is = same_states _ _ refl refl (ap (λ (t : Stamp). t.time) stamp) refl
+          c.in_ok-keep_open-in-Ok.ensures.opened.count refl (λ g e. refl) (λ g. refl) (λ g. refl) (λ g e s. refl)
           (λ k. shown_after coordinator_of m n seq (Some operation) c.in_ok-keep_open-in-Ok.ensures.opened.calls k
-          ∙ ap (λ (o : Coordinator). put (λ j. option_map coordinator_of (get nat_cmp m j)) seq (Some o) k) same);
+          ∙ ap (λ (o : Coordinator). put (λ j. option_map coordinator_of (get nat_cmp m j)) seq (Some o) k) same) refl refl;
     }
 
-pub returns-in_ok-keep_open-in-Ok-clause-node : goal.returns-in_ok-keep_open-in-Ok-clause-node
-returns-in_ok-keep_open-in-Ok-clause-node c =
+pub returns-in_ok-keep_open-in-Ok-clause-same : goal.returns-in_ok-keep_open-in-Ok-clause-same
+returns-in_ok-keep_open-in-Ok-clause-same c =
     let layout = c.args.layout.now in
     let operation : Operation = c.in-Ok.operation in
     let seq = c.args.self.now.seq + 1 in
@@ -74,9 +77,14 @@ returns-in_ok-keep_open-in-Ok-clause-node c =
       seq = ap (λ (op : phased.Operation). op.state.call.seq) c.in-Ok.ensures.operation;
       is_operation = ap (λ (op : phased.Operation). op.block) c.in-Ok.ensures.operation;
     } in
-    each_after (λ k (op : Operation). IsAt layout k op) c.args.self.now.operations c.keep_open.new.values seq
-    (Some operation) c.in_ok-keep_open-in-Ok.ensures.opened.calls c.requires.node
-    (λ op is. let same : operation ≡ op = cc in subst (λ (o : Operation). IsAt layout seq o) same at)
+    record {
+      me = refl;
+      boot = refl;
+      of = λ of.
+          each_after (λ k (op : Operation). IsAt layout k op) c.args.self.now.operations c.keep_open.new.values seq
+          (Some operation) c.in_ok-keep_open-in-Ok.ensures.opened.calls of
+          (λ op is. let same : operation ≡ op = cc in subst (λ (o : Operation). IsAt layout seq o) same at);
+    }
 
 pub returns-in-Err : goal.returns-in-Err
 returns-in-Err c = search rules

@@ -17,37 +17,11 @@ use Rattle.node.specs.declared.operations.Operation.{Operation}
 use Rattle.node.specs.Operations.{shown_of, coordinator_of}
 use Rattle.node.specs.Outcomes.{Outcome}
 use Rattle.node.specs.Decisions.{or_waits, known_by, left_by, left_open, CarriesOut}
-use Rattle.node.specs.States.{KeptParts, state_with, IsAt}
+use Rattle.node.specs.States.{OtherParts, state_with, IsAt}
 use Rattle.node.proofs.States.{steps_as, same_states, on_err}
 use Rattle.node.proofs.Tables.{shown_after, each_after}
-use Rattle.node.proofs.Replied.{put_held, no_call, replied_is, busy_after, does_node, does_send, does_tell, does_answer, calls_left, at_if_open}
+use Rattle.node.proofs.Replied.{put_held, replied_is, busy_after, does_node, does_send, does_tell, does_answer, does_report, calls_left, at_if_open}
 use Rattle.node.proofs.open_calls.OpenCalls.on_reply.Goals as goal
-
-pub returns-in_default : goal.returns-in_default
-unfolding state_with
-returns-in_default c =
-    record {
-      step = λ layout of parts.
-          let before : Node = state_with parts c.args.self.now in
-          let same = c.get_mut.follows.holds-at-none in
-          steps_as c.args.self.now.me _ _ _ c.nothing.result
-          (no_call layout c.args.self.now.me c.args.now c.args.packet.now.from before c.args.call c.args.reply.now
-          (ap (option_map coordinator_of) (sym c.in_default.ensures.value)))
-          (record {
-            packets = ap (λ (outs : Outcome). packets_from c.args.self.now.me outs.messages) c.nothing.ensures;
-            told = ap (λ (outs : Outcome). outs.told) c.nothing.ensures;
-            answers = ap (λ (outs : Outcome). outs.answers) c.nothing.ensures;
-            state_is = same_states _ (with_known before (known_after before.known c.args.reply.now)) c.after_reply-stamps.ensures.boot refl
-                c.after_reply-stamps.ensures.known (ap btree_map_len same) refl (λ g. refl) (λ g. refl) (λ g e s. refl)
-                (λ k. ap (λ (m : BTreeMap ℕ Operation). option_map coordinator_of (get nat_cmp m k)) same);
-          });
-      few = omega (arith, ap (λ (outs : Outcome). length outs.messages) c.nothing.ensures);
-      err = tt;
-      node = λ layout of.
-          λ k operation is. of k operation (ap (λ (m : BTreeMap ℕ Operation). get nat_cmp m k) (sym c.get_mut.follows.holds-at-none) ∙ is);
-      me = refl;
-      boot = c.after_reply-stamps.ensures.boot;
-    }
 
 pub returns-in_err-outs-clause-err : goal.returns-in_err-outs-clause-err
 unfolding state_with
@@ -59,29 +33,33 @@ returns-in_err-outs-clause-err c =
     let held : f c.args.call.seq ≡ Some (coordinator_of after) =
     ap (option_map coordinator_of) (sym c.in-Some.ensures.value) ∙ ap (λ (k : Coordinator). Some k) (sym c.in_err-outs.ensures.same) in
     let now = c.get_mut.follows.lender after in
-    let same : (parts : KeptParts) → record (state_with parts c.args.self.now) {
+    let same : (parts : OtherParts) → record (state_with parts c.args.self.now) {
       busy = btree_map_len now;
       calls = λ k. option_map coordinator_of (get nat_cmp now k);
     } ≡ state_with parts c.args.self.now =
-    λ parts. same_states _ _ refl refl refl written.2 refl (λ g. refl) (λ g. refl) (λ g e s. refl)
+    λ parts. same_states _ _ refl refl refl refl written.2 refl (λ g e. refl) (λ g. refl) (λ g. refl) (λ g e s. refl)
     (λ k. shown_after coordinator_of m now c.args.call.seq (Some after) (written.3 (search rules)).0 k
-    ∙ sym (put_held f c.args.call.seq (Some (coordinator_of after)) k (nat_eq k c.args.call.seq) held refl)) in
+    ∙ sym (put_held f c.args.call.seq (Some (coordinator_of after)) k (nat_eq k c.args.call.seq) held refl)) refl refl in
     on_err _ same
 
-pub returns-in_err-outs-clause-node : goal.returns-in_err-outs-clause-node
-returns-in_err-outs-clause-node c = λ layout of.
-    let seq = c.args.call.seq in
-    let after = c.on_reply.new.self in
-    let written = c.get_mut.follows.holds after in
-    let was = of seq c.in-Some.open.now (sym c.in-Some.ensures.value) in
-    let at : IsAt layout seq after =
-    record {
-      seq = ap (λ (k : Coordinator). k.call.seq) c.in_err-outs.ensures.same ∙ was.seq;
-      is_operation = c.in_err-outs.ensures.block ∙ was.is_operation;
-    } in
-    each_after (λ k (operation : Operation). IsAt layout k operation) c.args.self.now.operations (c.get_mut.follows.lender after) seq (Some after)
-    (written.3 (search rules)).0 of
-    (λ operation is. let same : after ≡ operation = cc in subst (λ (o : Operation). IsAt layout seq o) same at)
+pub returns-in_err-outs-clause-same : goal.returns-in_err-outs-clause-same
+returns-in_err-outs-clause-same c = λ layout. record {
+  me = refl;
+  boot = refl;
+  of = λ of.
+      let seq = c.args.call.seq in
+      let after = c.on_reply.new.self in
+      let written = c.get_mut.follows.holds after in
+      let was = of seq c.in-Some.open.now (sym c.in-Some.ensures.value) in
+      let at : IsAt layout seq after =
+      record {
+        seq = ap (λ (k : Coordinator). k.call.seq) c.in_err-outs.ensures.same ∙ was.seq;
+        is_operation = c.in_err-outs.ensures.block ∙ was.is_operation;
+      } in
+      each_after (λ k (operation : Operation). IsAt layout k operation) c.args.self.now.operations (c.get_mut.follows.lender after) seq (Some after)
+      (written.3 (search rules)).0 of
+      (λ operation is. let same : after ≡ operation = cc in subst (λ (o : Operation). IsAt layout seq o) same at);
+}
 
 pub returns : goal.returns
 unfolding state_with
@@ -124,32 +102,37 @@ returns c =
             packets = carried.packets me ∙ sym (does_send layout me before known k next);
             told = carried.told ∙ sym (does_tell layout me before known k next);
             answers = carried.answers ∙ sym (does_answer layout me before known k next);
+            reports = carried.reports ∙ sym (does_report layout me before known k next);
             state_is = same_states _ _
                 (c.on_reply.ensures.boot ∙ c.after_reply-stamps.ensures.boot)
                 refl
                 (carried.knows
                 ∙ ap (λ (t : ℕ). known_by t (or_waits k next)) c.after_reply-stamps.ensures.known)
-                (left.1 ∙ ap (λ (answers : List Answered). busy_after answers before.busy) carried.answers) refl (λ g. refl) (λ g. refl) (λ g e s. refl)
+                refl
+                (left.1 ∙ ap (λ (answers : List Answered). busy_after answers before.busy) carried.answers)
+                refl (λ g e. refl) (λ g. refl) (λ g. refl) (λ g e s. refl)
                 (λ q. shown_after coordinator_of m left_calls call.seq (left_open outs.answers after) left.0 q
                 ∙ ap (λ (o : Option Coordinator). put f call.seq o q) (sym carried.left)
-                ∙ ap (λ (s : ℕ). put f s (left_by (or_waits k next)) q) (sym at.seq))
+                ∙ ap (λ (s : ℕ). put f s (left_by (or_waits k next)) q) (sym at.seq)) refl refl
                 ∙ sym (does_node layout me before known k next);
           });
       few = c.in_ok-outs.ensures.few;
       err = tt;
-      node = λ layout of.
-          let seq = c.args.call.seq in
-          let m = c.args.self.now.operations in
-          let op : Operation = c.in-Some.open.now in
-          let after : Operation = c.on_reply.new.self in
-          let outs : Outcome = c.in_ok-outs.outs in
-          let written = c.get_mut.follows.holds after in
-          let left = calls_left outs.answers m (c.get_mut.follows.lender after) c.close_answered.new.values seq after (written.3 (search rules)).0 written.2
-          c.close_answered.ensures.calls in
-          let at : IsAt layout seq op = of seq op (sym c.in-Some.ensures.value) in
-          let carried = c.in_ok-outs.ensures.step layout at.is_operation in
-          each_after (λ k (operation : Operation). IsAt layout k operation) m c.close_answered.new.values seq (left_open outs.answers after) left.0 of
-          (λ operation is. at_if_open layout seq op after operation outs.answers at carried.keeps carried.block is);
-      me = refl;
-      boot = c.on_reply.ensures.boot ∙ c.after_reply-stamps.ensures.boot;
+      same = λ layout. record {
+        me = refl;
+        boot = c.on_reply.ensures.boot ∙ c.after_reply-stamps.ensures.boot;
+        of = λ of.
+            let seq = c.args.call.seq in
+            let m = c.args.self.now.operations in
+            let op : Operation = c.in-Some.open.now in
+            let after : Operation = c.on_reply.new.self in
+            let outs : Outcome = c.in_ok-outs.outs in
+            let written = c.get_mut.follows.holds after in
+            let left = calls_left outs.answers m (c.get_mut.follows.lender after) c.close_answered.new.values seq after (written.3 (search rules)).0 written.2
+            c.close_answered.ensures.calls in
+            let at : IsAt layout seq op = of seq op (sym c.in-Some.ensures.value) in
+            let carried = c.in_ok-outs.ensures.step layout at.is_operation in
+            each_after (λ k (operation : Operation). IsAt layout k operation) m c.close_answered.new.values seq (left_open outs.answers after) left.0 of
+            (λ operation is. at_if_open layout seq op after operation outs.answers at carried.keeps carried.block is);
+      };
     }

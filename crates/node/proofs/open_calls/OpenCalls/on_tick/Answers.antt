@@ -7,19 +7,19 @@ use Rattle.std.specs.BTreeMap.{get, values}
 use Rattle.std.specs.Ordering.{nat_cmp}
 use Rattle.std.proofs.lemmas.List.{append-nil}
 use Rattle.std.proofs.lemmas.Map.Iter.{rest_all}
-use Rattle.protocol.specs.Nodes.{resent, ticked}
+use Rattle.protocol.specs.Nodes.{resent}
 use Rattle.stripe_code.specs.Codes.{coding}
-use Rattle.coord_phase.specs.Messages.{packets_from, phase_messages}
+use Rattle.coord_phase.specs.Messages.{packets_from}
 use Rattle.node.specs.declared.operations.Operation.{Operation}
-use Rattle.node.specs.Operations.{shown_of, coordinator_of, IsOperationOf}
+use Rattle.node.specs.Operations.{coordinator_of, IsOperationOf}
 use Rattle.node.specs.States.{state_with}
 use Rattle.node.proofs.Ticks.{IsWithin, values_by_key, all_values}
-use Rattle.node.proofs.Resending.{all_send_again, resent_by_key, resent_of}
+use Rattle.node.proofs.Resending.{sends_again, all_send_again, resent_by_key, resent_of}
 use Rattle.node.proofs.open_calls.OpenCalls.on_tick.Goals as goal
 
 pub loop-operation-init : goal.loop-operation-init
 loop-operation-init c =
-    let sends = λ (op : Operation). phase_messages (shown_of op) in
+    let sends = λ (op : Operation). sends_again op in
     let left : c.into_iter-operation-iterator.result ≡ values c.args.self.now.operations = c.into_iter-operation-iterator.ensures.into_iter_gives
     ∙ c.values-operation-items.ensures.rest in
     let same = ap length c.into_iter-operation-iterator.ensures.into_iter_gives in
@@ -29,10 +29,10 @@ loop-operation-init c =
     }
 
 pub returns-clause-packets : goal.returns-clause-packets
-unfolding ticked state_with
+unfolding state_with
 returns-clause-packets c = λ layout parts calls_of.
     let node = c.args.self.now in
-    let sends = λ (op : Operation). phase_messages (shown_of op) in
+    let sends = λ (op : Operation). sends_again op in
     let calls = λ (k : ℕ). option_map coordinator_of (get nat_cmp node.operations k) in
     let within : IsWithin node.operations node.seq = record { ordered = c.values-operation-items.ensures.ordered; none = node.from_one; fresh = node.fresh } in
     let none : c.loop-operation.operation-iterator ≡ [] =

@@ -22,4 +22,4 @@ returns-clause-answered c w tells up of =
     (c.push_reserved.ensures.items
     ∙ ap (λ p. c.args.self.now.marks.items ++ End p c.in-Some-number.operation one.answer ∷ [])
     (c.len-position.ensures ∙ c.args.self.now.marks.ok.0))
-    c.note_answer.ensures c.note_answer.auto.operations refl refl)
+    c.note_answer.ensures c.note_answer.auto.operations refl refl refl)

@@ -7,4 +7,4 @@ pub returns-clause-delivered : goal.returns-clause-delivered
 returns-clause-delivered c w tells = tells_delivered c.args.self.now _ w c.args.number refl c.note.ensures tells
 
 pub returns-clause-room : goal.returns-clause-room
-returns-clause-room c = record { sent = c.requires.room.sent; marks = c.requires.room.marks; operations = c.requires.room.operations }
+returns-clause-room c = record { sent = c.requires.room.sent; marks = c.requires.room.marks; reports = c.requires.room.reports; operations = c.requires.room.operations }

@@ -5,8 +5,8 @@ use Rattle.world.proofs.histories.History.expect_call.Goals as goal
 
 pub returns-in_err-reserve-clause-same : goal.returns-in_err-reserve-clause-same
 returns-in_err-reserve-clause-same c w tells =
-    tells_same c.make_room.new.self _ w refl (λ k. refl) refl refl c.reserve.ensures.same (c.make_room.ensures.same w tells)
+    tells_same c.make_room.new.self _ w refl (λ k. refl) refl refl refl c.reserve.ensures.same (c.make_room.ensures.same w tells)
 
 pub returns-clause-same : goal.returns-clause-same
 returns-clause-same c w tells =
-    tells_same c.make_room.new.self _ w refl (λ k. refl) refl refl c.reserve.ensures.same (c.make_room.ensures.same w tells)
+    tells_same c.make_room.new.self _ w refl (λ k. refl) refl refl refl c.reserve.ensures.same (c.make_room.ensures.same w tells)

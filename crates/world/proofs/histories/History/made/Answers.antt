@@ -10,7 +10,7 @@ returns-in-Some-clause-made c w tells up of =
     (number_is c.args.self.now w c.args.brick.0 c.args.seq c.in-Some.number tells up of.0 of.1 c.in-Some.ensures)
     c.deref_mut.ensures.value
     (with_items_is c.args.self.now.operations c.note_made.new.operations (c.note_made.auto.operations ∙ c.deref_mut.ensures.len))
-    refl refl c.note_made.ensures c.note_made.auto.operations refl refl
+    refl refl c.note_made.ensures c.note_made.auto.operations refl refl refl
 
 pub returns-in_default-clause-made : goal.returns-in_default-clause-made
 returns-in_default-clause-made c w tells up of = absurd (has_number c.args.self.now w c.args.brick.0 c.args.seq tells up of.0 of.1 c.in_default.ensures)

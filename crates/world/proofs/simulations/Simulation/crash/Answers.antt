@@ -26,7 +26,7 @@ stop_brick-requires c =
 
 pub returns-in-None-clause-ok : goal.returns-in-None-clause-ok
 returns-in-None-clause-ok c = record {
-  shows = λ w shows.
+  shows = λ w reached shows.
       (shows_still c.args.layout.now c.args.self.now w _ (happens_unstopped (coding c.args.layout.now) w (brick_of c.args.brick)
       (down_at c.args.layout.now _ _ c.args.brick (brick_of c.args.brick) c.deref.ensures.value refl c.in-None.ensures w shows.bricks)) shows);
   outcome_is = λ w shows.
@@ -37,7 +37,7 @@ returns-in-None-clause-ok c = record {
 
 pub returns-clause-ok : goal.returns-clause-ok
 returns-clause-ok c = record {
-  shows = λ w shows.
+  shows = λ w reached shows.
       (let found =
       up_at _ _ c.args.brick (brick_of c.args.brick) c.in-Some.brick c.deref.ensures.value refl c.in-Some.ensures
       in

@@ -6,7 +6,8 @@ use Rattle.messages.specs.declared.packets.Packet.{Packet}
 use Rattle.node.specs.Outcomes.{Outcome as Sent}
 use Rattle.stripe_code.specs.Codes.{coding}
 use Rattle.protocol.specs.Nodes.{NodeStep, put, received}
-use Rattle.protocol.specs.Worlds.{World, is_brick, is_up, packet_of, replies_with, world_stepped, world_stopped}
+use Rattle.protocol.specs.Worlds.{World, is_brick, is_up, packet_of, world_stepped, world_stopped}
+use Rattle.protocol.proofs.Events.{world_counting}
 use Rattle.world.specs.Disks.{KeepsOthers}
 use Rattle.world.specs.Shown.{HandledAs, HandledWhole, HandledPart, Tells, disks_of}
 use Rattle.world.specs.declared.deliveries.Deliveries.{Deliveries}
@@ -33,7 +34,7 @@ some_number packets (suc k) packet is = omega arith
 -- the room that was made, and the notes that no message was delivered, tell nothing
 still : (old new : History) (w : World) → ((w : World) → Tells old w → Tells new w) → (d : Deliveries)
     → ((k : ℕ) → get_or d.reached.items k false ≡ get_or new.delivered.reached.items k false) → Tells old w → Tells (record new { delivered = d }) w
-still old new w same d reached tells = tells_same new (record new { delivered = d }) w refl reached refl refl (λ i. refl) (same w tells)
+still old new w same d reached tells = tells_same new (record new { delivered = d }) w refl reached refl refl refl (λ i. refl) (same w tells)
 
 pub returns-in_err-make_room-clause-err : goal.returns-in_err-make_room-clause-err
 returns-in_err-make_room-clause-err c =
@@ -97,7 +98,7 @@ returns-in-Some-2-clause-ok c w reached shows =
     let found =
     up_at _ _ c.from.result c.in-Some.packet.now.to c.in-Some-find_up.to c.deref-2.ensures.value c.from.ensures c.in-Some-find_up.ensures
     in
-    let v : World = record w { replies = replies_with (coding c.args.layout.now) w packet; reached = put w.reached c.args.message true } in
+    let v : World = world_counting (coding c.args.layout.now) w c.args.message packet in
     let step : NodeStep = received (coding c.args.layout.now) to (w.clocks to.0) (w.nodes to.0) packet in
     let did : HandledWhole c.args.layout.now w to packet c.args.fault c.args.self.now.bricks.items c.hand_over.new.bricks.items c.in-Some-2.outs =
     subst (λ (outs : Option Sent). HandledAs c.args.layout.now w to packet c.args.fault c.args.self.now.bricks.items c.hand_over.new.bricks.items (Ok outs))
@@ -115,7 +116,7 @@ returns-in-Some-2-clause-ok c w reached shows =
     (subst (λ (b : BrickId). HandledWhole c.args.layout.now w b packet c.args.fault c.args.self.now.bricks.items c.hand_over.new.bricks.items c.in-Some-2.outs) found.0 did)
     (subst (λ (b : BrickId). Tells c.step.new.self (world_stepped (coding c.args.layout.now) v b
     (received (coding c.args.layout.now) b (w.clocks b.0) (w.nodes b.0) packet))) found.0
-    (c.step.ensures (coding c.args.layout.now) step did.packets did.told did.answers v
+    (c.step.ensures (coding c.args.layout.now) step did.packets did.told did.answers did.reports v
     (tells_replies c.args.layout.now _ w c.args.message packet
     (c.deliver.ensures.delivered w (still c.args.self.now.history c.make_room.new.self w c.make_room.ensures.same _ c.expect.ensures.same shows.history)))
     (and_parts (is_brick c.args.layout.now to) (w.up to.0) up).1 opens))

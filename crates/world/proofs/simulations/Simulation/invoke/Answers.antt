@@ -15,7 +15,7 @@ use Rattle.world.proofs.simulations.Simulation.invoke.Goals as goal
 
 pub returns-in-None-clause-ok : goal.returns-in-None-clause-ok
 returns-in-None-clause-ok c = record {
-  shows = λ w shows. shows_still c.args.layout.now c.args.self.now w _ (happens_down (coding c.args.layout.now) w _ _
+  shows = λ w reached shows. shows_still c.args.layout.now c.args.self.now w _ (happens_down (coding c.args.layout.now) w _ _
       (down_at c.args.layout.now _ _ c.args.brick (brick_of c.args.brick) c.deref.ensures.value refl c.in-None.ensures w shows.bricks)) shows;
   outcome_is = λ w shows.
       sym (ap refused_or_begun (refusal_down (coding c.args.layout.now) w (brick_of c.args.brick) (ask_of c.args.group c.args.stripe (op_of c.args.access.now))
@@ -25,7 +25,7 @@ returns-in-None-clause-ok c = record {
 
 pub returns-in-None-place_of-clause-ok : goal.returns-in-None-place_of-clause-ok
 returns-in-None-place_of-clause-ok c = record {
-  shows = λ w shows.
+  shows = λ w reached shows.
       shows_still c.args.layout.now c.args.self.now w _ (happens_refused (coding c.args.layout.now) w _ _ _ (c.in-None-place_of.ensures.none _ _)) shows;
   outcome_is = λ w shows.
       (let found =

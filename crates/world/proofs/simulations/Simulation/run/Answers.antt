@@ -1,12 +1,12 @@
 -- Each line is its events.
-use Rattle.std.proofs.Common.{None, refl, sym, ap, ◌∙◌, subst}
+use Rattle.std.proofs.Common.{ℕ, List, map, None, refl, sym, ap, ◌∙◌, subst}
 use Rattle.std.specs.Prelude.{IfOk, OnErr}
 use Rattle.std.proofs.lemmas.Result.{on_err_weaker}
 use Rattle.lines.specs.declared.forms.Line.{Line}
-use Rattle.lines.specs.declared.forms.Line.TheVariants.{Invoke, SetClock, Tick, Crash, Calm}
-use Rattle.protocol.specs.Worlds.{Invokes, Sets, Ticks, Stops}
-use Rattle.world.specs.Runs.{brick_of, ask_of, op_of}
-use Rattle.world.specs.Shown.{RunsLine, RefusesLine}
+use Rattle.lines.specs.declared.forms.Line.TheVariants.{Invoke, SetClock, Tick, Crash, Propose, Calm}
+use Rattle.protocol.specs.Worlds.{Invokes, Proposes, Sets, Ticks, Stops}
+use Rattle.world.specs.Runs.{brick_of, ask_of, group_no, member_no, op_of}
+use Rattle.world.specs.Shown.{TakesEvent, RunsLine, RefusesLine}
 use Rattle.world.specs.declared.simulations.Outcome.TheVariants.{Marks}
 use Rattle.world.proofs.DeliveryLemmas.{ok_each, takes_runs, nothing_comes, stays_refuses}
 use Rattle.world.proofs.simulations.Simulation.run.Goals as goal
@@ -27,6 +27,19 @@ returns-in-Invoke-clause-ok c =
 pub returns-in-Invoke-clause-err : goal.returns-in-Invoke-clause-err
 returns-in-Invoke-clause-err c =
     on_err_weaker c.invoke.result (stays_refuses c.args.layout.now c.args.self.now c.invoke.new.self c.args.line.now) c.invoke.ensures.err
+
+pub returns-in-Propose-clause-ok : goal.returns-in-Propose-clause-ok
+returns-in-Propose-clause-ok c =
+    subst (λ (line : Line). IfOk c.propose.result (RunsLine c.args.layout.now c.args.self.now c.propose.new.self line)) (sym c.in-Propose.is)
+    (ok_each c.propose.result _ _
+    (λ outcome. takes_runs c.args.layout.now c.args.self.now c.propose.new.self (Propose c.in-Propose.brick c.in-Propose.group c.in-Propose.members)
+    (Proposes (brick_of c.in-Propose.brick) (group_no c.in-Propose.group) (map member_no c.in-Propose.members)) outcome (λ w. refl) (λ w. tt))
+    (subst (λ (members : List ℕ). IfOk c.propose.result (TakesEvent c.args.layout.now c.args.self.now c.propose.new.self
+    (Proposes (brick_of c.in-Propose.brick) (group_no c.in-Propose.group) (map member_no members)))) c.as_slice.ensures c.propose.ensures.ok))
+
+pub returns-in-Propose-clause-err : goal.returns-in-Propose-clause-err
+returns-in-Propose-clause-err c =
+    on_err_weaker c.propose.result (stays_refuses c.args.layout.now c.args.self.now c.propose.new.self c.args.line.now) c.propose.ensures.err
 
 pub returns-in-Tick-clause-ok : goal.returns-in-Tick-clause-ok
 returns-in-Tick-clause-ok c =
@@ -76,9 +89,9 @@ returns-in-SetClock-clause-ok c =
 pub returns-in-Calm-clause-ok : goal.returns-in-Calm-clause-ok
 returns-in-Calm-clause-ok c =
     subst (λ (line : Line). IfOk c.calm.result (RunsLine c.args.layout.now c.args.self.now c.calm.new.self line))
-    (ap (Calm c.in-Calm.operation) c.as_slice.ensures ∙ sym c.in-Calm.is) c.calm.ensures.ok
+    (ap (Calm c.in-Calm.operation) c.as_slice-in-Calm.ensures ∙ sym c.in-Calm.is) c.calm.ensures.ok
 
 pub returns-in-Calm-clause-err : goal.returns-in-Calm-clause-err
 returns-in-Calm-clause-err c =
     subst (λ (line : Line). OnErr c.calm.result (RefusesLine c.args.layout.now c.args.self.now c.calm.new.self line))
-    (ap (Calm c.in-Calm.operation) c.as_slice.ensures ∙ sym c.in-Calm.is) c.calm.ensures.err
+    (ap (Calm c.in-Calm.operation) c.as_slice-in-Calm.ensures ∙ sym c.in-Calm.is) c.calm.ensures.err

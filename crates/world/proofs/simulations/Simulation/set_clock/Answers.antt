@@ -10,7 +10,7 @@ use Rattle.world.proofs.simulations.Simulation.set_clock.Goals as goal
 
 pub returns-then-brick-from : goal.returns-then-brick-from
 returns-then-brick-from c = record {
-  shows = λ w shows.
+  shows = λ w reached shows.
       (shows_still c.args.layout.now c.args.self.now w _
       (happens_unset (coding c.args.layout.now) w (brick_of c.args.brick) c.args.time (omega arith)) shows);
   outcome_is = λ w shows.
@@ -20,7 +20,7 @@ returns-then-brick-from c = record {
 
 pub returns : goal.returns
 returns c = record {
-  shows = λ w shows.
+  shows = λ w reached shows.
       (shows_set c.args.layout.now c.args.self.now _ w (brick_of c.args.brick) c.args.time (omega arith)
       (shows_clock c.args.layout.now c.args.self.now.bricks.items c.args.brick c.index_mut-brick.result.now c.args.time w
       (omega (arith, c.args.self.now.bricks.ok.0, c.requires)) c.index_mut-brick.ensures.value shows.bricks)

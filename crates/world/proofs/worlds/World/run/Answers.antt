@@ -8,7 +8,7 @@ use Rattle.world.specs.Standing.{run_of}
 use Rattle.world.specs.Steps.{RunsTo, LeavesSome}
 use Rattle.world.proofs.BrickListLemmas.{nodes_of}
 use Rattle.world.proofs.RunLaws.{run_reached}
-use Rattle.world.proofs.RunLemmas.{runs_to, stands_run, leaves_some, stands_left, disks_shown, marks_grow}
+use Rattle.world.proofs.RunLemmas.{runs_to, stands_run, leaves_some, stands_left, disks_shown, marks_grow, reports_grow}
 use Rattle.world.proofs.worlds.World.run.Goals as goal
 
 pub run-requires-clause-nodes : goal.run-requires-clause-nodes
@@ -75,6 +75,14 @@ returns-in-Ok-clause-marks c =
     subst (λ (r : Run). length (world_of r).marks
     ≤ length (world_of (record { layout = c.self.inside.layout; steps = c.with-self-inside.result.steps; disks = [] })).marks) c.self.view_is
     (marks_grow c.self.inside.layout c.self.inside.trail.steps c.with-self-inside.result.steps
+    (record { line = c.args.line.now; events = events }) [] [] grown)
+
+pub returns-in-Ok-clause-reports : goal.returns-in-Ok-clause-reports
+returns-in-Ok-clause-reports c =
+    let (events, comes, grown) = c.with-self-inside.ensures in
+    subst (λ (r : Run). length (world_of r).choices.reports
+    ≤ length (world_of (record { layout = c.self.inside.layout; steps = c.with-self-inside.result.steps; disks = [] })).choices.reports) c.self.view_is
+    (reports_grow c.self.inside.layout c.self.inside.trail.steps c.with-self-inside.result.steps
     (record { line = c.args.line.now; events = events }) [] [] grown)
 
 pub returns-in-Err-clause-err : goal.returns-in-Err-clause-err

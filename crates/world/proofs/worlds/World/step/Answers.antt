@@ -2,7 +2,7 @@
 use Rattle.std.proofs.Common.{length, sym, ap, ◌∙◌, subst}
 use Rattle.world.specs.Runs.{Run, world_of}
 use Rattle.world.specs.Disks.{ShowsDisks}
-use Rattle.world.proofs.RunLemmas.{text_is, disks_shown}
+use Rattle.world.proofs.RunLemmas.{rest_is, text_is, disks_shown}
 use Rattle.world.proofs.worlds.World.step.Goals as goal
 
 pub returns-clause-ok : goal.returns-clause-ok
@@ -13,11 +13,15 @@ returns-clause-ok c =
       is_line = sym c.in_ok-line.ensures ∙ c.in-Some.is;
       step = ran.step;
       runs = ran.runs;
-      text_is = text_is c.args.self.now c.run.new.self c.in-Some.line ran.step c.in_ok-outcome.outcome c.deref.result.now c.len-before.result
-          c.in_ok-print.field-0 ran.runs ran.prints
+      text_is = text_is c.args.self.now c.run.new.self c.in-Some.line ran.step c.in_ok-outcome.outcome _ _ c.in_ok-print.field-0 ran.runs ran.prints
+          (rest_is c.deref.result.now (world_of c.run.new.self).marks (world_of c.args.self.now).marks c.len-marks.result
           (c.deref.ensures.value ∙ c.self-2.invariant.shows.history.marks ∙ ap (λ (r : Run). (world_of r).marks) c.self-2.view_is)
-          (c.len-before.ensures ∙ c.self.inside.simulation.history.marks.ok.0
-          ∙ ap length (c.self.invariant.shows.history.marks ∙ ap (λ (r : Run). (world_of r).marks) c.self.view_is))
+          (c.len-marks.ensures ∙ c.self.inside.simulation.history.marks.ok.0
+          ∙ ap length (c.self.invariant.shows.history.marks ∙ ap (λ (r : Run). (world_of r).marks) c.self.view_is)))
+          (rest_is c.deref-2.result.now (world_of c.run.new.self).choices.reports (world_of c.args.self.now).choices.reports c.len-reports.result
+          (c.deref-2.ensures.value ∙ c.self-2.invariant.shows.history.reports ∙ ap (λ (r : Run). (world_of r).choices.reports) c.self-2.view_is)
+          (c.len-reports.ensures ∙ c.self.inside.simulation.history.reports.ok.0
+          ∙ ap length (c.self.invariant.shows.history.reports ∙ ap (λ (r : Run). (world_of r).choices.reports) c.self.view_is)))
           c.in_ok-print.ensures;
     }
 

@@ -1,0 +1,44 @@
+-- The brick, the group and the members.
+use Rattle.std.proofs.Common.{sym, ◌∙◌, refl}
+use Rattle.lines.specs.Grammar.{propose}
+use Rattle.lines.proofs.Arguments.{propose_none, two_and_rest}
+use Rattle.lines.proofs.forms.parse_propose.Goals as goal
+
+pub returns-in_default : goal.returns-in_default
+returns-in_default c = propose_none _ c.in_default.len_below
+
+pub returns-in_default-parse_number : goal.returns-in_default-parse_number
+unfolding propose
+returns-in_default-parse_number c = rw (two_and_rest _ c.in-len2-up.len_at_least, sym c.parse_number.ensures ∙ c.in_default-parse_number.is) refl
+
+pub returns-in_default-parse_number-2 : goal.returns-in_default-parse_number-2
+unfolding propose
+returns-in_default-parse_number-2 c =
+    rw (
+      two_and_rest _ c.in-len2-up.len_at_least,
+      sym c.parse_number.ensures ∙ c.in-Some.is,
+      sym c.parse_number-2.ensures ∙ c.in_default-parse_number-2.is,
+    )
+    refl
+
+pub returns-in_default-2 : goal.returns-in_default-2
+unfolding propose
+returns-in_default-2 c =
+    rw (
+      two_and_rest _ c.in-len2-up.len_at_least,
+      sym c.parse_number.ensures ∙ c.in-Some.is,
+      sym c.parse_number-2.ensures ∙ c.in-Some-parse_number.is,
+      sym c.in_ok-members.ensures ∙ c.in_default-2.is,
+    )
+    refl
+
+pub returns : goal.returns
+unfolding propose
+returns c =
+    rw (
+      two_and_rest _ c.in-len2-up.len_at_least,
+      sym c.parse_number.ensures ∙ c.in-Some.is,
+      sym c.parse_number-2.ensures ∙ c.in-Some-parse_number.is,
+      sym c.in_ok-members.ensures ∙ c.in-Some-2.is,
+    )
+    refl

@@ -1,0 +1,86 @@
+-- Whether a reply counts in what a brick has under way is what the machine says.
+use Rattle.std.proofs.Common.{◌≡◌, ℕ, Bool, true, false, ◌&&◌, Option, Some, None, is_some, refl, sym, ◌∙◌, ap, subst}
+use Rattle.std.specs.Option.{option_map}
+use Rattle.std.specs.Ordering.{nat_cmp}
+use Rattle.std.specs.BTreeMap.{get}
+use Rattle.std.proofs.lemmas.Bool.{and_parts}
+use Rattle.fab_base.specs.declared.identities.BrickId.{BrickId}
+use Rattle.fab_base.specs.declared.member_lists.View.{View}
+use Rattle.fab_base.specs.Layouts.{Group, Layout, group_of}
+use Rattle.messages.specs.declared.calls.Call.{Call}
+use Rattle.messages.specs.declared.packets.Message.TheVariants as message
+use Rattle.messages.specs.declared.replies.Reply.{Reply}
+use Rattle.brick_store.specs.Bricks.{Brick}
+use Rattle.protocol.specs.Coordinators as machine
+use Rattle.protocol.specs.Nodes.{Node, counts_here, may_teach}
+use Rattle.protocol.specs.Proposals.{seat_voting}
+use Rattle.protocol.specs.Views.{is_view, view_told}
+use Rattle.view_synod.specs.Proposers.{Proposing, counts}
+use Rattle.coord_phase.specs.Operations.{seat_told}
+use Rattle.node.specs.declared.open_work.OpenWork.{OpenWork}
+use Rattle.node.specs.declared.operations.Operation.{Operation}
+use Rattle.node.specs.declared.proposals.OpenProposal.{OpenProposal}
+use Rattle.node.specs.Moves.{counts_at, counts_with}
+use Rattle.node.specs.Operations.{shown_of, coordinator_of, IsOperationOf}
+use Rattle.node.specs.Proposals.{IsUnderWayOn, counts_in, proposal_in}
+use Rattle.node.specs.Proposers.{proposal_of}
+use Rattle.node.specs.Running.{running, state_of}
+use Rattle.node.specs.States.{IsWorkOf, parts_in, state_in, state_with}
+use Rattle.node.specs.Teaching.{is_taught}
+use Rattle.node.proofs.Views.{seen_so}
+
+module _ (layout : Layout) (from : BrickId) (call : Call) (told : Reply) where
+  -- in a proposal on the disk
+  in_proposer : (proposer : Option Proposing) → ((x : Proposing) → proposer ≡ Some x → x.bricks ≡ layout.bricks)
+      → counts proposer from.0 (message.Reply call told) ≡ counts_here layout from call told (proposal_of proposer) None
+  in_proposer None on = refl
+  in_proposer (Some x) on = ap (λ (bricks : ℕ). is_some (seat_voting bricks x.state from.0 call told)) (on x refl)
+
+  bricks_of : (proposer : Option Proposing) → option_map (λ (x : Proposing). x.bricks) proposer ≡ Some layout.bricks
+      → (x : Proposing) → proposer ≡ Some x → x.bricks ≡ layout.bricks
+  bricks_of proposer on x is =
+      let both : Some x.bricks ≡ Some layout.bricks = sym (ap (option_map (λ (y : Proposing). y.bricks)) is) ∙ on in
+      cc
+
+  in_proposal : (held : Option OpenProposal) → IsUnderWayOn layout.bricks held
+      → counts_in held from (message.Reply call told) ≡ counts_here layout from call told (proposal_in held) None
+  in_proposal None on = refl
+  in_proposal (Some held) on = in_proposer held.proposer (bricks_of held.proposer on)
+
+  -- in an operation of the layout, or, if there is none, in the proposal
+  in_either : (work : OpenWork) → IsUnderWayOn layout.bricks work.proposals.under_way → (held : Option Operation)
+      → ((op : Operation) → held ≡ Some op → IsOperationOf layout op)
+      → counts_with work from (message.Reply call told) held
+      ≡ counts_here layout from call told (proposal_in work.proposals.under_way) (option_map coordinator_of held)
+  unfolding seat_told
+  in_either work on None each = in_proposal work.proposals.under_way on
+  in_either work on (Some op) each =
+      ap (λ (block : ℕ). is_some (machine.counts_at block (coordinator_of op) from.0 call told)) (each op refl)
+
+  -- so it is at a brick
+  pub counts_so : {D : Type 0} (work : OpenWork) (store : Brick D) → IsWorkOf layout work → work.calls.stamps.boot ≡ store.state.boot
+      → (let node = state_of (running layout work store) in
+      counts_at work call.seq from (message.Reply call told) ≡ counts_here layout from call told node.proposal (node.calls call.seq))
+  unfolding state_with
+  counts_so work store is boot =
+      in_either work is.proposing (get nat_cmp work.calls.operations call.seq) (λ op held. (is.calls call.seq op held).is_operation)
+      ∙ ap (λ (n : Node). counts_here layout from call told n.proposal (n.calls call.seq)) (sym (seen_so layout work store boot))
+
+  -- a view that may keep its group is taught where the reply that tells it counts
+  pub taught_so : {D : Type 0} (work : OpenWork) (store : Brick D) → IsWorkOf layout work → work.calls.stamps.boot ≡ store.state.boot
+      → (view : View) → view_told told ≡ Some view → (group : Group) → group_of layout call.group.0 ≡ Some group
+      → is_taught layout (state_of (running layout work store)) from call told
+      ≡ (is_view group.m layout.bricks view && counts_at work call.seq from (message.Reply call told))
+  taught_so work store is boot view told_is group found =
+      let node = state_of (running layout work store) in
+      ap (λ (v : Option View). may_teach layout v (group_of layout call.group.0) && counts_here layout from call told node.proposal (node.calls call.seq)) told_is
+      ∙ ap (λ (g : Option Group). may_teach layout (Some view) g && counts_here layout from call told node.proposal (node.calls call.seq)) found
+      ∙ ap (λ (b : Bool). is_view group.m layout.bricks view && b) (sym (counts_so work store is boot))
+
+  -- a reply that teaches counts
+  pub taught_counts : {D : Type 0} (work : OpenWork) (store : Brick D) → IsWorkOf layout work → work.calls.stamps.boot ≡ store.state.boot
+      → is_taught layout (state_of (running layout work store)) from call told ≡ true → counts_at work call.seq from (message.Reply call told) ≡ true
+  taught_counts work store is boot taught =
+      let node = state_of (running layout work store) in
+      counts_so work store is boot
+      ∙ (and_parts (may_teach layout (view_told told) (group_of layout call.group.0)) (counts_here layout from call told node.proposal (node.calls call.seq)) taught).1

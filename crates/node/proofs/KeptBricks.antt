@@ -1,0 +1,62 @@
+-- A brick whose work went on, and whose store is as it was or has learnt a view, is one of its layout; and how it is halted by a fault.
+use Rattle.std.proofs.Common.{◌≡◌, Bool, false, Option, Result, Ok, Err, refl, sym, ◌∙◌, ap, subst}
+use Rattle.fab_base.specs.declared.identities.BrickId.{BrickId}
+use Rattle.fab_base.specs.Layouts.{Layout}
+use Rattle.messages.specs.declared.packets.Message.{Message}
+use Rattle.version_log.specs.Versions.{Version}
+use Rattle.brick_state.specs.States.{StateOf}
+use Rattle.brick_store.specs.Bricks.{Brick}
+use Rattle.replica.specs.declared.faults.ReplicaFault.{ReplicaFault}
+use Rattle.replica.specs.declared.faults.ReplicaFault.TheVariants as replica
+use Rattle.replica.specs.Handling as handling
+use Rattle.replica.specs.Parts.{ListsStand}
+use Rattle.replica.specs.Reactions.{IsStep}
+use Rattle.node.specs.declared.faults.NodeFault.{NodeFault}
+use Rattle.node.specs.declared.faults.NodeFault.TheVariants.{Halted}
+use Rattle.node.specs.declared.open_work.OpenWork.{OpenWork}
+use Rattle.node.specs.Faults.{fault_of, halted_after}
+use Rattle.node.specs.Running.{shape_at, IsBrickOf}
+use Rattle.node.specs.States.{IsSameWork}
+use Rattle.node.proofs.Requests.{follows_boot, is_me}
+
+-- work that went on twice went on
+pub same_work : (layout : Layout) (before mid after : OpenWork) → IsSameWork layout before mid → IsSameWork layout mid after → IsSameWork layout before after
+same_work layout before mid after first last =
+    record { me = last.me ∙ first.me; boot = last.boot ∙ first.boot; of = λ of. last.of (first.of of) }
+
+module _ {D : Type 0} (layout : Layout) (before after : OpenWork) (old new : Brick D) (is : IsBrickOf layout old.shape old.state before)
+    (same : IsSameWork layout before after) (shape : new.shape ≡ old.shape) where
+  -- over a store that is as it was
+  pub stays_brick : new.state ≡ old.state → IsBrickOf layout new.shape new.state after
+  stays_brick kept =
+      record {
+        shape_is = shape ∙ is.shape_is ∙ ap (shape_at layout) (sym same.me);
+        boot = same.boot ∙ is.boot ∙ ap (λ (st : StateOf Version). st.boot) (sym kept);
+        lists = subst (λ (st : StateOf Version). ListsStand layout st) (sym kept) is.lists;
+        work_is = same.of is.work_is;
+      }
+
+  -- over one that followed a message
+  pub follows_brick : (from : BrickId) (message : Message) (answer : Option Message)
+      → IsStep layout (handling.me_of old) from message old.state answer new.state → IsBrickOf layout new.shape new.state after
+  follows_brick from message answer handled =
+      let here = subst (λ (me : BrickId). IsStep layout me from message old.state answer new.state) (is_me layout before old from message is.shape_is) handled in
+      record {
+        shape_is = shape ∙ is.shape_is ∙ ap (shape_at layout) (sym same.me);
+        boot = same.boot ∙ follows_boot layout before old from message new answer here is.boot;
+        lists = here.lists is.lists;
+        work_is = same.of is.work_is;
+      }
+
+-- a fault of the store halts the brick as it does the store
+pub halts_as : (T Q : Type 0) (fault : ReplicaFault) (halted : Bool)
+    → handling.halted_after {A = Q} halted (Err fault) ≡ halted_after {T = T} halted (Err (fault_of fault))
+halts_as T Q replica.Disk halted = refl
+halts_as T Q replica.Halted halted = refl
+halts_as T Q replica.NoMemory halted = refl
+
+-- the store was halted where the brick's fault says so
+pub halted_fault : (fault : ReplicaFault) → fault_of fault ≡ Halted → fault ≡ replica.Halted
+halted_fault replica.Disk is = absurd cc
+halted_fault replica.Halted is = refl
+halted_fault replica.NoMemory is = absurd cc

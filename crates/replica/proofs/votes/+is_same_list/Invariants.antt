@@ -1,0 +1,6 @@
+-- The members that are left grow fewer.
+use Rattle.std.proofs.Common.{length}
+use Rattle.replica.proofs.votes.+is_same_list.Given as goal
+
+abbrev pub decreases-is_same_list : goal.decreases-is_same_list
+decreases-is_same_list l = length l.left.now
