@@ -32,7 +32,7 @@ use Rattle.protocol.specs.Replicas.{top_of, stamp_max, modified_block, is_wanted
 use Rattle.protocol.specs.declared.phases.Phase.{Phase}
 use Rattle.protocol.specs.declared.phases.Phase.TheVariants.{Looks, LooksAt, Orders, OrdersAt, Recovers, Descends, Modifies, Bases, Stores, LooksBack}
 use Rattle.protocol.specs.declared.phases.Counted.{Counted}
-use Rattle.protocol.specs.Coordinators.{Coordinator, answers_phase, has_seat, request_of, delta_at, old_bound, asked_group}
+use Rattle.protocol.specs.Coordinators.{Coordinator, answers_phase, has_seat, request_of, delta_at, old_bound, asked_group, looks_back}
 use Rattle.protocol.specs.Nodes.{Node, given_content, view_at}
 use Rattle.protocol.specs.Worlds.{World, Operation, zero_content}
 use Rattle.protocol.specs.Happenings.{writes}
@@ -222,6 +222,7 @@ pub record OrderReadSays (w : World) (stamps : Stamping) (i : ℕ) (call : Call)
   pub called : IsCalled w i call operation
   pub phase : Phase
   pub begun : IsBegun stamps i call.boot call.seq call.phase phase t
+  pub ahead : looks_back phase ≡ false
   pub look_is : look_of phase t ≡ Some look
   pub want_is : want_of phase ≡ want
   pub fits : FitsPhase phase operation.ask.op
@@ -410,10 +411,10 @@ abbrev pub AreOnce : List Counted → Type 0
 AreOnce [] = Unit {0}
 AreOnce (x ∷ counted) = (has_seat x.seat counted ≡ false) × AreOnce counted
 
--- Where an operation has made its version on a base: that is of its call's view, a quorum has held it, and the version's content is what it makes of the base's.
+-- Where an operation has made its version on a base: that is of its view, a quorum has held it, and the version's content is what it makes of the base's.
 pub record MadeOn (setting : Setting) (views : Views) (w : World) (c : Coordinator) (base : Stamp) : Type 0 where
   pub base_is : c.base ≡ Some base
-  pub of : view_of base ≡ c.call.view.0
+  pub of : view_of base ≡ c.stamp.view.0
   pub below : stamp_below base c.stamp ≡ true
   pub base_made : IsMadeOrFirst w c.ask.group.0 c.ask.stripe.0 base
   pub stands : Stands setting views w c.ask.group.0 c.ask.stripe.0 base

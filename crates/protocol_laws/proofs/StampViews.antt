@@ -316,12 +316,12 @@ NextIsOf (Makes d) = CallIsOf d
 NextIsOf next = Unit {0}
 
 -- an operation that waits
-waits_view : (c d : Coordinator) → CallIsOf c → d.stamp ≡ c.stamp → d.phase ≡ c.phase → d.call ≡ c.call → CallIsOf d
+pub waits_view : (c d : Coordinator) → CallIsOf c → d.stamp ≡ c.stamp → d.phase ≡ c.phase → d.call ≡ c.call → CallIsOf d
 waits_view c d is stamp phase call =
     ap (λ (z : Call). z.view) call ∙ is ∙ sym (ap (λ (p : Phase). asked_view c.stamp p) phase) ∙ sym (ap (λ (t : Stamp). asked_view t d.phase) stamp)
 
 -- one in its next phase
-next_view : (c d : Coordinator) → d.stamp.view ≡ c.stamp.view → d.call ≡ call_after c d.phase → CallIsOf d
+pub next_view : (c d : Coordinator) → d.stamp.view ≡ c.stamp.view → d.call ≡ call_after c d.phase → CallIsOf d
 next_view c d view call =
     ap (λ (z : Call). z.view) call ∙ sym (ap (λ (v : ViewNo). if looks_back d.phase then record { 0 = v.0 - 1 } else v) view)
 
@@ -460,13 +460,13 @@ absorbed_views setting me from to message node has is =
     (absorbed_kept setting me from to node message)
 
 -- an operation begins in its view
-first_ahead : (op : Op) → looks_back (first_phase op) ≡ false
+pub first_ahead : (op : Op) → looks_back (first_phase op) ≡ false
 first_ahead (ReadBlock j) = refl
 first_ahead (WriteBlock j bytes) = refl
 first_ahead ReadStripe = refl
 first_ahead (WriteStripe bytes) = refl
 
-begun_view : (c : Coordinator) → looks_back c.phase ≡ false → c.call.view ≡ c.stamp.view → CallIsOf c
+pub begun_view : (c : Coordinator) → looks_back c.phase ≡ false → c.call.view ≡ c.stamp.view → CallIsOf c
 begun_view c ahead same = same ∙ sym (ap (λ (b : Bool). if b then record { 0 = c.stamp.view.0 - 1 } else c.stamp.view) ahead)
 
 invoked_views : (setting : Setting) (me : BrickId) (now : ℕ) (node : Node) (ask : Ask) → NodeViews setting.layout node

@@ -107,10 +107,33 @@ pub view_between : (b d t : Stamp) (e : ℕ) → view_of b ≡ e → view_of t �
 unfolding stamp_below
 view_between b d t e low high above below = grind (arith, nat_tests)
 
+-- what is above a stamp of the view before another, and below the first stamp of that, is of the view before it
+pub view_before : (b d : Stamp) (e : ℕ) → 1 < e → view_of b ≡ e - 1 → stamp_below b d ≡ true → stamp_below d (floor_of e) ≡ true → view_of d ≡ e - 1
+unfolding stamp_below
+view_before b d e later low above =
+    cond_both (nat_lt 1 e) (record { view = record { 0 = e }; time = 0; brick = record { 0 = 0 }; boot = 0 }) first_stamp
+    (λ (z : Stamp). stamp_below d z ≡ true → view_of d ≡ e - 1)
+    (λ is below. grind (arith, nat_tests, later, low, above, below)) (λ none. absurd (let few = ltb-false 1 e none in omega (arith, few, later)))
+
+-- what is not below the first stamp of a later view than 1, and below one of the view, is of it
+pub from_floor : (d t : Stamp) (e : ℕ) → 1 < e → view_of t ≡ e → stamp_below d (floor_of e) ≡ false → stamp_below d t ≡ true → view_of d ≡ e
+unfolding stamp_below
+from_floor d t e later of =
+    cond_both (nat_lt 1 e) (record { view = record { 0 = e }; time = 0; brick = record { 0 = 0 }; boot = 0 }) first_stamp
+    (λ (z : Stamp). stamp_below d z ≡ false → stamp_below d t ≡ true → view_of d ≡ e)
+    (λ is above below. grind (arith, nat_tests, later, of, above, below)) (λ none. absurd (let few = ltb-false 1 e none in omega (arith, few, later)))
+
 -- a stamp of a view is below all of the views after it
 pub view_less : (a b : Stamp) → view_of a < view_of b → stamp_below a b ≡ true
 unfolding stamp_below
 view_less a b less = grind (arith, nat_tests)
+
+-- a stamp of the view before another is below the first stamp of that
+pub before_floor : (b : Stamp) (e : ℕ) → view_of b < e → stamp_below b (floor_of e) ≡ true
+before_floor b e less =
+    cond_both (nat_lt 1 e) (record { view = record { 0 = e }; time = 0; brick = record { 0 = 0 }; boot = 0 }) first_stamp
+    (λ (z : Stamp). stamp_below b z ≡ true) (λ is. view_less b _ (omega (arith, less)))
+    (λ none. absurd (let few = ltb-false 1 e none in omega (arith, few, less)))
 
 -- views are numbered from 1
 pub view_least : (t : Stamp) → 1 ≤ view_of t
