@@ -92,7 +92,7 @@ part_now node call reaction =
     ∙ put_same (node.replicas call.group.0 call.view.0) call.stripe.0 reaction.replica
 
 -- what was found is at least what is below it
-within_lower : (found : Option Version) (d c : Stamp) → stamp_below d c ≡ true → IsWithin found c → IsWithin found d
+pub within_lower : (found : Option Version) (d c : Stamp) → stamp_below d c ≡ true → IsWithin found c → IsWithin found d
 within_lower None d c less within = within
 within_lower (Some version) d c less within = stamp_not_below_trans d c version.stamp (stamp_below_asym d c less) within
 
@@ -510,6 +510,7 @@ module _ (setting : Setting) (views : Views) (w : World) (stamps : Stamping) (me
     )
     reply_says (Reply.Later x) told = (told.0, later_asked told.0 told.1, told.2)
     reply_says (Reply.Full live) told = full_live live told
+    reply_says (Reply.Old found) told = absurd told
     reply_says r told = tt
 
     -- its reply says what it should

@@ -73,6 +73,7 @@ pub record IsModified (setting : Setting) (w : World) (group stripe : ℕ) (vers
 abbrev pub want_in : Request → Option Want
 want_in (Request.Read want) = Some want
 want_in (Request.OrderRead t look want) = Some want
+want_in (Request.OldRead bound) = Some Want.All
 want_in request = None
 
 -- One stamp has one content: each block of a version that was sent, or was found, or is kept is its seat's
@@ -282,7 +283,7 @@ CountedWereSent w =
 
 -- A message that was sent says what was so of its brick then, where it refuses: of a later stamp, that the brick took nothing below just that
 -- stamp for the stripe; of a full store, that it kept so many live records; of a later view with its members, that it had learnt just that; of one
--- without, that it had learnt the call's view, and accepted a list to follow it; of a view that is not synced, that it had learnt the call's view, and did
+-- without, that it had learnt the call's view, and accepted a list to follow it; that it dropped the call's view, that it kept versions of later views alone; of a view that is not synced, that it had learnt the call's view, and did
 -- not know all stripes to be kept in it; of a greater ballot, that it had learnt the call's view, and promised to that ballot.
 abbrev pub RefusalIsTrue : World → BrickId → Message → Type 0
 RefusalIsTrue w from (Message.Reply call (Reply.Later x)) = top_in w call.group.0 call.stripe.0 from.0 ≡ x
@@ -297,6 +298,7 @@ RefusalIsTrue w from (Message.Reply call Reply.NotSynced) =
 RefusalIsTrue w from (Message.Reply call (Reply.Outbid ballot)) =
     (view_at (w.nodes from.0) call.group.0 ≡ call.view.0)
     × ((accepted : Option (Ballot × List BrickId)) × ((w.nodes from.0).ballots call.group.0 ≡ Some (ballot, accepted)))
+RefusalIsTrue w from (Message.Reply call Reply.Retired) = call.view.0 < first_kept_in w call.group.0 from.0
 RefusalIsTrue w from message = Unit {0}
 
 -- A moment of the run that led to a world: the one just before the event that sent the packet of a place among those sent.
