@@ -197,6 +197,7 @@ LastFits fresh c (LooksAt j) = ⊥
 LastFits fresh c Orders = NoRoundFits fresh c
 LastFits fresh c (OrdersAt j) = NoRoundFits fresh c
 LastFits fresh c Recovers = NoRoundFits fresh c
+LastFits fresh c (LooksBack bound) = ⊥
 LastFits fresh c phase = Unit {0}
 
 -- the abort tells of the member that told the greatest later stamp

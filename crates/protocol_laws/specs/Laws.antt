@@ -31,7 +31,7 @@ use Rattle.protocol.specs.Views.{Views, first_kept, view_of, group_in}
 use Rattle.protocol.specs.Replicas.{Replica, is_held, is_wanted}
 use Rattle.protocol.specs.declared.phases.Counted.{Counted}
 use Rattle.protocol.specs.declared.phases.Phase.TheVariants.{Bases}
-use Rattle.protocol.specs.Coordinators.{Coordinator, most_rounds, greatest_refuser, lowest_full, lowest_mover, told_in, counts_at, with_reply, pieces_at, delta_at}
+use Rattle.protocol.specs.Coordinators.{Coordinator, most_rounds, greatest_refuser, greatest_found, lowest_full, lowest_mover, lowest_dropper, told_in, counts_at, with_reply, pieces_at, delta_at}
 use Rattle.protocol.specs.Nodes.{view_at, has_accepted, has_later_time}
 use Rattle.protocol.specs.Worlds.{World, Event, Operation, content_on, first_world, mark_of, known_in, happens, run}
 use Rattle.protocol.specs.Happenings.{is_of, effect_in, happenings_of}
@@ -266,12 +266,31 @@ pub record MovedEvidence (w : World) (n : ℕ) (o : Operation) (brick : BrickId)
   pub lowest : lowest_mover (w.replies n call.phase) ≡ Some (record { seat = seat; brick = brick; view = view })
   pub final : IsLastPhase w n call.phase
 
--- the evidence of an abort, by its cause: there are three causes
+-- What the abort of operation n for versions that were dropped shows: in the last phase of this very operation the brick had told the coordinator that it had
+-- dropped them, and no reply that counted in that phase told so from a lower seat. In that phase or one before it the operation had asked a member for what that
+-- keeps in the view before, below no bound; and no reply that counted in the phase just before told a version.
+pub record GoneEvidence (w : World) (n : ℕ) (o : Operation) (brick : BrickId) : Type 0 where
+  pub call : Call
+  pub seat : ℕ
+  pub first : Call
+  pub before : ℕ
+  pub member : BrickId
+  pub own : IsCallOf call o
+  pub told : WasSent w (record { from = brick; to = o.brick; message = Message.Reply call Reply.Retired })
+  pub lowest : lowest_dropper (w.replies n call.phase) ≡ Some (record { seat = seat; brick = brick })
+  pub final : IsLastPhase w n call.phase
+  pub first_own : IsCallOf first o
+  pub most : first.phase ≤ call.phase
+  pub asked : RequestSent w first o.brick member (Request.OldRead None)
+  pub follows : first.phase ≡ before + 1
+  pub nothing : greatest_found (w.replies n before) ≡ None
+
+-- the evidence of an abort, by its cause
 abbrev pub Evidence : World → ℕ → Operation → Cause → Type 0
 Evidence w n o (Cause.Later brick x) = LaterEvidence w n o brick x
 Evidence w n o (Cause.Full brick live) = FullEvidence w n o brick live
 Evidence w n o (Cause.Moved brick view) = MovedEvidence w n o brick view
-Evidence w n o cause = ⊥
+Evidence w n o (Cause.Gone brick) = GoneEvidence w n o brick
 
 -- each reply that counted in a phase of an operation was sent to it, as a reply to that phase
 abbrev pub CountedWereSent : World → Type 0

@@ -37,7 +37,7 @@ ghost use Rattle.protocol_laws.specs.Laws.{EveryRunKeepsTheLaws, NeverSurfaces, 
 /// - Of two neighbours among the versions that take effect, the upper was written whole, or was made on the lower. The lowest is the
 ///   first version, or was written whole, or was made on the first one.
 /// - Each reply that counted in a phase of an operation was sent to its coordinator, as a reply to that phase.
-/// - An operation is aborted for a later view, for a later stamp or for a full store, and for nothing else.
+/// - An operation is aborted for a later view, for versions that were dropped, for a later stamp or for a full store, and for nothing else.
 /// - For a later stamp only where, in its last phase, a member had told its coordinator of a later stamp than the one that it was
 ///   asked at, and no reply that counted in that phase told a greater one, or an equal one from a lower seat. A round of ordering,
 ///   of which an operation has four at most, aborts only where no other may follow: the three rounds before it had each counted a
@@ -46,6 +46,10 @@ ghost use Rattle.protocol_laws.specs.Laws.{EveryRunKeepsTheLaws, NeverSurfaces, 
 ///   whose replies counted.
 /// - For a later view only where, in its last phase, that member had told its coordinator of it, the one of the lowest seat of those
 ///   whose replies counted that told of one.
+/// - For versions that were dropped only where, in its last phase, that member had told its coordinator that it had dropped those of the
+///   call's view, the one of the lowest seat of those whose replies counted; and where, in that phase or one before it, the operation had
+///   begun to look back: it had asked a member for what that keeps in the view before, and no reply that counted in the phase just
+///   before that told a version.
 /// - What a refusal tells was true of its member when it was sent: it had come to just that stamp, or it kept so many live records, or
 ///   it had learnt just that later view; or it had learnt the view of the call, and had accepted a list to follow it, or did not know
 ///   that all stripes are kept in it, or had promised to just that ballot.
