@@ -217,7 +217,7 @@ proposal_keeps layout me from node call said None = (refl, refl)
 proposal_keeps layout me from node call said (Some p) = ballot_keeps layout me node p (voted layout.bricks p from call said)
 
 -- and as it handles any reply
-replied_keeps : (setting : Setting) (me : BrickId) (now : ℕ) (from : BrickId) (node : Node) (call : Call) (said : Reply) (z : Option Coordinator)
+pub replied_keeps : (setting : Setting) (me : BrickId) (now : ℕ) (from : BrickId) (node : Node) (call : Call) (said : Reply) (z : Option Coordinator)
     → KeepsViews node (replied_at setting me now from (with_round node said) call said z).node
 replied_keeps setting me now from node call said None =
     proposal_keeps setting.layout me from (with_known (with_round node said) (known_after node.known said)) call said node.proposal
