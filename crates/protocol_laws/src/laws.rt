@@ -52,7 +52,7 @@ ghost use Rattle.protocol_laws.specs.Laws.{EveryRunKeepsTheLaws, NeverSurfaces, 
 ///   before that told a version.
 /// - What a refusal tells was true of its member when it was sent: it had come to just that stamp, or it kept so many live records, or
 ///   it had learnt just that later view; or it had learnt the view of the call, and had accepted a list to follow it, or did not know
-///   that all stripes are kept in it, or had promised to just that ballot.
+///   that all stripes are kept in it, or had promised to just that ballot; or it kept the versions of later views than the call's alone.
 ///   A member says that its store is full only with as many live records as a brick may keep.
 /// - Each answer has the word of its operation: a read is answered the data of its block, or of its m blocks, a write that it is
 ///   done; any may be aborted.
