@@ -34,6 +34,7 @@ pub mod Proposing
 pub mod QuorumFacts
 pub mod Reactions
 pub mod Recoveries
+pub mod Replaced
 pub mod Replies
 pub mod Requests
 pub mod Said

@@ -62,7 +62,7 @@ is_there (Some x) never = refl
 
 module _ (setting : Setting) (views : Views) (sound : IsSound setting) (w : World) (stamps : Stamping) (books : Books setting w) (said : Said setting views w stamps) where
   -- of each stripe a version stands of a view that is said to be synced
-  synced_stands : (g e s : ℕ) (group : Group) → group_of setting.layout g ≡ Some group → s < group.stripes → IsSaidSynced w g e
+  pub synced_stands : (g e s : ℕ) (group : Group) → group_of setting.layout g ≡ Some group → s < group.stripes → IsSaidSynced w g e
       → (v : Stamp) × (view_of v ≡ e) × Stands setting views w g s v
   synced_stands g e s group at within (inl one) = (
     first_stamp,

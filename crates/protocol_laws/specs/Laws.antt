@@ -171,6 +171,14 @@ DropsOnlyOlder setting views w =
     ⊎ ((later : Stamp) × (is_held later (part_in w number (view_of version) stripe brick).log ≡ true) × (stamp_below version later ≡ true)
     × ((group : Group) → group_in setting.layout views number (view_of later) ≡ Some group → IsHeldByQuorum w number stripe group later))
 
+-- What a member dropped with a view is replaced: where it keeps no versions of a view any more, a quorum of the next view's members has held a version of that, of each
+-- stripe.
+abbrev pub DroppedAreReplaced : Setting → Views → World → Type 0
+DroppedAreReplaced setting views w =
+    (number view stripe brick : ℕ) (group next : Group) → view < first_kept_in w number brick → group_of setting.layout number ≡ Some group → stripe < group.stripes
+    → group_in setting.layout views number (view + 1) ≡ Some next
+    → (version : Stamp) × (view_of version ≡ view + 1) × IsHeldByQuorum w number stripe next version
+
 -- no step lowers the stamp below which a brick takes nothing
 abbrev pub NeverFalls : World → World → Type 0
 NeverFalls old new = (group stripe brick : ℕ) → stamp_below (top_in new group stripe brick) (top_in old group stripe brick) ≡ false
@@ -391,6 +399,7 @@ pub record Laws (setting : Setting) (views : Views) (w : World) : Type 0 where
   pub stored : StoredIsHeld w
   pub collects : CollectsStand setting views w
   pub drops : DropsOnlyOlder setting views w
+  pub replaced : DroppedAreReplaced setting views w
   pub bases : BasesAreNewest setting views w
   pub bases_found : BasesAreFound setting w
   pub old_found : OldVersionsAreFound setting w

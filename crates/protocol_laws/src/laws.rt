@@ -28,6 +28,7 @@ ghost use Rattle.protocol_laws.specs.Laws.{EveryRunKeepsTheLaws, NeverSurfaces, 
 ///   view whose versions it keeps, lies below a version that it keeps, and that a quorum has held. What a quorum "has held", each of
 ///   its members has kept at some time. A member keeps the versions of the view that it has learnt, and those of the one before while
 ///   it does not know all stripes to be kept in the learnt one.
+/// - Where a member keeps no versions of a view any more, a quorum of the next view's members has held a version of that, of each stripe.
 /// - A version's content is what its maker makes of its base's: a stripe write's bytes, what a recovery read back, or that with the
 ///   one block that is written. The content of the first version is zero.
 /// - A version that is made on a base, as a recovery's or a block write's is, is above it; and no quorum of its view has held a

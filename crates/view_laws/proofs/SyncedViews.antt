@@ -34,7 +34,7 @@ use Rattle.view_laws.specs.Syncs.{SyncsAreSaid}
 use Rattle.view_laws.proofs.Agreeing.{KeepsViews}
 use Rattle.view_laws.proofs.Agreements.{always_agreed, packet_sent, during_sent, invoked_keeps}
 use Rattle.view_laws.proofs.CallSteps.{stepped_up}
-use Rattle.view_laws.proofs.Followed.{group_of_name, every_run_follows}
+use Rattle.view_laws.proofs.Followed.{below_known, group_of_name, every_run_follows}
 use Rattle.view_laws.proofs.Histories.{view_world, IsSent, IsDecided, known_taught}
 use Rattle.view_laws.proofs.Named.{every_name_is_chosen}
 use Rattle.view_laws.proofs.Replying.{replied_keeps}
@@ -380,7 +380,7 @@ syncs_are_said setting events sound = record {
   chosen = chosen;
   taught = λ from to number view sent. follows number.0 view (names.taught from to number view sent);
   called = called;
-  learnt = λ brick number above. follows number ((w.nodes brick).learnt number).view (names.learnt brick number above);
+  learnt = learnt;
 }
   where
     w : World
@@ -411,15 +411,30 @@ syncs_are_said setting events sound = record {
         let before : after.before ≡ view.number.0 - 1 = omega (arith, next) in
         subst (λ (e : ℕ). IsSaid w.packets number e) before (chosen number after.before after.group view.members after.group_is after.chosen)
 
+    -- a view that was decided follows a view that is said to be synced
+    decided_follows : (number : ℕ) (view : View) → IsDecided setting.layout (view_world w) number view → IsSaid w.packets number (view.number.0 - 1)
+    decided_follows number view decided =
+        let next = decided.next in
+        let before : decided.before.number.0 ≡ view.number.0 - 1 = omega (arith, next) in
+        subst (λ (e : ℕ). IsSaid w.packets number e) before
+        (chosen number decided.before.number.0 decided.group view.members
+        (group_of_name setting.layout w.packets number decided.before.number.0 decided.before decided.named ∙ decided.group_is)
+        (record { ballot = decided.ballot; seats = decided.chosen.0; many = decided.chosen.1; accepted = decided.chosen.2 }))
+
     -- an open operation's view has a name
     called : (brick k : ℕ) (c : Coordinator) → (w.nodes brick).calls k ≡ Some c → 1 < c.stamp.view.0 → IsSaid w.packets c.call.group.0 (c.stamp.view.0 - 1)
     called brick k c is above =
         let agreement = always_agreed setting sound events in
-        let decided : IsDecided setting.layout (view_world w) c.call.group.0 (view_in c)
-        = (known_taught setting.layout (view_world w) c.call.group.0 (view_in c) agreement.agreed.says (agreement.drafting.calls brick k c is) above).1 in
-        let next = decided.next in
-        let before : decided.before.number.0 ≡ c.stamp.view.0 - 1 = omega (arith, next) in
-        subst (λ (e : ℕ). IsSaid w.packets c.call.group.0 e) before
-        (chosen c.call.group.0 decided.before.number.0 decided.group c.group.members
-        (group_of_name setting.layout w.packets c.call.group.0 decided.before.number.0 decided.before decided.named ∙ decided.group_is)
-        (record { ballot = decided.ballot; seats = decided.chosen.0; many = decided.chosen.1; accepted = decided.chosen.2 }))
+        decided_follows c.call.group.0 (view_in c)
+        (known_taught setting.layout (view_world w) c.call.group.0 (view_in c) agreement.agreed.says (agreement.drafting.calls brick k c is) above).1
+
+    -- and so has the view after each one before a brick's
+    learnt : (brick number view : ℕ) → 1 ≤ view → view < view_at (w.nodes brick) number → IsSaid w.packets number view
+    learnt brick number view some before =
+        let agreed = (always_agreed setting sound events).agreed in
+        let next = below_known setting.layout (view_world w) number view (view_at (w.nodes brick) number - (view + 1)) ((w.nodes brick).learnt number).view agreed some
+            (omega (arith, before)) (agreed.learnt brick number) in
+        let after : next.0.number.0 ≡ view + 1 = next.2 in
+        subst (λ (e : ℕ). IsSaid w.packets number e) (omega (arith, after))
+        (decided_follows number next.0
+        (known_taught setting.layout (view_world w) number next.0 agreed.says next.1 (omega (arith, after, some))).1)

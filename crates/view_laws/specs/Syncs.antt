@@ -1,5 +1,5 @@
 -- Synchronised views: what follows a view is chosen only once all stripes are said to be kept in that view.
-use Rattle.std.specs.Prelude.{◌≡◌, ℕ, ◌-◌, ◌<◌, true, ◌⊎◌, List, Some}
+use Rattle.std.specs.Prelude.{◌≡◌, ℕ, ◌-◌, ◌<◌, ◌≤◌, true, ◌⊎◌, List, Some}
 use Rattle.fab_base.specs.declared.identities.BrickId.{BrickId}
 use Rattle.fab_base.specs.declared.identities.GroupId.{GroupId}
 use Rattle.fab_base.specs.declared.member_lists.View.{View}
@@ -23,8 +23,8 @@ SyncedWasSent w number view =
 abbrev pub IsSaidSynced : World → ℕ → ℕ → Type 0
 IsSaidSynced w number view = (view ≡ 1) ⊎ SyncedWasSent w number view
 
--- What a brick knows to be synced is said to be. So is each view that a brick has accepted a list to follow, each that a list was chosen to follow, and each
--- that is followed by one that a message teaches, that a brick has learnt, or that an open operation is of.
+-- What a brick knows to be synced is said to be. So is each view that a brick has accepted a list to follow, each that a list was chosen to follow, each that is
+-- followed by one that a message teaches or that an open operation is of, and each before one that a brick has learnt.
 pub record SyncsAreSaidIn (layout : Layout) (w : World) : Type 0 where
   pub synced : (brick number : ℕ) → ((w.nodes brick).learnt number).synced ≡ true → IsSaidSynced w number (view_at (w.nodes brick) number)
   pub voted : (number view brick : ℕ) → HasVoted w number view brick → IsSaidSynced w number view
@@ -34,7 +34,7 @@ pub record SyncsAreSaidIn (layout : Layout) (w : World) : Type 0 where
       → WasSent w (record { from = from; to = to; message = Message.Learn number view }) → IsSaidSynced w number.0 (view.number.0 - 1)
   pub called : (brick k : ℕ) (c : Coordinator) → (w.nodes brick).calls k ≡ Some c → 1 < c.stamp.view.0
       → IsSaidSynced w c.call.group.0 (c.stamp.view.0 - 1)
-  pub learnt : (brick number : ℕ) → 1 < view_at (w.nodes brick) number → IsSaidSynced w number (view_at (w.nodes brick) number - 1)
+  pub learnt : (brick number view : ℕ) → 1 ≤ view → view < view_at (w.nodes brick) number → IsSaidSynced w number view
 
 -- so it is in every world that a run reaches
 abbrev pub SyncsAreSaid : Type 0

@@ -57,8 +57,8 @@ pub fn proposals_show_their_ends()
 
 /// A view is followed by another only once all stripes are said to be kept in it. View 1 is so at first, and each other view only once a message was sent that says so.
 ///
-/// What a brick knows to be synced was said to be. So was each view that a brick has accepted a list to follow, or that a list was chosen to follow; and so was the view
-/// before each one that a message teaches, that a brick has learnt, or that an open operation is of.
+/// What a brick knows to be synced was said to be. So was each view that a brick has accepted a list to follow, or that a list was chosen to follow; so was the view
+/// before each one that a message teaches, or that an open operation is of, and each view before one that a brick has learnt.
 pub fn a_followed_view_is_said_synced()
     ensures { SyncsAreSaid }
 {}
