@@ -16,12 +16,11 @@ use Rattle.messages.specs.declared.packets.Message.{Message}
 use Rattle.messages.specs.declared.packets.Packet.{Packet}
 use Rattle.messages.specs.declared.requests.Request.{Request}
 use Rattle.messages.specs.declared.replies.Reply.{Reply}
-use Rattle.messages.specs.declared.replies.Reply.TheVariants.{Moved}
+use Rattle.messages.specs.declared.replies.Reply.TheVariants.{Moved, Old, Retired}
 pub use Rattle.protocol.specs.declared.tellings.Told.{Told}
 pub use Rattle.protocol.specs.declared.tellings.Told.TheVariants.{Made, Seen}
 pub use Rattle.protocol.specs.declared.tellings.Answered.{Answered}
 pub use Rattle.protocol.specs.declared.tellings.Report.{Report}
-use Rattle.protocol.specs.declared.tellings.Report.TheVariants as Report
 use Rattle.protocol.specs.declared.tellings.ViewAnswer.TheVariants as answer
 use Rattle.quorum.specs.Memberships.{is_membership}
 pub use Rattle.protocol.specs.Requests.{to_members, resent_to}
@@ -30,10 +29,10 @@ use Rattle.protocol.specs.Proposals.{Proposal, ViewAnswer, Voting, Ignored, Wait
 use Rattle.protocol.specs.Jobs.{Job}
 use Rattle.fab_base.specs.Layouts.{Layout, Group, group_of, seat_in}
 use Rattle.protocol.specs.Settings.{Setting, are_bytes}
-use Rattle.protocol.specs.Views.{Learnt, first_learnt, first_kept, group_kept, floor_of, is_later, learns, may_be_taught, view_told}
+use Rattle.protocol.specs.Views.{Learnt, first_learnt, first_kept, group_kept, floor_of, is_later, learns, is_unsynced, notes_synced, may_be_taught, view_told}
 use Rattle.protocol.specs.Ballots.{Voted, voting, moved_to}
-use Rattle.protocol.specs.Replicas.{Replica, Reaction, fresh_replica, handle, is_changed, stamp_max, top_of}
-use Rattle.protocol.specs.Coordinators.{Phase, Looks, LooksAt, Orders, OrdersAt, Coordinator, Next, Ignores, Waits, Sends, Makes, Ends, counts_at, request_of, on_reply}
+use Rattle.protocol.specs.Replicas.{Replica, Reaction, fresh_replica, handle, is_changed, newest_of, stamp_max, top_of, under}
+use Rattle.protocol.specs.Coordinators.{Phase, Looks, LooksAt, Orders, OrdersAt, Coordinator, Next, Ignores, Waits, Sends, Makes, Ends, asked_group, counts_at, request_of, on_reply}
 
 -- a function with one value changed
 abbrev pub put : {A : Type 0} → (ℕ → A) → ℕ → A → ℕ → A
@@ -115,7 +114,7 @@ no_step node = sending node []
 
 -- what the coordinator's phase sends
 abbrev pub phase_packets : Setting → BrickId → Coordinator → List Packet
-phase_packets setting me c = to_members me c.call (request_of setting.code c) 0 c.group.members
+phase_packets setting me c = to_members me c.call (request_of setting.code c) 0 (asked_group c).members
 
 -- the version that was stored may be collected by all members
 abbrev pub collect_packets : BrickId → Coordinator → Option Stamp → List Packet
@@ -328,12 +327,20 @@ abbrev pub voted_on : BrickId → BrickId → Node → Call → Voted → NodeSt
 voted_on me from node call vote =
     sending (record node { ballots = put node.ballots call.group.0 vote.kept }) (reply_packets me from call (Some vote.reply))
 
--- What a brick does with a request that is not void. It collects in the view that it has learnt, though it accepted a list to follow that; it votes on a
--- ballot; and it handles each other request in the view that it serves.
+-- What a brick answers that is asked for what it keeps in the view of a call: that it has dropped that, or, where it serves the view no more, its newest version
+-- there below a bound. In the view that it still serves it answers nothing.
+abbrev pub old_reply : Node → Call → Option Stamp → Option Reply
+old_reply node call bound =
+    if nat_lt call.view.0 (first_kept (node.learnt call.group.0)) then Some Retired
+    else if is_some (moved_at node call) then Some (Old (newest_of (under bound (replica_at node call).log)))
+    else None
+
+-- What a brick does with a request that is not void. It collects in the view that it has learnt, though it accepted a list to follow that; it tells what it keeps
+-- in a view that it serves no more; it votes on a ballot; and it handles each other request in the view that it serves.
 abbrev pub requested_as : Setting → Group → BrickId → BrickId → Node → Call → Request → NodeStep
 requested_as setting group me from node call (Request.Collect t) =
     requested_at setting group.m me from node call (Request.Collect t) (seat_now me node call group)
-requested_as setting group me from node call (Request.OldRead bound) = no_step node
+requested_as setting group me from node call (Request.OldRead bound) = sending node (reply_packets me from call (old_reply node call bound))
 requested_as setting group me from node call (Request.Prepare ballot) = voted_on me from node call (vote_at node call ballot None)
 requested_as setting group me from node call (Request.Accept ballot members) = voted_on me from node call (vote_at node call ballot (Some members))
 requested_as setting group me from node call request =
@@ -395,6 +402,13 @@ may_teach layout view (Some group) = may_be_taught group.m layout.bricks view
 unfoldable pub node_learnt : Layout → Node → GroupId → View → Node
 node_learnt layout node group view =
     if may_teach layout (Some view) (group_of layout group.0) then node_taught layout.block group.0 node view else node
+
+-- The brick once it hears that all stripes of a group are kept in the view of a number. Where that is the view that it has learnt, it drops what it kept in the
+-- view before.
+unfoldable pub node_synced : Layout → Node → GroupId → ViewNo → Node
+node_synced layout node group number =
+    if is_some (group_of layout group.0) && is_unsynced (node.learnt group.0) number.0
+    then with_learnt layout.block group.0 node (notes_synced (node.learnt group.0) number.0) else node
 
 -- the time that a reply makes known
 abbrev pub known_after : ℕ → Reply → ℕ
@@ -486,7 +500,7 @@ replied_at setting me now from node call reply None =
 replied_at setting me now from node call reply (Some c) =
     let known : ℕ = known_after node.known reply in
     carried_out setting me node known c
-    (on_reply setting.layout.block setting.code (fresh_stamp me c.call.view now node.boot known) c from call reply)
+    (on_reply setting.layout.block setting.code (fresh_stamp me c.stamp.view now node.boot known) c from call reply)
 
 -- a reply counts in this open operation, or else in this proposal
 abbrev pub counts_here : Layout → BrickId → Call → Reply → Option Proposal → Option Coordinator → Bool
@@ -527,10 +541,11 @@ received setting me now node packet = received_as packet.message
     received_as (Message.Request call request) = requested setting me packet.from node call request
     received_as (Message.Reply call reply) = heard setting me now packet.from node call reply
     received_as (Message.Learn group view) = no_step (node_learnt setting.layout node group view)
+    received_as (Message.Synced group number) = no_step (node_synced setting.layout node group number)
     received_as message = no_step node
 
 -- the node after a message whose handling was cut short once it had kept what it keeps: what it kept of a
--- request stays, and its reply is never sent; and so does a view that it learnt
+-- request stays, and its reply is never sent; and so does a view that it learnt, or learnt to be synced
 unfoldable pub absorbed : Setting → BrickId → Node → Packet → Node
 absorbed setting me node packet = absorbed_as packet.message
   where
@@ -541,6 +556,7 @@ absorbed setting me node packet = absorbed_as packet.message
         then node_taught_by setting.layout.block call.group.0 node (view_counted setting.layout packet.from node call reply) else node
         )
     absorbed_as (Message.Learn group view) = node_learnt setting.layout node group view
+    absorbed_as (Message.Synced group number) = node_synced setting.layout node group number
     absorbed_as message = node
 
 -- each of these packets, right after one that teaches its receiver this view
@@ -555,13 +571,13 @@ teaching group view packets = if nat_lt 1 view.number.0 then each_taught group v
 
 -- the view of an open operation
 abbrev pub view_in : Coordinator → View
-view_in c = record { number = c.call.view; members = c.group.members; prior = c.prior }
+view_in c = record { number = c.stamp.view; members = c.group.members; prior = c.prior }
 
 -- the present phase of an open operation again
 abbrev pub resent : Setting → BrickId → Option Coordinator → List Packet
 resent setting me None = []
 resent setting me (Some c) =
-    teaching c.call.group (view_in c) (resent_to me c.call (request_of setting.code c) c.counted 0 c.group.members)
+    teaching c.call.group (view_in c) (resent_to me c.call (request_of setting.code c) c.counted 0 (asked_group c).members)
 
 -- the present phase of a proposal again
 abbrev pub ballot_resent : BrickId → Option Proposal → List Packet

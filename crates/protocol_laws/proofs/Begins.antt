@@ -18,12 +18,12 @@ use Rattle.protocol.specs.Views.{Views, group_in, view_of}
 use Rattle.protocol.specs.Settings.{Setting}
 use Rattle.protocol.specs.Replicas.{top_of, Replica}
 use Rattle.protocol.specs.declared.phases.Phase.{Phase}
-use Rattle.protocol.specs.declared.phases.Phase.TheVariants.{Looks, LooksAt, Orders, OrdersAt, Recovers, Descends, Modifies, Bases, Stores}
-use Rattle.protocol.specs.Coordinators.{Coordinator, request_of}
+use Rattle.protocol.specs.declared.phases.Phase.TheVariants.{Looks, LooksAt, Orders, OrdersAt, Recovers, Descends, Modifies, Bases, Stores, LooksBack}
+use Rattle.protocol.specs.Coordinators.{Coordinator, request_of, asked_group}
 use Rattle.protocol.specs.Nodes.{Node, put, first_phase, new_coordinator, opened, began_in, phase_packets, top_at, view_at, view_floor}
 use Rattle.protocol.specs.Worlds.{World, Operation, world_began}
 use Rattle.protocol_laws.proofs.Books.{Books, IsOperation}
-use Rattle.protocol_laws.proofs.Said.{Begun, Stamping, Said, IsSaid, IsBegun, IsStamped, IsKnown, IsStampOf, IsCalled, FitsPhase, ReadSays, want_of, RequestSays, PacketSays, OperationSays, CallSays, IsInOrder, DescendsFrom, base_in, FloorsAbove}
+use Rattle.protocol_laws.proofs.Said.{Begun, Stamping, Said, IsSaid, IsBegun, IsStamped, IsKnown, IsStampOf, IsCalled, FitsPhase, ReadSays, want_of, RequestSays, PacketSays, OperationSays, CallSays, IsInOrder, DescendsFrom, base_in, FloorsAbove, bound_in}
 use Rattle.protocol.proofs.Tables.{put_each, put_same, get_grown, get_one, sent_to_member}
 use Rattle.reg_model.proofs.GrowingLives.{last_grows}
 use Rattle.protocol_laws.proofs.Growth.{Grows, continues_same}
@@ -251,6 +251,7 @@ module _ (setting : Setting) (views : Views) (w : World) (stamps : Stamping) (me
         called = called;
         phase = OrdersAt d;
         begun = subst (λ (p : Phase). IsBegun later me.0 c.call.boot c.call.seq c.call.phase p c.stamp) is begun_now;
+        ahead = refl;
         look_is = refl;
         want_is = refl;
         fits = subst (λ (p : Phase). FitsPhase p ask.op) is fits;
@@ -259,6 +260,7 @@ module _ (setting : Setting) (views : Views) (w : World) (stamps : Stamping) (me
       }
   request_in Recovers is j seat = absurd (other_phase Recovers is)
   request_in (Descends bound) is j seat = absurd (other_phase (Descends bound) is)
+  request_in (LooksBack bound) is j seat = absurd (other_phase (LooksBack bound) is)
   request_in (Modifies base d) is j seat = absurd (other_phase (Modifies base d) is)
   request_in (Bases base) is j seat = absurd (other_phase (Bases base) is)
   request_in Stores is j seat = absurd (other_phase Stores is)
@@ -270,6 +272,11 @@ module _ (setting : Setting) (views : Views) (w : World) (stamps : Stamping) (me
   not_based (Modifies u d) base is has = other_phase (Modifies u d) is
   not_based (Bases u) base is has = other_phase (Bases u) is
   not_based p base is has = cc
+
+  not_bounded : (p : Phase) (bound : Stamp) → first_phase ask.op ≡ p → bound_in p c.stamp ≡ Some bound → ⊥
+  not_bounded (Descends b) bound is has = other_phase (Descends b) is
+  not_bounded (LooksBack b) bound is has = other_phase (LooksBack b) is
+  not_bounded p bound is has = cc
 
   -- the brick's boot stays
   boot_now : (next.nodes me.0).boot ≡ c.call.boot
@@ -285,6 +292,7 @@ module _ (setting : Setting) (views : Views) (w : World) (stamps : Stamping) (me
       inr (subst (λ (z : Coordinator). CallSays setting views next later me.0 c.call.seq z) same
       (record {
         group = group_is;
+        prior = λ later. follows.prior me.0 ask.group.0 later;
         begun = subst (λ (b : ℕ). IsBegun later me.0 b c.call.seq c.call.phase c.phase c.stamp) (sym boot_now) begun_now;
         last = λ p less.
             subst (λ (b : ℕ). later me.0 b c.call.seq p ≡ None) (sym boot_now)
@@ -295,7 +303,8 @@ module _ (setting : Setting) (views : Views) (w : World) (stamps : Stamping) (me
         given = λ orders. refl;
         above = λ bound descends. absurd (other_phase (Descends bound) descends);
         from = from_first;
-        covered = λ bound descends. absurd (other_phase (Descends bound) descends);
+        back = λ bound looks. absurd (other_phase (LooksBack bound) looks);
+        covered = λ bound has. absurd (not_bounded (first_phase ask.op) bound refl has);
         stores = λ stores. absurd (other_phase Stores stores);
         based = λ base has. absurd (not_based (first_phase ask.op) base refl has);
         counted = tt;
@@ -354,7 +363,7 @@ module _ (setting : Setting) (views : Views) (w : World) (stamps : Stamping) (me
       packets = λ k packet is. ⊎_elim
           (λ (there : slice_get w.packets k ≡ Some packet). inl there)
           (λ (sent : (j : ℕ) × (slice_get (phase_packets setting me c) j ≡ Some packet)).
-          let to = sent_to_member me c.call (request_of setting.code c) 0 group.members sent.0 packet sent.1 in
+          let to = sent_to_member me c.call (request_of setting.code c) 0 (asked_group c).members sent.0 packet sent.1 in
           inr (subst (λ (z : Packet). PacketSays setting views next later z) (sym to.2) (request_says to.0.0 (0 + sent.0))))
           (get_grown w.packets (phase_packets setting me c) k packet is);
       operations = λ a e.

@@ -10,8 +10,8 @@ use Rattle.fab_base.specs.Layouts.{Group, group_of}
 use Rattle.protocol.specs.Settings.{Setting}
 use Rattle.protocol.specs.declared.phases.Counted.{Counted}
 use Rattle.protocol.specs.declared.phases.Phase.{Phase}
-use Rattle.protocol.specs.declared.phases.Phase.TheVariants.{Looks, LooksAt, Orders, OrdersAt, Recovers, Descends, Modifies, Bases, Stores}
-use Rattle.protocol.specs.Coordinators.{Coordinator, most_rounds}
+use Rattle.protocol.specs.declared.phases.Phase.TheVariants.{Looks, LooksAt, Orders, OrdersAt, Recovers, Descends, Modifies, Bases, Stores, LooksBack}
+use Rattle.protocol.specs.Coordinators.{Coordinator, most_rounds, asked_view}
 use Rattle.protocol.specs.Nodes.{has_block, has_length}
 use Rattle.protocol.specs.Worlds.{World, Operation, number_of}
 
@@ -48,6 +48,7 @@ MadeInPhase c o Orders = IsUnmade o
 MadeInPhase c o (OrdersAt j) = IsUnmade o
 MadeInPhase c o Recovers = IsUnmade o
 MadeInPhase c o (Descends bound) = IsUnmade o
+MadeInPhase c o (LooksBack bound) = IsUnmade o
 MadeInPhase c o (Modifies base j) = IsMade c o × (c.base ≡ Some base)
 MadeInPhase c o (Bases base) = IsMade c o × (c.base ≡ Some base)
 MadeInPhase c o Stores = IsMade c o
@@ -60,6 +61,7 @@ InRound c Orders = c.call.phase ≡ c.round
 InRound c (OrdersAt j) = c.call.phase ≡ c.round
 InRound c Recovers = c.call.phase ≡ c.round + 1
 InRound c (Descends bound) = Unit {0}
+InRound c (LooksBack bound) = Unit {0}
 InRound c (Modifies base j) = Unit {0}
 InRound c (Bases base) = Unit {0}
 InRound c Stores = Unit {0}
@@ -96,13 +98,13 @@ pub record CallBooks (setting : Setting) (w : World) (i k : ℕ) (c : Coordinato
   pub seq : operation.seq ≡ k
   pub ask : c.ask ≡ operation.ask
   pub stamp_brick : c.stamp.brick ≡ operation.brick
-  pub stamp_view : c.stamp.view.0 ≡ c.call.view.0
   pub stamp_boot : c.stamp.boot ≡ (w.nodes i).boot
   pub stamp_known : (1 ≤ c.stamp.time) × (c.stamp.time ≤ (w.nodes i).known)
   pub call_boot : c.call.boot ≡ (w.nodes i).boot
   pub call_seq : c.call.seq ≡ k
   pub call_group : c.call.group ≡ c.ask.group
-  pub call_view : operation.view ≡ c.call.view.0
+  pub call_view : c.call.view ≡ asked_view c.stamp c.phase
+  pub stamp_view : operation.view ≡ c.stamp.view.0
   pub call_stripe : c.call.stripe ≡ c.ask.stripe
   pub rounds : (1 ≤ c.round) × (c.round ≤ most_rounds)
   pub in_round : InRound c c.phase

@@ -1,4 +1,5 @@
 -- The books of a world where an operation began.
+use Rattle.protocol_laws.proofs.StampViews.{begun_view, first_ahead}
 use Rattle.protocol.specs.Views.{kept_by}
 use Rattle.std.proofs.Common.{◌≡◌, ◌≢◌, ℕ, ◌+◌, ◌<◌, ◌≤◌, ⊎_elim, true, false, Option, Some, None, refl, sym, ap, ◌∙◌, subst, arith, [], ◌∷◌, ◌++◌, length}
 use Rattle.std.proofs.lemmas.Option.{same_Some}
@@ -186,7 +187,7 @@ module _ (setting : Setting) (w : World) (brick : BrickId) (now : ℕ) (ask : As
       call_boot = sym (same_boots i);
       call_seq = refl;
       call_group = refl;
-      call_view = refl;
+      call_view = begun_view c (first_ahead ask.op) refl;
       call_stripe = refl;
       rounds = (omega arith, omega arith);
       in_round = fresh_round c ask.op refl refl;

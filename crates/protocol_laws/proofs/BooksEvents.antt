@@ -1,4 +1,6 @@
 -- Every event keeps the books.
+use Rattle.view_laws.proofs.Syncing.{synced_each}
+use Rattle.protocol_laws.proofs.StampViews.{waits_view, next_view}
 use Rattle.std.specs.Option.{option_map}
 use Rattle.protocol.specs.Views.{kept_by, view_told}
 use Rattle.std.proofs.Common.{◌≡◌, ◌≢◌, ℕ, ◌+◌, ◌-◌, ◌<◌, ◌≤◌, ◌⊎◌, inl, inr, ◌^◌, Bool, true, false, not, ◌&&◌, cond, is_some, Option, Some, None, refl, sym, ap, ◌∙◌, subst, arith, List, [], ◌++◌, ⊎_elim}
@@ -24,10 +26,10 @@ use Rattle.protocol.specs.declared.tellings.Report.{Report}
 use Rattle.protocol.specs.Settings.{Setting}
 use Rattle.protocol.specs.Replicas.{handle}
 use Rattle.protocol.specs.declared.phases.Phase.{Phase}
-use Rattle.protocol.specs.declared.phases.Phase.TheVariants.{Looks, LooksAt, Orders, OrdersAt, Recovers, Descends, Modifies, Bases, Stores}
+use Rattle.protocol.specs.declared.phases.Phase.TheVariants.{Looks, LooksAt, Orders, OrdersAt, Recovers, Descends, Modifies, Bases, Stores, LooksBack}
 use Rattle.protocol.specs.declared.phases.Counted.{Counted}
-use Rattle.protocol.specs.Coordinators.{Coordinator, Next, Ignores, Waits, Sends, Makes, Ends, most_rounds, with_reply, once_full, counted_at, counts_at, on_reply}
-use Rattle.protocol.specs.Nodes.{Node, NodeStep, put, no_step, has_block, has_length, refusal_in, refusal_of, began, invoked, with_replica, replica_at, full_at, reply_packets, requested, ticked, may_open, has_later_time, next_time, new_stamp, fresh_stamp, known_after, with_call, with_known, carried_out, phase_packets, collect_packets, sending, replied_at, heard, received, group_at, vote_at, with_round, proposed, node_taught_by, node_learnt, view_counted, lists_fit}
+use Rattle.protocol.specs.Coordinators.{Coordinator, Next, Ignores, Waits, Sends, Makes, Ends, most_rounds, with_reply, once_full, counted_at, counts_at, on_reply, asked_view}
+use Rattle.protocol.specs.Nodes.{Node, NodeStep, put, no_step, has_block, has_length, refusal_in, refusal_of, began, invoked, with_replica, replica_at, full_at, reply_packets, requested, ticked, may_open, has_later_time, next_time, new_stamp, fresh_stamp, known_after, with_call, with_known, carried_out, phase_packets, collect_packets, sending, replied_at, heard, received, group_at, vote_at, with_round, proposed, node_taught_by, node_learnt, view_counted, lists_fit, node_synced}
 use Rattle.protocol.specs.Worlds.{World, world_found, Operation, Found, Before, After, Found, Before, After, Event, is_answer, first_world, is_brick, is_up, may_begin, number_of, may_start, world_found, world_began, world_stepped, with_made, with_seen, with_answer, with_content, replies_with, voiced, run, with_held, choices_after, Choices}
 use Rattle.protocol_laws.specs.Laws.{WasSent}
 use Rattle.protocol.proofs.Served.{request_each}
@@ -43,7 +45,7 @@ use Rattle.protocol_laws.proofs.BooksQuiet.{books_quiet, books_started}
 use Rattle.protocol_laws.proofs.BooksTurns.{IsBookedStamp, books_turned}
 use Rattle.protocol_laws.proofs.BooksEnds.{ended_world, books_ended, books_stopped}
 use Rattle.protocol_laws.proofs.BooksBegins.{books_began}
-use Rattle.protocol_laws.proofs.Outcomes.{SameOperation, IsRound, ReordersFits, RecoversFits, SendsFits, EndFits, NextFits, once_full_fits, IsLook, IsMaking, RebuildsIn, RebuildsFits, MakesIn, unmade_again, unmade_recovers}
+use Rattle.protocol_laws.proofs.Outcomes.{SameOperation, IsRound, ReordersFits, RecoversFits, SendsFits, EndFits, NextFits, once_full_fits, IsLook, IsMaking, RebuildsIn, RebuildsFits, MakesIn, unmade_again, unmade_recovers, BackFits, back_phase, call_after}
 use Rattle.protocol.proofs.Puts.{put_other}
 use Rattle.protocol.proofs.Tables.{put_each, put_same}
 use Rattle.protocol.proofs.Events.{EventCases, always_where, world_counting, world_handled}
@@ -131,6 +133,7 @@ made_same c d o p q stamp base phase made = subst (λ (x : Phase). MadeInPhase d
     by (OrdersAt j) made = made
     by Recovers made = made
     by (Descends bound) made = made
+    by (LooksBack bound) made = made
     by (Modifies u j) made = (goes made.0, base ∙ made.1)
     by (Bases u) made = (goes made.0, base ∙ made.1)
     by Stores made = goes made
@@ -146,6 +149,7 @@ made_nothing c o Orders before made = made
 made_nothing c o (OrdersAt j) before made = made
 made_nothing c o Recovers before made = made
 made_nothing c o (Descends bound) before made = made
+made_nothing c o (LooksBack bound) before made = made
 
 nothing_made : (d : Coordinator) (o : Operation) (p : Phase) → (IsMaking p → ⊥) → IsUnmade o → MadeInPhase d o p
 nothing_made d o (Modifies u j) before none = absurd (before tt)
@@ -157,6 +161,7 @@ nothing_made d o Orders before none = none
 nothing_made d o (OrdersAt j) before none = none
 nothing_made d o Recovers before none = none
 nothing_made d o (Descends bound) before none = none
+nothing_made d o (LooksBack bound) before none = none
 
 -- a version that was made stays the operation's as it reads the base back
 rebuilt_made : (c d : Coordinator) (o : Operation) → RebuildsFits c d → MadeInPhase c o c.phase → MadeInPhase d o d.phase
@@ -183,6 +188,7 @@ round_same c d p q call round phase within = subst (λ (x : Phase). InRound d x)
     by (OrdersAt j) within = call ∙ within ∙ sym round
     by Recovers within = call ∙ within ∙ ap (λ (x : ℕ). x + 1) (sym round)
     by (Descends bound) within = tt
+    by (LooksBack bound) within = tt
     by (Modifies u j) within = tt
     by (Bases u) within = tt
     by Stores within = tt
@@ -195,6 +201,7 @@ round_again c d Recovers is call round within = omega arith
 round_again c d Looks is call round within = absurd is
 round_again c d (LooksAt j) is call round within = absurd is
 round_again c d (Descends bound) is call round within = tt
+round_again c d (LooksBack bound) is call round within = tt
 round_again c d (Modifies u j) is call round within = tt
 round_again c d (Bases u) is call round within = tt
 round_again c d Stores is call round within = tt
@@ -211,13 +218,14 @@ round_next fresh c d fits within = by fits.how
     call : d.call.phase ≡ c.call.phase + 1
     call = ap (λ (x : Call). x.phase) fits.call
 
-    recovers : (r : RecoversFits c d) → (IsLook c.phase × (d.phase ≡ Recovers)) ⊎ ((bound : Stamp) × (d.phase ≡ Descends bound))
+    recovers : (r : RecoversFits c d) → (IsLook c.phase × (d.phase ≡ Recovers)) ⊎ (((bound : Stamp) × (d.phase ≡ Descends bound)) ⊎ BackFits c d)
         → InRound d d.phase
     recovers r (inl (look, now)) =
         let first = look_first c c.phase look within in
         subst (λ (x : Phase). InRound d x) (sym now)
         (call ∙ ap (λ (x : ℕ). x + 1) first.0 ∙ ap (λ (x : ℕ). x + 1) (sym (r.round ∙ first.1)))
-    recovers r (inr (bound, now)) = subst (λ (x : Phase). InRound d x) (sym now) tt
+    recovers r (inr (inl (bound, now))) = subst (λ (x : Phase). InRound d x) (sym now) tt
+    recovers r (inr (inr back)) = subst (λ (x : Phase). InRound d x) (sym (back_phase c d back).1) tt
 
     rebuilds : RebuildsIn c d → InRound d d.phase
     rebuilds (inl (u, j, was, now, base)) = subst (λ (x : Phase). InRound d x) (sym now) tt
@@ -246,6 +254,7 @@ ends_version c o Orders answer seen made fits is = absurd (both_ways (is_answer 
 ends_version c o (OrdersAt j) answer seen made fits is = absurd (both_ways (is_answer answer) fits is)
 ends_version c o Recovers answer seen made fits is = absurd (both_ways (is_answer answer) fits is)
 ends_version c o (Descends bound) answer seen made fits is = absurd (both_ways (is_answer answer) fits is)
+ends_version c o (LooksBack bound) answer seen made fits is = absurd (both_ways (is_answer answer) fits is)
 ends_version c o (Bases u) answer seen made fits is = absurd (both_ways (is_answer answer) fits is)
 ends_version c o (Modifies u j) answer None made fits is = (c.stamp, made.0.0)
 ends_version c o (Modifies u j) answer (Some v) made fits is = (v, refl)
@@ -294,12 +303,12 @@ module _ (setting : Setting) (w : World) (replies : Replies) (me : BrickId) (now
   }
 
   abbrev fresh : Option Stamp
-  fresh = fresh_stamp me c.call.view now node.boot known
+  fresh = fresh_stamp me c.stamp.view now node.boot known
 
   -- the replies that count are no part of the operation
   same_of : (d : Coordinator) → SameOperation then' d → SameOperation c d
   same_of d same =
-      record { ask = same.ask; members = same.members; boot = same.boot; seq = same.seq; group = same.group; view = same.view; stripe = same.stripe }
+      record { ask = same.ask; members = same.members; prior = same.prior; boot = same.boot; seq = same.seq; group = same.group; stripe = same.stripe }
 
   mine : CallBooks setting w i k c
   mine = books.calls i k c is_call
@@ -325,10 +334,10 @@ module _ (setting : Setting) (w : World) (replies : Replies) (me : BrickId) (now
 
   -- the stamp that an operation has stays its own
   stamp_stays : (time : ℕ) (d : Option Coordinator) (t : Stamp) → t ≡ c.stamp → node.known ≤ time
-      → IsBookedStamp (put w.nodes i (with_call node time node.busy k d) i).known c.call.view.0 mine.operation t
-  stamp_stays time d t same later = subst (λ (x : Stamp). IsBookedStamp (put w.nodes i (with_call node time node.busy k d) i).known c.call.view.0 mine.operation x)
+      → IsBookedStamp (put w.nodes i (with_call node time node.busy k d) i).known mine.operation t
+  stamp_stays time d t same later = subst (λ (x : Stamp). IsBookedStamp (put w.nodes i (with_call node time node.busy k d) i).known mine.operation x)
       (sym same)
-      (subst (λ (x : ℕ). IsBookedStamp x c.call.view.0 mine.operation c.stamp) (own_known time node.busy d) (record {
+      (subst (λ (x : ℕ). IsBookedStamp x mine.operation c.stamp) (own_known time node.busy d) (record {
         brick = mine.stamp_brick;
         view = mine.stamp_view;
         boot = mine.stamp_boot ∙ sym mine.boot;
@@ -337,20 +346,28 @@ module _ (setting : Setting) (w : World) (replies : Replies) (me : BrickId) (now
 
   -- a fresh stamp is the operation's, and no time falls
   stamp_fresh : (time : ℕ) (d : Option Coordinator) (t : Stamp) → fresh ≡ Some t → t.time ≤ time
-      → IsBookedStamp (put w.nodes i (with_call node time node.busy k d) i).known c.call.view.0 mine.operation t
+      → IsBookedStamp (put w.nodes i (with_call node time node.busy k d) i).known mine.operation t
   stamp_fresh time d t is later =
-      let facts = fresh_is me c.call.view now node.boot known t is in
+      let facts = fresh_is me c.stamp.view now node.boot known t is in
       let at : t.time ≡ next_time now known = ap (λ (x : Stamp). x.time) facts.0 in
-      subst (λ (x : ℕ). IsBookedStamp x c.call.view.0 mine.operation t) (own_known time node.busy d) (record {
+      subst (λ (x : ℕ). IsBookedStamp x mine.operation t) (own_known time node.busy d) (record {
         brick = ap (λ (x : Stamp). x.brick) facts.0 ∙ brick_of me mine.operation.brick (sym mine.brick);
-        view = ap (λ (x : Stamp). x.view.0) facts.0;
+        view = mine.stamp_view ∙ sym (ap (λ (x : Stamp). x.view.0) facts.0);
         boot = ap (λ (x : Stamp). x.boot) facts.0 ∙ sym mine.boot;
         time = (omega (arith, facts.2, at), omega arith);
       })
 
+  -- the view that the next phase asks
+  asks_sends : (d : Coordinator) → d.call ≡ call_after then' d.phase → ReordersFits fresh then' d ⊎ (RecoversFits then' d ⊎ RebuildsFits then' d)
+      → d.call.view ≡ asked_view d.stamp d.phase
+  asks_sends d call (inl again) =
+      next_view then' d (ap (λ (x : Stamp). x.view) (fresh_is me c.stamp.view now node.boot known d.stamp again.stamp).0) call
+  asks_sends d call (inr (inl goes)) = next_view then' d (ap (λ (x : Stamp). x.view) goes.stamp) call
+  asks_sends d call (inr (inr goes)) = next_view then' d (ap (λ (x : Stamp). x.view) goes.stamp) call
+
   -- the stamp and the rounds of the next phase
   stamp_sends : (d : Coordinator) → ReordersFits fresh then' d ⊎ (RecoversFits then' d ⊎ RebuildsFits then' d)
-      → IsBookedStamp (put w.nodes i (with_call node (max known d.stamp.time) node.busy k (Some d)) i).known c.call.view.0 mine.operation d.stamp
+      → IsBookedStamp (put w.nodes i (with_call node (max known d.stamp.time) node.busy k (Some d)) i).known mine.operation d.stamp
   stamp_sends d (inl again) = stamp_fresh (max known d.stamp.time) (Some d) d.stamp again.stamp (omega arith)
   stamp_sends d (inr (inl goes)) = stamp_stays (max known d.stamp.time) (Some d) d.stamp goes.stamp (omega arith)
   stamp_sends d (inr (inr goes)) = stamp_stays (max known d.stamp.time) (Some d) d.stamp goes.stamp (omega arith)
@@ -434,6 +451,7 @@ module _ (setting : Setting) (w : World) (replies : Replies) (me : BrickId) (now
         operation_was = mine.operation_is;
         same = same_of d fits.same;
         stamp = stamp_stays known (Some d) d.stamp fits.stamp grows;
+        call_view = waits_view c d mine.call_view fits.stamp fits.phase fits.call;
         rounds = subst (λ (x : ℕ). (1 ≤ x) × (x ≤ most_rounds)) (sym fits.round) mine.rounds;
         in_round = round_same c d c.phase d.phase (ap (λ (x : Call). x.phase) fits.call) fits.round fits.phase mine.in_round;
         same_ask = record { brick = refl; boot = refl; seq = refl; begin = refl; ask = refl; mark = refl; view = refl; answered = refl };
@@ -453,6 +471,7 @@ module _ (setting : Setting) (w : World) (replies : Replies) (me : BrickId) (now
         operation_was = mine.operation_is;
         same = same_of d fits.same;
         stamp = stamp_sends d fits.how;
+        call_view = asks_sends d fits.call fits.how;
         rounds = rounds_sends d fits.how;
         in_round = round_next fresh then' d fits (round_same c then' c.phase c.phase refl refl refl mine.in_round);
         same_ask = record { brick = refl; boot = refl; seq = refl; begin = refl; ask = refl; mark = refl; view = refl; answered = refl };
@@ -487,6 +506,7 @@ module _ (setting : Setting) (w : World) (replies : Replies) (me : BrickId) (now
         operation_was = mine.operation_is;
         same = same_of d fits.same;
         stamp = stamp_stays known (Some d) d.stamp fits.stamp grows;
+        call_view = next_view then' d (ap (λ (x : Stamp). x.view) fits.stamp) fits.call;
         rounds = subst (λ (x : ℕ). (1 ≤ x) × (x ≤ most_rounds)) (sym fits.round) mine.rounds;
         in_round = round_made d fits.phase;
         same_ask = record { brick = refl; boot = refl; seq = refl; begin = refl; ask = refl; mark = refl; view = refl; answered = refl };
@@ -521,12 +541,12 @@ module _ (setting : Setting) (w : World) where
       (seat : Option ℕ) → Books setting w → IsCall w me.0 c.call.seq c
       → (let known = known_after (w.nodes me.0).known reply in
       Books setting (stepped setting w replies me (carried_out setting me (w.nodes me.0) known c
-      (counted_at setting.layout.block setting.code (fresh_stamp me c.call.view now (w.nodes me.0).boot known) c from reply seat))))
+      (counted_at setting.layout.block setting.code (fresh_stamp me c.stamp.view now (w.nodes me.0).boot known) c from reply seat))))
   books_counted_at replies me now from reply c None books is_call =
       books_known setting w replies me (known_after (w.nodes me.0).known reply) books (known_grows (w.nodes me.0).known reply)
   books_counted_at replies me now from reply c (Some seat) books is_call =
       let known = known_after (w.nodes me.0).known reply in
-      let fresh = fresh_stamp me c.call.view now (w.nodes me.0).boot known in
+      let fresh = fresh_stamp me c.stamp.view now (w.nodes me.0).boot known in
       books_carried_out setting w replies me now known c (with_reply c seat from reply).counted books is_call
       (known_grows (w.nodes me.0).known reply)
       (once_full setting.layout.block setting.code fresh (with_reply c seat from reply))
@@ -552,6 +572,11 @@ pub taught_keeps : (block g : ℕ) (node : Node) (view : Option View) → KeepsC
 taught_keeps block g node view =
     told_each (λ (n : Node). KeepsCalls node n) block g node view (keeps_itself node)
     (λ v later. (record { boot = refl; seq = omega arith; known = omega arith }, λ l. refl))
+
+pub synced_keeps : (layout : Layout) (node : Node) (group : GroupId) (number : ViewNo) → KeepsCalls node (node_synced layout node group number)
+synced_keeps layout node group number =
+    synced_each (λ (n : Node). KeepsCalls node n) layout node group number (keeps_itself node)
+    (λ now unsynced. (record { boot = refl; seq = omega arith; known = omega arith }, λ l. refl))
 
 pub learnt_keeps : (layout : Layout) (node : Node) (group : GroupId) (view : View) → KeepsCalls node (node_learnt layout node group view)
 learnt_keeps layout node group view =
@@ -588,6 +613,8 @@ module _ (setting : Setting) (w : World) where
   books_received me now from to (Message.Reply call reply) books = books_heard me now from call reply books
   books_received me now from to (Message.Learn group view) books =
       books_silent setting w w.replies me (node_learnt setting.layout (w.nodes me.0) group view) [] [] books (learnt_keeps setting.layout (w.nodes me.0) group view)
+  books_received me now from to (Message.Synced group number) books =
+      books_silent setting w w.replies me (node_synced setting.layout (w.nodes me.0) group number) [] [] books (synced_keeps setting.layout (w.nodes me.0) group number)
   books_received me now from to message books = books_no_step setting w w.replies me books
 
   -- the books do not change with the replies that count, the messages that were delivered, or the choices
@@ -681,6 +708,7 @@ kept_keeps setting me node from to (Message.Reply call reply) =
     cond_both (lists_fit setting.layout call reply) (node_taught_by setting.layout.block call.group.0 node (view_told reply)) node
     (λ (n : Node). KeepsCalls node n) (λ fit. taught_keeps setting.layout.block call.group.0 node (view_told reply)) (λ isnt. keeps_itself node)
 kept_keeps setting me node from to (Message.Learn group view) = learnt_keeps setting.layout node group view
+kept_keeps setting me node from to (Message.Synced group number) = synced_keeps setting.layout node group number
 kept_keeps setting me node from to message = keeps_itself node
 
 module _ (setting : Setting) (w : World) where

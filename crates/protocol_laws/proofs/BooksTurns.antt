@@ -8,7 +8,7 @@ use Rattle.reg_model.specs.Marks.{life_of}
 use Rattle.fab_base.specs.Layouts.{Group}
 use Rattle.protocol.specs.Settings.{Setting}
 use Rattle.protocol.specs.declared.phases.Counted.{Counted}
-use Rattle.protocol.specs.Coordinators.{Coordinator, most_rounds}
+use Rattle.protocol.specs.Coordinators.{Coordinator, most_rounds, asked_view}
 use Rattle.protocol.specs.Nodes.{Node}
 use Rattle.protocol.specs.Worlds.{World, Operation, own_mark, number_of, Choices}
 use Rattle.protocol_laws.proofs.Books.{Books, OperationBooks, CallBooks, IsOperation, IsCall, MadeInPhase, InRound}
@@ -28,10 +28,10 @@ pub record SameAsk (o later : Operation) : Type 0 where
   pub view : later.view ≡ o.view
   pub answered : later.answered ≡ o.answered
 
--- a stamp of an operation and its boot in view e, whose brick knows this time
-pub record IsBookedStamp (known e : ℕ) (o : Operation) (t : Stamp) : Type 0 where
+-- a stamp of an operation, its view and its boot, whose brick knows this time
+pub record IsBookedStamp (known : ℕ) (o : Operation) (t : Stamp) : Type 0 where
   pub brick : t.brick ≡ o.brick
-  pub view : t.view.0 ≡ e
+  pub view : o.view ≡ t.view.0
   pub boot : t.boot ≡ o.boot
   pub time : (1 ≤ t.time) × (t.time ≤ known)
 
@@ -41,7 +41,8 @@ pub record Turned (w : World) (i k : ℕ) (c d : Coordinator) (before o : Operat
   pub was : IsCall w i k c
   pub operation_was : IsOperation w (number_of w i k) before
   pub same : SameOperation c d
-  pub stamp : IsBookedStamp (nodes i).known c.call.view.0 before d.stamp
+  pub stamp : IsBookedStamp (nodes i).known before d.stamp
+  pub call_view : d.call.view ≡ asked_view d.stamp d.phase
   pub rounds : (1 ≤ d.round) × (d.round ≤ most_rounds)
   pub in_round : InRound d d.phase
   pub same_ask : SameAsk before o
@@ -116,13 +117,13 @@ module _ (setting : Setting) (w : World) (i k : ℕ) (c d : Coordinator) (before
         seq = turned.same_ask.seq ∙ seq;
         ask = turned.same.ask ∙ call.ask ∙ ap (λ (x : Operation). x.ask) same_before ∙ sym turned.same_ask.ask;
         stamp_brick = turned.stamp.brick ∙ sym turned.same_ask.brick;
-        stamp_view = turned.stamp.view ∙ sym (ap (λ v. v.0) turned.same.view);
+        stamp_view = turned.same_ask.view ∙ turned.stamp.view;
         stamp_boot = turned.stamp.boot ∙ boot;
         stamp_known = turned.stamp.time;
         call_boot = turned.same.boot ∙ call.call_boot ∙ sym (turned.keeps i).boot;
         call_seq = turned.same.seq ∙ call.call_seq;
         call_group = turned.same.group ∙ call.call_group ∙ sym (ap (λ a. a.group) turned.same.ask);
-        call_view = turned.same_ask.view ∙ ap (λ (x : Operation). x.view) (sym same_before) ∙ call.call_view ∙ ap (λ v. v.0) (sym turned.same.view);
+        call_view = turned.call_view;
         call_stripe = turned.same.stripe ∙ call.call_stripe ∙ sym (ap (λ a. a.stripe) turned.same.ask);
         rounds = turned.rounds;
         in_round = turned.in_round;

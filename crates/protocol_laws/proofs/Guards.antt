@@ -30,7 +30,7 @@ use Rattle.protocol_laws.proofs.Counting.{mover_one}
 use Rattle.protocol_laws.proofs.Proposing.{AreOfViews, of_views_each, resent_of_views, ballot_each, proposed_each}
 use Rattle.protocol_laws.proofs.Teaching.{heard_each, replied_rests}
 use Rattle.protocol.specs.Replicas.{handle}
-use Rattle.protocol.specs.Coordinators.{mover_of, lower_mover, lowest_mover, aborted_moved, decided, Coordinator, Next, Ignores, Waits, Sends, Makes, Ends, with_reply, once_full, counted_at, counts_at, on_reply, request_of}
+use Rattle.protocol.specs.Coordinators.{mover_of, lower_mover, lowest_mover, aborted_moved, decided, Coordinator, Next, Ignores, Waits, Sends, Makes, Ends, with_reply, once_full, counted_at, counts_at, on_reply, request_of, asked_group}
 use Rattle.protocol.specs.Nodes.{Node, NodeStep, put, top_at, first_phase, phase_packets, new_coordinator, began, invoked, replica_at, full_at, known_after, fresh_stamp, carried_out, group_at, replied_at, heard, received, ticked, with_round, with_known, node_taught, node_taught_by, view_counted, counts_here, vote_at, replied_ballot, proposed, ballot_resent}
 use Rattle.protocol.specs.Worlds.{World, Event, first_world, world_began, world_stopped, happens, run, world_ticked, world_stepped, world_started, world_found, After}
 use Rattle.protocol.proofs.Events.{EventCases, step_on, world_handled, happens_each, started_each, run-append}
@@ -128,7 +128,7 @@ moved_ends block code fresh c from view lineage (Some seat) =
     let d : Coordinator = with_reply c seat from (Reply.Moved view lineage) in
     let one : Counted = record { seat = seat; brick = from; reply = Reply.Moved view lineage } in
     let lowest = some_mover c.counted one (record { seat = seat; brick = from; view = view }) refl in
-    cond_both (nat_lt (length d.counted) (quorum_of d.group)) (Waits d) (decided block code fresh d) BeginsNone (λ few. tt)
+    cond_both (nat_lt (length d.counted) (quorum_of (asked_group d))) (Waits d) (decided block code fresh d) BeginsNone (λ few. tt)
     (λ full. subst BeginsNone (sym (decided_moved block code fresh d lowest.0 lowest.1)) tt)
 
 -- what is of views stores nothing
@@ -149,7 +149,7 @@ module _ (setting : Setting) (w next : World) (me : BrickId) (books : Books sett
       in_group None = each_none P
       in_group (Some group) =
           let c : Coordinator = new_coordinator group me now (w.nodes me.0) ask in
-          each_member P me c.call (request_of setting.code c) (λ seat to t stores. absurd (first_stores setting.code c ask.op seat t stores)) 0 group.members
+          each_member P me c.call (request_of setting.code c) (λ seat to t stores. absurd (first_stores setting.code c ask.op seat t stores)) 0 (asked_group c).members
 
   -- a phase of an open call
   phase_stores : (c d : Coordinator) → ((g s i : ℕ) → top_in next g s i ≡ top_in w g s i)
@@ -161,7 +161,7 @@ module _ (setting : Setting) (w next : World) (me : BrickId) (books : Books sett
         tops,
         subst (λ (b : ℕ). IsOpen (life_of w.marks (w.numbers me.0 b d.call.seq))) (sym same.0)
             (subst (λ (k : ℕ). IsOpen (life_of w.marks (w.numbers me.0 c.call.boot k))) (sym same.1) open'),
-      )) 0 d.group.members
+      )) 0 (asked_group d).members
 
   carried_stores : (node : Node) (known : ℕ) (c : Coordinator) (decision : Next) → KeepsPlaces (w.nodes me.0) node → NextIsSame c decision
       → IsOpen (life_of w.marks (w.numbers me.0 c.call.boot c.call.seq))
@@ -206,7 +206,7 @@ module _ (setting : Setting) (w next : World) (me : BrickId) (books : Books sett
   replied_stores node now from call reply (Some c) places is nodes =
       let known : ℕ = known_after node.known reply in
       carried_stores node known c _ places
-      (decides (fresh_stamp me c.call.view now node.boot known) (counts_at setting.layout.block c from.0 call reply))
+      (decides (fresh_stamp me c.stamp.view now node.boot known) (counts_at setting.layout.block c from.0 call reply))
       (call_open setting w books me.0 call.seq c is) nodes
     where
       decides : (fresh : Option Stamp) (seat : Option ℕ)
@@ -223,7 +223,7 @@ module _ (setting : Setting) (w next : World) (me : BrickId) (books : Books sett
   moved_stores node now from call view lineage None = voted_stores (with_known node node.known) from call (Reply.Moved view lineage) node.proposal
   moved_stores node now from call view lineage (Some c) =
       carried_none node node.known c _
-      (moved_ends setting.layout.block setting.code (fresh_stamp me c.call.view now node.boot node.known) c from view lineage
+      (moved_ends setting.layout.block setting.code (fresh_stamp me c.stamp.view now node.boot node.known) c from view lineage
       (counts_at setting.layout.block c from.0 call (Reply.Moved view lineage)))
 
   -- so has one that teaches a view

@@ -27,11 +27,14 @@ pub mod Moments
 pub mod Numbers
 pub mod Operated
 pub mod Outcomes
+pub mod OldFound
+pub mod OldReads
 pub mod OwnStamps
 pub mod Proposing
 pub mod QuorumFacts
 pub mod Reactions
 pub mod Recoveries
+pub mod Replaced
 pub mod Replies
 pub mod Requests
 pub mod Said

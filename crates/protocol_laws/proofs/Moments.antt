@@ -1,5 +1,6 @@
 -- What a member told was true of it when it told it.
-use Rattle.std.proofs.Common.{nat_lt, ◌≡◌, ◌≤◌, ⊎_elim, arith, not, Bool, ℕ, true, List, [], Option, Some, None, refl, sym, ap, ◌∙◌, subst, false}
+use Rattle.protocol.specs.Views.{first_kept}
+use Rattle.std.proofs.Common.{nat_lt, ◌≡◌, ◌≤◌, ⊎_elim, arith, not, Bool, ℕ, true, List, [], Option, Some, None, refl, sym, ap, ◌∙◌, subst, false, is_some, ltb-true}
 use Rattle.std.specs.Prelude.{nat_eq, if◌then◌else◌}
 use Rattle.std.proofs.lemmas.Bool.{cond_both, cases_Bool, or_parts, ltb-false}
 use Rattle.std.proofs.lemmas.Option.{same_Some}
@@ -18,12 +19,12 @@ use Rattle.fab_base.specs.declared.identities.GroupId.{GroupId}
 use Rattle.protocol.specs.Ballots.{Voted}
 use Rattle.protocol.specs.Settings.{Setting, Code}
 use Rattle.protocol_laws.proofs.Reactions.{modified_each}
-use Rattle.protocol.specs.Replicas.{Replica, Reaction, top_of, is_held, is_wanted, told_version, stays, unless_full, promised, stored, looked_up, handle, ignored}
-use Rattle.protocol.specs.Coordinators.{Coordinator, Next, Ignores, Waits, Sends, Makes, Ends, request_of, on_reply}
-use Rattle.protocol.specs.Nodes.{view_at, Node, replica_at, full_at, reply_packets, ticked, began, invoked, requested, known_after, fresh_stamp, carried_out, group_at, replied_at, heard, received, with_round, node_taught_by, view_counted, moved_at, is_void, requested_in, requested_as, no_step, vote_at, with_known, proposed, ballot_resent, NodeStep, phase_packets, new_coordinator, view_floor}
+use Rattle.protocol.specs.Replicas.{Replica, Reaction, top_of, is_held, is_wanted, told_version, stays, unless_full, promised, stored, looked_up, handle, ignored, newest_of, under}
+use Rattle.protocol.specs.Coordinators.{Coordinator, Next, Ignores, Waits, Sends, Makes, Ends, request_of, on_reply, asked_group}
+use Rattle.protocol.specs.Nodes.{view_at, Node, replica_at, full_at, reply_packets, ticked, began, invoked, requested, known_after, fresh_stamp, carried_out, group_at, replied_at, heard, received, with_round, node_taught_by, view_counted, moved_at, is_void, requested_in, requested_as, no_step, vote_at, with_known, proposed, ballot_resent, NodeStep, phase_packets, new_coordinator, view_floor, old_reply}
 use Rattle.protocol.specs.Worlds.{World, Event, first_world, world_stopped, happens, run}
 use Rattle.protocol_laws.specs.Laws.{RefusalIsTrue, RefusalsWereTrue, stamp_asked}
-use Rattle.protocol.proofs.Served.{request_each}
+use Rattle.protocol.proofs.Served.{request_each, TellsOld}
 use Rattle.protocol_laws.proofs.Votes.{vote_each, moved_each, outbid_promised}
 use Rattle.protocol_laws.proofs.Proposing.{AreOfViews, of_views_each, resent_of_views, ballot_each, proposed_each}
 use Rattle.protocol_laws.proofs.Teaching.{heard_each}
@@ -44,7 +45,7 @@ AreTrue w packets = OfEach (IsTrue w) packets
 
 -- a request refuses nothing
 phase_true : (setting : Setting) (w : World) (me : BrickId) (c : Coordinator) → AreTrue w (phase_packets setting me c)
-phase_true setting w me c = each_member (IsTrue w) me c.call (request_of setting.code c) (λ seat to. tt) 0 c.group.members
+phase_true setting w me c = each_member (IsTrue w) me c.call (request_of setting.code c) (λ seat to. tt) 0 (asked_group c).members
 
 -- a reply refuses only what is so: a later stamp is the part's own, and above the one that was asked at; and live records are as many as there may be
 abbrev SaysTrue : Option ℕ → Replica → Request → Option Reply → Type 0
@@ -54,6 +55,7 @@ SaysTrue full replica request (Some (Reply.Full live)) = full ≡ Some live
 SaysTrue full replica request (Some (Reply.Moved view lineage)) = ⊥
 SaysTrue full replica request (Some (Reply.Outbid ballot)) = ⊥
 SaysTrue full replica request (Some Reply.NotSynced) = ⊥
+SaysTrue full replica request (Some Reply.Retired) = ⊥
 SaysTrue full replica request (Some reply) = Unit {0}
 
 unless_full_true : (full whole : Option ℕ) (replica : Replica) (request : Request) (reaction : Reaction) → whole ≡ full → SaysTrue whole replica request reaction.reply
@@ -126,6 +128,7 @@ module _ (setting : Setting) (w : World) where
       said (Reply.Moved number lineage) is = absurd is
       said (Reply.Outbid ballot) is = absurd is
       said Reply.NotSynced is = absurd is
+      said Reply.Retired is = absurd is
       said r is = tt
 
   -- what a member tells that serves the view of a call no more
@@ -134,6 +137,22 @@ module _ (setting : Setting) (w : World) where
   moved_true me from call moved known =
       moved_each (λ (r : Reply). IsTrue w (record { from = me; to = from; message = Message.Reply call r })) (w.nodes me.0) call moved (λ later. (later, refl))
       (λ most has. (refl, omega (arith, most, known), has))
+
+  -- what it keeps in that
+  old_true : (me from : BrickId) (call : Call) (bound : Option Stamp) (told : Reply) → old_reply (w.nodes me.0) call bound ≡ Some told
+      → IsTrue w (record { from = me; to = from; message = Message.Reply call told })
+  old_true me from call bound told =
+      cond_both (nat_lt call.view.0 (first_kept ((w.nodes me.0).learnt call.group.0))) (Some Reply.Retired) _ (λ (z : Option Reply). z ≡ Some told → True told)
+      (λ gone is.
+      subst True (same_Some Reply.Retired told is) (ltb-true call.view.0 (first_kept ((w.nodes me.0).learnt call.group.0)) gone))
+      (λ kept.
+      cond_both (is_some (moved_at (w.nodes me.0) call)) (Some (Reply.Old (newest_of (under bound (replica_at (w.nodes me.0) call).log)))) None
+      (λ (z : Option Reply). z ≡ Some told → True told)
+      (λ moved is. subst True (same_Some (Reply.Old (newest_of (under bound (replica_at (w.nodes me.0) call).log))) told is) tt)
+      (λ serves is. absurd (let never : None ≡ Some told = is in cc)))
+    where
+      True : Reply → Type 0
+      True r = IsTrue w (record { from = me; to = from; message = Message.Reply call r })
 
   -- and one that votes
   vote_true : (me from : BrickId) (call : Call) (ballot : Ballot) (asked : Option (List BrickId)) → call.view.0 ≤ view_at (w.nodes me.0) call.group.0
@@ -157,7 +176,10 @@ module _ (setting : Setting) (w : World) where
       handled : call.view.0 ≤ view_at node call.group.0 → AreTrue w (requested setting me from node call request).packets
       handled known =
           request_each (λ step. AreTrue w step.packets) setting me from node call request (each_none (IsTrue w))
-          (λ moved is. each_one (IsTrue w) _ [] (moved_true me from call moved known is) (each_none (IsTrue w)))
+          (λ told is. each_one (IsTrue w) _ [] (⊎_elim
+          (λ (moved : moved_at node call ≡ Some told). moved_true me from call told known moved)
+          (λ (old : TellsOld node call request told). old_true me from call old.bound told old.says)
+          is) (each_none (IsTrue w)))
           (λ group seat here served. replies_true me from call request
           (handle setting.code group.m (full_at setting.layout.records node.live) seat (replica_at node call) request).reply
           (asks_above setting.layout node call request has asks served.view (free_for node call request served.free)) served.view
@@ -194,7 +216,7 @@ module _ (setting : Setting) (w : World) where
       (λ seq round proposal packets reports more are. ballots_true packets are)
   replied_true me now from node call reply (Some c) =
       carried_true me node (known_after node.known reply) c
-      (on_reply setting.layout.block setting.code (fresh_stamp me c.call.view now node.boot (known_after node.known reply)) c from call reply)
+      (on_reply setting.layout.block setting.code (fresh_stamp me c.stamp.view now node.boot (known_after node.known reply)) c from call reply)
 
   heard_true : (me : BrickId) (now : ℕ) (from : BrickId) (call : Call) (reply : Reply) → AreTrue w (heard setting me now from (w.nodes me.0) call reply).packets
   heard_true me now from call reply =

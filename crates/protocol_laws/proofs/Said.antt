@@ -2,7 +2,7 @@
 -- brick's calls is remembered beside the world.
 use Rattle.quorum.specs.Quorums.{IsWithinLimits}
 use Rattle.std.specs.List.{IsDistinct}
-use Rattle.std.proofs.Common.{◌≡◌, ℕ, ◌<◌, ◌≤◌, ◌⊎◌, Bool, true, false, not, List, [], ◌∷◌, length, Option, Some, None, ◌+◌}
+use Rattle.std.proofs.Common.{◌≡◌, ℕ, ◌<◌, ◌≤◌, ◌⊎◌, Bool, true, false, not, List, [], ◌∷◌, length, Option, Some, None, ◌+◌, ◌-◌}
 use Rattle.std.specs.Prelude.{slice_get, nat_eq, map}
 use Rattle.fab_base.specs.declared.identities.BrickId.{BrickId}
 use Rattle.fab_base.specs.declared.stamps.Stamp.{Stamp}
@@ -30,9 +30,9 @@ use Rattle.protocol.specs.Views.{Views, group_in, view_of, floor_of}
 use Rattle.protocol.specs.Settings.{Setting}
 use Rattle.protocol.specs.Replicas.{top_of, stamp_max, modified_block, is_wanted}
 use Rattle.protocol.specs.declared.phases.Phase.{Phase}
-use Rattle.protocol.specs.declared.phases.Phase.TheVariants.{Looks, LooksAt, Orders, OrdersAt, Recovers, Descends, Modifies, Bases, Stores}
+use Rattle.protocol.specs.declared.phases.Phase.TheVariants.{Looks, LooksAt, Orders, OrdersAt, Recovers, Descends, Modifies, Bases, Stores, LooksBack}
 use Rattle.protocol.specs.declared.phases.Counted.{Counted}
-use Rattle.protocol.specs.Coordinators.{Coordinator, answers_phase, has_seat, request_of, delta_at}
+use Rattle.protocol.specs.Coordinators.{Coordinator, answers_phase, has_seat, request_of, delta_at, old_bound, asked_group, looks_back}
 use Rattle.protocol.specs.Nodes.{Node, given_content, view_at}
 use Rattle.protocol.specs.Worlds.{World, Operation, zero_content}
 use Rattle.protocol.specs.Happenings.{writes}
@@ -60,11 +60,12 @@ IsBegun stamps i b k p phase t = stamps i b k p ≡ Some (record { stamp = t; ph
 abbrev pub IsStamped : Stamping → ℕ → ℕ → ℕ → ℕ → Stamp → Type 0
 IsStamped stamps i b k p t = (phase : Phase) × IsBegun stamps i b k p phase t
 
--- the version that a phase of stamp t looks for at each member as it orders, if it looks for one
+-- the version that a phase of stamp t looks for at each member as it orders, or in the view before, if it looks for one
 abbrev pub look_of : Phase → Stamp → Option Look
 look_of (OrdersAt j) t = Some (Below t)
 look_of Recovers t = Some (Below t)
 look_of (Descends bound) t = Some (Below bound)
+look_of (LooksBack bound) t = Some (Below (old_bound t bound))
 look_of (Bases base) t = Some (At base)
 look_of phase t = None
 
@@ -152,6 +153,7 @@ FitsPhase Orders op = (bytes : List ℕ) × (op ≡ WriteStripe bytes)
 FitsPhase (OrdersAt j) op = (bytes : List ℕ) × (op ≡ WriteBlock j bytes)
 FitsPhase Recovers op = writes op ≡ false
 FitsPhase (Descends bound) op = (bytes : List ℕ) → op ≡ WriteStripe bytes → ⊥
+FitsPhase (LooksBack bound) op = (bytes : List ℕ) → op ≡ WriteStripe bytes → ⊥
 FitsPhase (Modifies base j) op = (bytes : List ℕ) × (op ≡ WriteBlock j bytes)
 FitsPhase (Bases base) op = (j : ℕ) × (bytes : List ℕ) × (op ≡ WriteBlock j bytes)
 FitsPhase Stores op = Unit {0}
@@ -220,6 +222,7 @@ pub record OrderReadSays (w : World) (stamps : Stamping) (i : ℕ) (call : Call)
   pub called : IsCalled w i call operation
   pub phase : Phase
   pub begun : IsBegun stamps i call.boot call.seq call.phase phase t
+  pub ahead : looks_back phase ≡ false
   pub look_is : look_of phase t ≡ Some look
   pub want_is : want_of phase ≡ want
   pub fits : FitsPhase phase operation.ask.op
@@ -232,6 +235,12 @@ pub record OrderSays (w : World) (stamps : Stamping) (i : ℕ) (call : Call) (t 
   pub called : IsCalled w i call operation
   pub begun : IsBegun stamps i call.boot call.seq call.phase Orders t
   pub fits : FitsPhase Orders operation.ask.op
+
+-- a request for what a member keeps in the view before that of the operation
+pub record OldReadSays (stamps : Stamping) (i : ℕ) (call : Call) (bound : Option Stamp) : Type 0 where
+  pub stamp : Stamp
+  pub begun : IsBegun stamps i call.boot call.seq call.phase (LooksBack bound) stamp
+  pub view : stamp.view.0 ≡ call.view.0 + 1
 
 -- a request to drop what is below version c: its operation made that, and was answered
 pub record CollectSays (w : World) (i : ℕ) (call : Call) (c : Stamp) : Type 0 where
@@ -267,6 +276,7 @@ RequestSays setting views w stamps i j call (Request.OrderRead t look want) = Or
 RequestSays setting views w stamps i j call (Request.Write t block) = WriteSays setting views w stamps i j call t block
 RequestSays setting views w stamps i j call (Request.Modify t base d delta) = ModifySays setting views w stamps i j call t base d delta
 RequestSays setting views w stamps i j call (Request.Collect c) = CollectSays w i call c
+RequestSays setting views w stamps i j call (Request.OldRead bound) = OldReadSays stamps i call bound
 RequestSays setting views w stamps i j call request = Unit {0}
 
 -- an order that brick j answered
@@ -298,6 +308,17 @@ module _ (setting : Setting) (views : Views) (w : World) where
     pub held : (version : Version) → found ≡ Some version → w.held j call.group.0 call.stripe.0 version.stamp ≡ true
     pub says : (version : Version) → found ≡ Some version → ToldSays setting views w (want_of phase) call.group.0 call.view.0 call.stripe.0 j version
 
+  -- What brick j found in the call's view, which it serves no more: it takes nothing below the first stamp of the next view; each version of the call's view
+  -- that is looked for, and that it has held, is at most what it found, or is passed over.
+  pub record OldSays (stamps : Stamping) (j i : ℕ) (call : Call) (found : Option Version) : Type 0 where
+    pub bound : Option Stamp
+    pub request : OldReadSays stamps i call bound
+    pub passed : stamp_below (top_in w call.group.0 call.stripe.0 j) (floor_of request.stamp.view.0) ≡ false
+    pub newest : (d : Stamp) → view_of d ≡ call.view.0 → w.held j call.group.0 call.stripe.0 d ≡ true → stamp_below d (old_bound request.stamp bound) ≡ true
+        → IsWithin found d ⊎ IsPassedOver w call.group.0 call.view.0 call.stripe.0 (Below (old_bound request.stamp bound)) request.stamp d
+    pub held : (version : Version) → found ≡ Some version → w.held j call.group.0 call.stripe.0 version.stamp ≡ true
+    pub says : (version : Version) → found ≡ Some version → ToldSays setting views w All call.group.0 call.view.0 call.stripe.0 j version
+
   -- what brick j found
   pub record FoundSays (stamps : Stamping) (j i : ℕ) (call : Call) (order : Stamp) (version : Version) : Type 0 where
     pub operation : Operation
@@ -320,11 +341,18 @@ module _ (setting : Setting) (views : Views) (w : World) where
       × (w.held from.0 call.group.0 call.stripe.0 t ≡ true)
   ReplySays stamps from to call (Reply.Later x) = (t : Stamp) × AskedAt w call to from t × (stamp_below t x ≡ true)
   ReplySays stamps from to call (Reply.Full live) = live ≡ setting.layout.records
+  ReplySays stamps from to call (Reply.Old found) = OldSays stamps from.0 to.0 call found
   ReplySays stamps from to call reply = Unit {0}
+
+  -- each stripe of the group has a version of the view that stands
+  abbrev pub SyncedSays : ℕ → ℕ → Type 0
+  SyncedSays g e = (s : ℕ) (group : Group) → group_of setting.layout g ≡ Some group → s < group.stripes
+      → (v : Stamp) × (view_of v ≡ e) × Stands setting views w g s v
 
   abbrev pub MessageSays : Stamping → BrickId → BrickId → Message → Type 0
   MessageSays stamps from to (Message.Request call request) = RequestSays setting views w stamps from.0 to.0 call request
   MessageSays stamps from to (Message.Reply call reply) = ReplySays stamps from to call reply
+  MessageSays stamps from to (Message.Synced group number) = SyncedSays group.0 number.0
   MessageSays stamps from to message = Unit {0}
 
   abbrev pub PacketSays : Stamping → Packet → Type 0
@@ -371,7 +399,7 @@ pub record OperationSays (setting : Setting) (views : Views) (w : World) (stamps
 pub record CountedSays (setting : Setting) (views : Views) (w : World) (i : ℕ) (c : Coordinator) (x : Counted) : Type 0 where
   pub sent : WasSent w (record { from = x.brick; to = record { 0 = i }; message = Message.Reply c.call x.reply })
   pub answers : answers_phase setting.layout.block c.stamp x.seat c.phase x.reply ≡ true
-  pub seat : seat_in c.group.members x.brick.0 ≡ Some x.seat
+  pub seat : seat_in (asked_group c).members x.brick.0 ≡ Some x.seat
 
 -- each reply that counts
 abbrev pub EachCounted : (Counted → Type 0) → List Counted → Type 0
@@ -383,10 +411,10 @@ abbrev pub AreOnce : List Counted → Type 0
 AreOnce [] = Unit {0}
 AreOnce (x ∷ counted) = (has_seat x.seat counted ≡ false) × AreOnce counted
 
--- Where an operation has made its version on a base: that is of its call's view, a quorum has held it, and the version's content is what it makes of the base's.
+-- Where an operation has made its version on a base: that is of its view, a quorum has held it, and the version's content is what it makes of the base's.
 pub record MadeOn (setting : Setting) (views : Views) (w : World) (c : Coordinator) (base : Stamp) : Type 0 where
   pub base_is : c.base ≡ Some base
-  pub of : view_of base ≡ c.call.view.0
+  pub of : view_of base ≡ c.stamp.view.0
   pub below : stamp_below base c.stamp ≡ true
   pub base_made : IsMadeOrFirst w c.ask.group.0 c.ask.stripe.0 base
   pub stands : Stands setting views w c.ask.group.0 c.ask.stripe.0 base
@@ -400,21 +428,40 @@ base_in (Modifies base j) = Some base
 base_in (Bases base) = Some base
 base_in phase = None
 
--- the open operation of brick i's call k. Its group is as its view's members keep it; its present phase is the last that was begun, and each member was sent its request; where it looks
--- below a bound, which is above the first stamp, no quorum will ever hold a version from there up to its stamp; and where it stores, it stores
--- the content of its version; and a stripe write orders with what it was given.
+-- the bound below which a phase of stamp t looks for a version, where no quorum will ever hold one from there up to the stamp
+abbrev pub bound_in : Phase → Stamp → Option Stamp
+bound_in (Descends bound) t = Some bound
+bound_in (LooksBack bound) t = Some (old_bound t bound)
+bound_in phase t = None
+
+-- An operation of brick i that looks back, below this bound: it has a view before its own, of which the bound is; and a quorum of its own view's members has promised its
+-- stamp, which is at or above how far they had come when it began.
+pub record BackSays (setting : Setting) (views : Views) (w : World) (i : ℕ) (c : Coordinator) (bound : Option Stamp) : Type 0 where
+  pub view : 1 < c.stamp.view.0
+  pub bounded : (b : Stamp) → bound ≡ Some b → view_of b + 1 ≡ c.stamp.view.0
+  pub operation : Operation
+  pub called : IsCalled w i c.call operation
+  pub guarded : (group : Group) → group_in setting.layout views c.call.group.0 (view_of c.stamp) ≡ Some group
+      → IsGuarded w c.call.group.0 c.call.stripe.0 group c.stamp
+  pub floors : (group : Group) → group_in setting.layout views c.call.group.0 (view_of c.stamp) ≡ Some group → FloorsAtMost operation group c.stamp
+
+-- the open operation of brick i's call k. Its group is as its view's members keep it, and those before them are of the view before; its present phase is the last that
+-- was begun, and each member that it asks was sent its request; where it looks below a bound, no quorum will ever hold a version from there up to its stamp, and in its own
+-- view the bound is above the first stamp; and where it stores, it stores the content of its version; and a stripe write orders with what it was given.
 pub record CallSays (setting : Setting) (views : Views) (w : World) (stamps : Stamping) (i k : ℕ) (c : Coordinator) : Type 0 where
-  pub group : group_in setting.layout views c.call.group.0 c.call.view.0 ≡ Some c.group
+  pub group : group_in setting.layout views c.call.group.0 c.stamp.view.0 ≡ Some c.group
+  pub prior : 1 < c.stamp.view.0 → c.prior ≡ views c.call.group.0 (c.stamp.view.0 - 1)
   pub begun : IsBegun stamps i (w.nodes i).boot k c.call.phase c.phase c.stamp
   pub last : (p : ℕ) → c.call.phase < p → stamps i (w.nodes i).boot k p ≡ None
-  pub asked : (seat : ℕ) (member : BrickId) → slice_get c.group.members seat ≡ Some member
+  pub asked : (seat : ℕ) (member : BrickId) → slice_get (asked_group c).members seat ≡ Some member
       → WasSent w (record { from = record { 0 = i }; to = member; message = Message.Request c.call (request_of setting.code c seat) })
   pub fits : FitsPhase c.phase c.ask.op
   pub unbased : c.phase ≡ Orders → c.base ≡ None
   pub given : c.phase ≡ Orders → c.content ≡ given_content c.ask.op
   pub above : (bound : Stamp) → c.phase ≡ Descends bound → stamp_below first_stamp bound ≡ true
   pub from : DescendsFrom c.phase c.ask.op c.stamp
-  pub covered : (bound : Stamp) → c.phase ≡ Descends bound
+  pub back : (bound : Option Stamp) → c.phase ≡ LooksBack bound → BackSays setting views w i c bound
+  pub covered : (bound : Stamp) → bound_in c.phase c.stamp ≡ Some bound
       → AreBlocked setting views w c.ask.group.0 c.ask.stripe.0 (λ d. (stamp_below d bound ≡ false) × (stamp_below d c.stamp ≡ true))
   pub stores : c.phase ≡ Stores
       → IsMadeOrFirst w c.ask.group.0 c.ask.stripe.0 c.stamp × (c.content ≡ w.contents c.ask.group.0 c.ask.stripe.0 c.stamp)

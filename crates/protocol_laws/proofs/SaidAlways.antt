@@ -1,4 +1,7 @@
 -- What is said is so in every world that a run reaches.
+use Rattle.protocol_laws.proofs.Growth.{stays_packet}
+use Rattle.protocol_laws.proofs.OwnStamps.{own_view}
+use Rattle.protocol_laws.proofs.OldReads.{old_reply_says}
 use Rattle.protocol_laws.proofs.Blocking.{first_fits}
 use Rattle.std.proofs.Common.{◌≡◌, ℕ, ◌<◌, ◌≤◌, ◌+◌, inl, true, false, List, [], ◌∷◌, ◌++◌, length, replicate, Option, Some, None, refl, sym, ap, ◌∙◌, subst, ⊎_elim, arith, ◌⊎◌, append_assoc}
 use Rattle.std.specs.Prelude.{slice_get, nat_eq}
@@ -23,7 +26,7 @@ use Rattle.protocol.specs.Settings.{Setting, IsSound}
 use Rattle.protocol.specs.Replicas.{Reaction, first_replica, top_of, handle, is_held, Replica}
 use Rattle.protocol.specs.Coordinators.{Coordinator}
 use Rattle.protocol.specs.Nodes.{Node, NodeStep, put, with_known, with_replica, replica_at, reacted, full_at, reply_packets, ticked, stopped, restarted, new_stamp, fresh_stamp, no_step, began, invoked, requested, known_after, replied_at, received, group_at, view_at, moved_at, vote_at, heard, with_round, proposed, node_taught_by, view_counted, lists_fit}
-use Rattle.protocol.specs.Worlds.{World, Found, Before, After, Event, replies_with, first_world, zero_content, world_ticked, left_after, packet_during, world_stopped, world_found, world_started, may_begin, world_began, world_stepped, run, reached_during, number_of, voiced}
+use Rattle.protocol.specs.Worlds.{World, Found, Before, After, Event, replies_with, first_world, zero_content, world_ticked, left_after, packet_during, world_stopped, world_found, world_started, may_begin, world_began, world_stepped, run, reached_during, voiced}
 use Rattle.protocol_laws.specs.Laws.{WasSent, Follows, RunFollows}
 use Rattle.protocol_laws.proofs.Books.{Books, IsCall}
 use Rattle.protocol_laws.proofs.Left.{IsLeft, kept_of, Leaves, always_leaves, packet_was_sent}
@@ -31,13 +34,13 @@ use Rattle.protocol_laws.proofs.Said.{Stamping, Said, IsSaid, IsStampOf, Version
 use Rattle.protocol_laws.proofs.BooksEvents.{known_grows, fresh_is, BeginFits, begin_fits, start_fits, books_found, books, books_beside, books_kept, hearing_keeps, group_there, fits_at}
 use Rattle.protocol.proofs.Tables.{put_same, get_one, get_kept, get_grown}
 use Rattle.reg_model.proofs.GrowingLives.{last_grows}
-use Rattle.protocol_laws.proofs.Stampings.{ages_within}
+use Rattle.protocol_laws.proofs.Stampings.{ages_within, stamps_same}
 use Rattle.protocol_laws.proofs.Reactions.{handle_after, handle_says, top_is_order}
-use Rattle.protocol_laws.proofs.Steps.{quiet, said_beside, said_added, said_idle}
+use Rattle.protocol_laws.proofs.Steps.{quiet, said_beside, said_added, said_idle, quiet_grows, keeps_same}
 use Rattle.protocol_laws.proofs.Requests.{said_after_request, reply_packets_say}
-use Rattle.protocol.proofs.Served.{request_each, IsServed}
+use Rattle.protocol.proofs.Served.{request_each, IsServed, IsTold, TellsOld}
 use Rattle.protocol.proofs.Packets.{OfEach, each_none, each_one}
-use Rattle.protocol_laws.proofs.SaidQuiet.{first_top, zero_kept, said_placed, said_voted, said_reports, said_kept, said_taught, said_learnt}
+use Rattle.protocol_laws.proofs.SaidQuiet.{first_top, zero_kept, said_placed, said_voted, said_reports, said_kept, said_taught, said_learnt, said_synced}
 use Rattle.protocol_laws.proofs.Hearing.{kept_world, taught_by, hearing_each}
 use Rattle.protocol_laws.proofs.Votes.{vote_each, moved_each}
 use Rattle.protocol_laws.proofs.Proposing.{AreOfViews, of_views_each, ballot_each, proposed_each}
@@ -149,21 +152,18 @@ module _ (setting : Setting) (views : Views) (w : World) (stamps : Stamping) (bo
       let seq : c.call.seq ≡ call.seq = (books.calls me.0 call.seq c is).call_seq in
       in_call (subst (λ (k : ℕ). IsCall w me.0 k c) (sym seq) is)
     where
-      some : IsCall w me.0 c.call.seq c → 1 ≤ c.call.view.0
-      some is =
-          let its = books.calls me.0 c.call.seq c is in
-          let least = (said.operations (number_of w me.0 c.call.seq) its.operation its.operation_is).view.0 in
-          let view = its.call_view in
-          omega (arith, least, view)
+      some : IsCall w me.0 c.call.seq c → 1 ≤ c.stamp.view.0
+      some is = own_view setting views w stamps books said me.0 c.call.seq c is
 
       in_call : IsCall w me.0 c.call.seq c
           → IsSaid setting views (stepped setting w me (replied_at setting me now from (w.nodes me.0) call reply (Some c)))
       in_call is =
           said_after_reply setting views sound w stamps me c (known_after (w.nodes me.0).known reply) books said is
           (known_grows (w.nodes me.0).known reply)
-          (fresh_stamp me c.call.view now (w.nodes me.0).boot (known_after (w.nodes me.0).known reply))
-          (λ t new. fresh_says setting w me c.call.view now (known_after (w.nodes me.0).known reply) t (some is) books
-          (known_grows (w.nodes me.0).known reply) new) from call reply sent
+          (fresh_stamp me c.stamp.view now (w.nodes me.0).boot (known_after (w.nodes me.0).known reply))
+          (λ t new. fresh_says setting w me c.stamp.view now (known_after (w.nodes me.0).known reply) t (some is) books
+          (known_grows (w.nodes me.0).known reply) new)
+          (λ t new. ap (λ (z : Stamp). z.view) (fresh_is me c.stamp.view now (w.nodes me.0).boot (known_after (w.nodes me.0).known reply) t new).0) from call reply sent
 
 module _ (setting : Setting) (views : Views) (w : World) (stamps : Stamping) (books : Books setting w) (stamped : StampViews setting.layout w)
     (follows : Follows setting.layout views w) (said : Said setting views w stamps) where
@@ -175,6 +175,24 @@ module _ (setting : Setting) (views : Views) (w : World) (stamps : Stamping) (bo
       (moved_each (λ (r : Reply). PacketSays setting views next stamps (record { from = me; to = from; message = Message.Reply call r })) (w.nodes me.0) call moved
       (λ later. tt) (λ most has. tt) is)
       (each_none (PacketSays setting views next stamps))
+
+  -- or what it keeps in that
+  told_says : (me from : BrickId) (call : Call) (request : Request) (said_so : Reply) → WasSent w (record { from = from; to = me; message = Message.Request call request })
+      → IsTold (w.nodes me.0) call request said_so
+      → OfEach (PacketSays setting views (quiet w me (w.nodes me.0) (reply_packets me from call (Some said_so))) stamps) (reply_packets me from call (Some said_so))
+  told_says me from call request said_so sent = ⊎_elim
+      (λ (moved : moved_at (w.nodes me.0) call ≡ Some said_so). moved_says me from call said_so _ moved)
+      (λ (old : TellsOld (w.nodes me.0) call request said_so).
+      let next : World = quiet w me (w.nodes me.0) (reply_packets me from call (Some said_so)) in
+      each_one (PacketSays setting views next stamps) (record { from = me; to = from; message = Message.Reply call said_so }) []
+      (stays_packet setting views w next stamps stamps books
+      (quiet_grows w stamps stamps me (w.nodes me.0) (reply_packets me from call (Some said_so)) (stamps_same stamps) said.logged
+      (keeps_same (w.nodes me.0) (w.nodes me.0) (refl, refl, refl)))
+      (record { from = me; to = from; message = Message.Reply call said_so })
+      (old_reply_says setting views w stamps me from call stamped said old.bound
+      (subst (λ (r : Request). WasSent w (record { from = from; to = me; message = Message.Request call r })) old.asked sent)
+      said_so old.known old.says))
+      (each_none (PacketSays setting views next stamps)))
 
   -- and its vote on a ballot
   vote_says : (me from : BrickId) (call : Call) (ballot : Ballot) (asked : Option (List BrickId)) (next : World)
@@ -193,7 +211,7 @@ module _ (setting : Setting) (views : Views) (w : World) (stamps : Stamping) (bo
       request_each (λ step. Said setting views (stepped setting w me step) stamps) setting me from (w.nodes me.0) call request
       (nothing_said setting views w stamps me books said)
       (λ moved is. said_placed setting views w stamps me books said (w.nodes me.0) (reply_packets me from call (Some moved)) (refl, refl, refl)
-      (keeps_itself (w.nodes me.0)) (moved_says me from call moved _ is))
+      (keeps_itself (w.nodes me.0)) (told_says me from call request moved sent is))
       (handled_said setting views w stamps me from call request books stamped follows said sent)
       (λ group ballot asked here. said_voted setting views w stamps me books said call ballot asked
       (reply_packets me from call (Some (vote_at (w.nodes me.0) call ballot asked).reply)) (vote_says me from call ballot asked _))
@@ -235,6 +253,8 @@ module _ (setting : Setting) (views : Views) (w : World) (stamps : Stamping) (bo
   message_said me from now (Message.Reply call reply) sound sent = reply_said me from now call reply sound sent
   message_said me from now (Message.Learn group view) sound sent =
       (stamps, said_learnt setting views w stamps me books said sound (stamped.nodes me.0) group view)
+  message_said me from now (Message.Synced group number) sound sent =
+      (stamps, said_synced setting views w stamps me books said sound (stamped.nodes me.0) group number)
   message_said me from now message sound sent = (stamps, nothing_said setting views w stamps me books said)
 
   -- what a brick keeps of a message
@@ -249,6 +269,8 @@ module _ (setting : Setting) (views : Views) (w : World) (stamps : Stamping) (bo
       (λ isnt. nothing_said setting views w stamps me books said)
   kept_message_said me from to (Message.Learn group view) sound sent =
       said_learnt setting views w stamps me books said sound (stamped.nodes me.0) group view
+  kept_message_said me from to (Message.Synced group number) sound sent =
+      said_synced setting views w stamps me books said sound (stamped.nodes me.0) group number
   kept_message_said me from to message sound sent = nothing_said setting views w stamps me books said
 
   -- what the store of a stopped brick may hold says what it should

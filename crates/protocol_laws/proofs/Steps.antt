@@ -20,7 +20,7 @@ use Rattle.protocol.specs.Settings.{Setting}
 use Rattle.protocol.specs.Views.{Views, view_of, Learnt, first_kept}
 use Rattle.protocol.specs.Replicas.{Replica, top_of, is_held}
 use Rattle.protocol.specs.declared.phases.Counted.{Counted}
-use Rattle.protocol.specs.Coordinators.{Coordinator, request_of}
+use Rattle.protocol.specs.Coordinators.{Coordinator, request_of, asked_group}
 use Rattle.protocol.specs.Nodes.{Node, put, to_members, phase_packets, top_at, view_at}
 use Rattle.protocol.specs.Worlds.{World, Operation, with_held, choices_after, Choices}
 use Rattle.protocol_laws.specs.Laws.{WasSent, part_in, top_in, first_kept_in}
@@ -430,12 +430,12 @@ member_sent me call request seat (other ∷ members) (suc k) member at =
 
 -- a phase that was just sent is asked of each member
 pub phase_asked : (setting : Setting) (w : World) (me : BrickId) (c : Coordinator) (packets : List Packet)
-    → w.packets ≡ packets ++ phase_packets setting me c → (seat : ℕ) (member : BrickId) → slice_get c.group.members seat ≡ Some member
+    → w.packets ≡ packets ++ phase_packets setting me c → (seat : ℕ) (member : BrickId) → slice_get (asked_group c).members seat ≡ Some member
     → WasSent w (record { from = me; to = member; message = Message.Request c.call (request_of setting.code c seat) })
 phase_asked setting w me c packets is seat member at =
     let packet : Packet = record { from = me; to = member; message = Message.Request c.call (request_of setting.code c (0 + seat)) } in
     let sent = get_added packets (phase_packets setting me c) seat packet
-    (member_sent me c.call (request_of setting.code c) 0 c.group.members seat member at) in
+    (member_sent me c.call (request_of setting.code c) 0 (asked_group c).members seat member at) in
     let place : 0 + seat ≡ seat = omega arith in
     subst (λ (j : ℕ). WasSent w (record { from = me; to = member; message = Message.Request c.call (request_of setting.code c j) })) place
     (sent.0, subst (λ (l : List Packet). slice_get l sent.0 ≡ Some packet) (sym is) sent.1)

@@ -1,7 +1,7 @@
 -- A reply counts in an open operation: the history of replies in the world that follows.
 use Rattle.std.proofs.Common.{◌≡◌, ◌≢◌, ℕ, ◌+◌, ◌-◌, ◌<◌, ◌≤◌, ◌⊎◌, inl, inr, ⊎_elim, Bool, true, false, List, [], ◌∷◌, ◌++◌, length, Option, Some, None, is_some, refl, sym, ap, ◌∙◌, subst, append_assoc, arith}
 use Rattle.std.specs.Prelude.{slice_get, if◌then◌else◌, nat_lt, nat_eq, max}
-use Rattle.std.proofs.lemmas.Bool.{cond_both, cases_eq, eq-eqb}
+use Rattle.std.proofs.lemmas.Bool.{cond_both, cases_eq, cases_Bool, eq-eqb, false≢true}
 use Rattle.std.proofs.lemmas.List.{append-nil}
 use Rattle.std.proofs.lemmas.Option.{same_Some}
 use Rattle.fab_base.specs.declared.identities.BrickId.{BrickId}
@@ -21,12 +21,13 @@ use Rattle.reg_model.specs.declared.marks.Mark.TheVariants.{End}
 use Rattle.reg_model.specs.Marks.{Life, life_of, IsOpen}
 use Rattle.protocol.specs.Settings.{Setting}
 use Rattle.protocol.specs.declared.phases.Phase.{Phase}
-use Rattle.protocol.specs.declared.phases.Phase.TheVariants.{Looks, LooksAt, Orders, OrdersAt, Recovers, Descends, Modifies, Bases, Stores}
+use Rattle.protocol.specs.declared.phases.Phase.TheVariants.{Looks, LooksAt, Orders, OrdersAt, Recovers, Descends, LooksBack, Modifies, Bases, Stores}
 use Rattle.protocol.specs.declared.phases.Counted.{Counted}
 use Rattle.protocol.specs.declared.phases.Refuser.{Refuser}
 use Rattle.protocol.specs.declared.phases.FullMember.{FullMember}
-use Rattle.protocol.specs.Coordinators.{Coordinator, Next, Ignores, Waits, Sends, Makes, Ends, refuser_of, greater_refuser, greatest_refuser, full_member_of, lower_full, lowest_full, mover_of, lower_mover, lowest_mover, with_reply}
+use Rattle.protocol.specs.Coordinators.{Coordinator, Next, Ignores, Waits, Sends, Makes, Ends, refuser_of, greater_refuser, greatest_refuser, full_member_of, lower_full, lowest_full, mover_of, lower_mover, lowest_mover, dropper_of, lower_dropper, lowest_dropper, told_stamp, greater_stamp, greatest_found, answers_phase, looks_back, with_reply}
 use Rattle.protocol.specs.declared.phases.Mover.{Mover}
+use Rattle.protocol.specs.declared.phases.Dropper.{Dropper}
 use Rattle.fab_base.specs.declared.identities.ViewNo.{ViewNo}
 use Rattle.protocol.specs.Nodes.{Node, put, has_later_time, new_stamp, fresh_stamp, with_call, phase_packets, collect_packets, carried_out}
 use Rattle.protocol.specs.Worlds.{World, Operation, number_of, known_in, with_made, with_seen, with_answer, with_counted, with_held, world_stepped, choices_after}
@@ -35,14 +36,14 @@ use Rattle.protocol_laws.proofs.MarkNumbers.{own_number, own_seen}
 use Rattle.protocol_laws.proofs.Books.{Replies, Books, OperationBooks, CallBooks, IsOperation, IsCall, InRound}
 use Rattle.protocol_laws.proofs.BooksKept.{KeepsNumbers, calls_apart, keeps_with_call}
 use Rattle.protocol_laws.proofs.BooksEvents.{keeps_put, brick_of, look_first}
-use Rattle.protocol_laws.proofs.Outcomes.{IsRound, IsLook, first_round, ReordersFits, RecoversFits, RebuildsIn, RebuildsFits, SendsFits, MakesIn, NoRoundFits, LastFits, AbortFits, FullFits, MovedFits, AnswerFits, NextFits}
+use Rattle.protocol_laws.proofs.Outcomes.{IsRebuild, IsRound, IsLook, Forgets, BackFits, back_phase, first_round, ReordersFits, RecoversFits, RebuildsIn, RebuildsFits, SendsFits, MakesIn, NoRoundFits, LastFits, AbortFits, FullFits, MovedFits, GoneFits, AnswerFits, NextFits}
 use Rattle.protocol_laws.proofs.Said.{EachCounted}
-use Rattle.protocol_laws.proofs.Counting.{each_more, no_full, no_mover, refuser_counted, full_counted, mover_counted, NoneStops}
+use Rattle.protocol_laws.proofs.Counting.{each_more, no_full, no_mover, no_dropper, refuser_counted, full_counted, mover_counted, dropper_counted}
 use Rattle.protocol.proofs.Puts.{put_other}
-use Rattle.protocol.proofs.Tables.{put_each, put_same, get_grown, get_one}
+use Rattle.protocol.proofs.Tables.{put_each, put_same, get_kept, get_grown, get_one}
 use Rattle.protocol_laws.proofs.Steps.{sent_by}
-use Rattle.protocol_laws.proofs.Tallies.{IsTally, CallTallied, CountedSent, AbortShown, Tallied, MessagesShow, GoesOn, Furthers}
-use Rattle.protocol_laws.proofs.TalliesKept.{call_tallied_on, known_kept, counted_on, asked_on, tallied_on}
+use Rattle.protocol_laws.proofs.Tallies.{IsTally, IsAmong, BeganBack, CallTallied, CountedSent, AbortShown, Tallied, MessagesShow, GoesOn, Furthers}
+use Rattle.protocol_laws.proofs.TalliesKept.{began_on, call_tallied_on, known_kept, counted_on, asked_on, tallied_on}
 
 -- where there is no fresh stamp no later time is left
 none_left : (me : BrickId) (view : ViewNo) (now boot known : ℕ) → fresh_stamp me view now boot known ≡ None → has_later_time known ≡ false
@@ -92,6 +93,49 @@ mover_after (x ∷ forgotten) counted none =
     let parts = no_mover (mover_of x) (lowest_mover forgotten) none in
     ap (λ (m : Option Mover). lower_mover m (lowest_mover (forgotten ++ counted))) parts.0 ∙ mover_after forgotten counted parts.1
 
+-- nor which one tells of versions that were dropped
+dropper_after : (forgotten counted : List Counted) → lowest_dropper forgotten ≡ None → lowest_dropper (forgotten ++ counted) ≡ lowest_dropper counted
+dropper_after [] counted none = refl
+dropper_after (x ∷ forgotten) counted none =
+    let parts = no_dropper (dropper_of x) (lowest_dropper forgotten) none in
+    ap (λ (d : Option Dropper). lower_dropper d (lowest_dropper (forgotten ++ counted))) parts.0 ∙ dropper_after forgotten counted parts.1
+
+-- of two stamps that may be none neither is one
+none_greater : (a b : Option Stamp) → greater_stamp a b ≡ None → (a ≡ None) × (b ≡ None)
+none_greater None b is = (refl, is)
+none_greater (Some a) None is = absurd (let never : Some a ≡ None = is in cc)
+none_greater (Some a) (Some b) is =
+    cond_both (stamp_below a b) (Some b) (Some a) (λ (z : Option Stamp). z ≡ None → (Some a ≡ None) × (Some b ≡ None))
+    (λ under e. absurd (let never : Some b ≡ None = e in cc)) (λ over e. absurd (let never : Some a ≡ None = e in cc)) is
+
+-- nor the greatest version that they tell
+found_after : (forgotten counted : List Counted) → greatest_found forgotten ≡ None → greatest_found (forgotten ++ counted) ≡ greatest_found counted
+found_after [] counted none = refl
+found_after (x ∷ forgotten) counted none =
+    let parts = none_greater (told_stamp x.reply) (greatest_found forgotten) none in
+    ap (λ (t : Option Stamp). greater_stamp t (greatest_found (forgotten ++ counted))) parts.0 ∙ found_after forgotten counted parts.1
+
+-- a round of ordering does not look back
+round_ahead : (p : Phase) → IsRound p → looks_back p ≡ false
+round_ahead (LooksBack bound) is = absurd is
+round_ahead p is = refl
+
+-- nor does a phase in which a version is made
+making_ahead : (d : Coordinator) → MakesIn d → looks_back d.phase ≡ false
+making_ahead d (inl stores) = ap (λ (p : Phase). looks_back p) stores
+making_ahead d (inr modifies) = ap (λ (p : Phase). looks_back p) modifies.2
+
+-- a reply tells of versions that were dropped only to a phase that looks back
+pub dropper_ahead : (block : ℕ) (t : Stamp) (p : Phase) (x : Counted) → looks_back p ≡ false → answers_phase block t x.seat p x.reply ≡ true
+    → dropper_of x ≡ None
+dropper_ahead block t p x ahead = told p x.reply ahead
+  where
+    told : (p : Phase) (reply : Reply) → looks_back p ≡ false → answers_phase block t x.seat p reply ≡ true
+        → dropper_of (record { seat = x.seat; brick = x.brick; reply = reply }) ≡ None
+    told (LooksBack bound) Reply.Retired ahead answers = absurd (false≢true (sym ahead))
+    told p Reply.Retired ahead answers = absurd (false≢true answers)
+    told p reply ahead answers = refl
+
 -- a phase's number, by the rounds before it
 round_of : (c : Coordinator) (p : Phase) → IsRound p → InRound c p → (c.call.phase + 1 ≡ c.round + first_round p) × (1 ≤ first_round p)
 round_of c Looks is within = absurd is
@@ -100,6 +144,7 @@ round_of c Orders is within = (ap (λ (x : ℕ). x + 1) within, omega arith)
 round_of c (OrdersAt j) is within = (ap (λ (x : ℕ). x + 1) within, omega arith)
 round_of c Recovers is within = (omega (arith, within), omega arith)
 round_of c (Descends bound) is within = absurd is
+round_of c (LooksBack bound) is within = absurd is
 round_of c (Modifies base j) is within = absurd is
 round_of c (Bases base) is within = absurd is
 round_of c Stores is within = absurd is
@@ -115,7 +160,8 @@ making_unordered d makes round = ⊎_elim
 -- brick me took a reply to the open operation at coordinator c, which counts at this seat
 module _ (setting : Setting) (w : World) (me : BrickId) (now known : ℕ) (c : Coordinator) (from : BrickId) (reply : Reply) (seat : ℕ)
     (books : Books setting w) (tallied : Tallied w) (shows : MessagesShow w) (is : IsCall w me.0 c.call.seq c)
-    (sent : WasSent w (record { from = from; to = me; message = Message.Reply c.call reply })) (grows : (w.nodes me.0).known ≤ known) where
+    (sent : WasSent w (record { from = from; to = me; message = Message.Reply c.call reply })) (grows : (w.nodes me.0).known ≤ known)
+    (answers : answers_phase setting.layout.block c.stamp seat c.phase reply ≡ true) where
   abbrev i : ℕ
   i = me.0
 
@@ -135,7 +181,7 @@ module _ (setting : Setting) (w : World) (me : BrickId) (now known : ℕ) (c : C
   replies = with_counted w.replies (number_of w me.0 c.call.seq) c.call.phase (record { seat = seat; brick = from; reply = reply })
 
   abbrev fresh : Option Stamp
-  fresh = fresh_stamp me c.call.view now (w.nodes me.0).boot known
+  fresh = fresh_stamp me c.stamp.view now (w.nodes me.0).boot known
 
   abbrev mine : CallBooks setting w me.0 c.call.seq c
   mine = books.calls me.0 c.call.seq c is
@@ -146,7 +192,7 @@ module _ (setting : Setting) (w : World) (me : BrickId) (now known : ℕ) (c : C
   own : OperationBooks setting w n o
   own = books.operations n o (books.calls i k c is).operation_is
 
-  its : CallTallied w.replies n c
+  its : CallTallied w.packets w.replies i n c
   its = tallied.calls i k c is
 
   -- the operation is open
@@ -173,45 +219,69 @@ module _ (setting : Setting) (w : World) (me : BrickId) (now known : ℕ) (c : C
   replies_later p above = replies_else p (λ same. omega arith) ∙ its.later p above
 
   -- in the present phase it is one more
-  replies_now : IsTally (replies n c.call.phase) (c.counted ++ (one ∷ []))
-  replies_now = (
-    its.now.0,
-    own_replies c.call.phase ∙ put_same (w.replies n) c.call.phase (w.replies n c.call.phase ++ (one ∷ []))
-        ∙ ap (λ (l : List Counted). l ++ (one ∷ [])) its.now.1 ∙ append_assoc its.now.0 c.counted (one ∷ []),
-    its.now.2,
-    its.now.3,
-    its.now.4,
-  )
+  replies_now : IsTally c.phase (replies n c.call.phase) (c.counted ++ (one ∷ []))
+  replies_now = record {
+    forgotten = its.now.forgotten;
+    are = own_replies c.call.phase ∙ put_same (w.replies n) c.call.phase (w.replies n c.call.phase ++ (one ∷ []))
+        ∙ ap (λ (l : List Counted). l ++ (one ∷ [])) its.now.are ∙ append_assoc its.now.forgotten c.counted (one ∷ []);
+    stops = its.now.stops;
+    refused = its.now.refused;
+    found = its.now.found;
+  }
 
-  -- which of them told the greatest later stamp is as of those that the coordinator has
-  refuser_now : greatest_refuser (replies n c.call.phase) ≡ greatest_refuser (c.counted ++ (one ∷ []))
-  refuser_now =
-      ap (λ (l : List Counted). greatest_refuser l) replies_now.1 ∙ refuser_after replies_now.0 (c.counted ++ (one ∷ [])) replies_now.2
+  -- which of them told the greatest later stamp is as of those that the coordinator has, where it does not look back
+  refuser_now : looks_back c.phase ≡ false → greatest_refuser (replies n c.call.phase) ≡ greatest_refuser (c.counted ++ (one ∷ []))
+  refuser_now ahead =
+      ap (λ (l : List Counted). greatest_refuser l) replies_now.are
+      ∙ refuser_after replies_now.forgotten (c.counted ++ (one ∷ [])) (replies_now.refused ahead)
 
   -- and so is the member that tells of a full store
   full_now : lowest_full (replies n c.call.phase) ≡ lowest_full (c.counted ++ (one ∷ []))
-  full_now = ap (λ (l : List Counted). lowest_full l) replies_now.1 ∙ full_after replies_now.0 (c.counted ++ (one ∷ [])) replies_now.3
+  full_now =
+      ap (λ (l : List Counted). lowest_full l) replies_now.are ∙ full_after replies_now.forgotten (c.counted ++ (one ∷ [])) replies_now.stops.2
 
-  -- and the one that tells of a later view
+  -- the one that tells of a later view
   mover_now : lowest_mover (replies n c.call.phase) ≡ lowest_mover (c.counted ++ (one ∷ []))
-  mover_now = ap (λ (l : List Counted). lowest_mover l) replies_now.1 ∙ mover_after replies_now.0 (c.counted ++ (one ∷ [])) replies_now.4
+  mover_now =
+      ap (λ (l : List Counted). lowest_mover l) replies_now.are ∙ mover_after replies_now.forgotten (c.counted ++ (one ∷ [])) replies_now.stops.0
+
+  -- the one that tells of versions that were dropped
+  dropper_now : lowest_dropper (replies n c.call.phase) ≡ lowest_dropper (c.counted ++ (one ∷ []))
+  dropper_now =
+      ap (λ (l : List Counted). lowest_dropper l) replies_now.are ∙ dropper_after replies_now.forgotten (c.counted ++ (one ∷ [])) replies_now.stops.1
+
+  -- and the greatest version that they tell, where those that were forgotten told none
+  found_now : greatest_found replies_now.forgotten ≡ None → greatest_found (replies n c.call.phase) ≡ greatest_found (c.counted ++ (one ∷ []))
+  found_now none =
+      ap (λ (l : List Counted). greatest_found l) replies_now.are ∙ found_after replies_now.forgotten (c.counted ++ (one ∷ [])) none
 
   -- the replies once the coordinator waits on
-  tally_waits : (counted : List Counted) → (counted ≡ c.counted ++ (one ∷ []))
-      ⊎ ((counted ≡ []) × (greatest_refuser (c.counted ++ (one ∷ [])) ≡ None) × NoneStops (c.counted ++ (one ∷ [])))
-      → IsTally (replies n c.call.phase) counted
-  tally_waits counted (inl same) = subst (λ (l : List Counted). IsTally (replies n c.call.phase) l) (sym same) replies_now
-  tally_waits counted (inr (none, unrefused, stops)) = (
-    replies n c.call.phase,
-    sym (ap (λ (l : List Counted). replies n c.call.phase ++ l) none ∙ append-nil (replies n c.call.phase)),
-    refuser_now ∙ unrefused,
-    full_now ∙ stops.1,
-    mover_now ∙ stops.0,
-  )
+  tally_waits : (d : Coordinator) → (d.counted ≡ c.counted ++ (one ∷ [])) ⊎ Forgets (with_reply c seat from reply) d
+      → IsTally c.phase (replies n c.call.phase) d.counted
+  tally_waits d (inl same) = subst (λ (l : List Counted). IsTally c.phase (replies n c.call.phase) l) (sym same) replies_now
+  tally_waits d (inr forgets) = record {
+    forgotten = replies n c.call.phase;
+    are = sym (ap (λ (l : List Counted). replies n c.call.phase ++ l) forgets.counted ∙ append-nil (replies n c.call.phase));
+    stops = (mover_now ∙ forgets.stops.0, dropper_now ∙ forgets.stops.1, full_now ∙ forgets.stops.2);
+    refused = λ ahead. refuser_now ahead ∙ forgets.refused ahead;
+    found = ⊎_elim
+        (λ (before : greatest_found replies_now.forgotten ≡ None). ⊎_elim
+        (λ (none : greatest_found (c.counted ++ (one ∷ [])) ≡ None). inl (found_now before ∙ none))
+        (λ (rebuilds : IsRebuild c.phase). inr rebuilds)
+        forgets.found)
+        (λ (rebuilds : IsRebuild c.phase). inr rebuilds)
+        replies_now.found;
+  }
 
   -- the replies once it is in another phase
-  tally_begins : (p : ℕ) (counted : List Counted) → counted ≡ [] → c.call.phase < p → IsTally (replies n p) counted
-  tally_begins p counted none above = ([], replies_later p above ∙ sym none, refl, refl, refl)
+  tally_begins : (p : ℕ) (d : Coordinator) → d.counted ≡ [] → c.call.phase < p → IsTally d.phase (replies n p) d.counted
+  tally_begins p d none above = record {
+    forgotten = [];
+    are = replies_later p above ∙ sym none;
+    stops = (refl, refl, refl);
+    refused = λ ahead. refl;
+    found = inl refl;
+  }
 
   -- a round of ordering before the present one had counted a later stamp
   refused_before : IsRound c.phase → (p : ℕ) → first_round c.phase ≤ p → p < c.call.phase → is_some (greatest_refuser (replies n p)) ≡ true
@@ -223,7 +293,7 @@ module _ (setting : Setting) (w : World) (me : BrickId) (now known : ℕ) (c : C
       → (p : ℕ) → first_round c.phase ≤ p → p < c.call.phase + 1 → is_some (greatest_refuser (replies n p)) ≡ true
   refused_again round refused p low high = ⊎_elim
       (λ (last : p ≡ c.call.phase).
-      ap (λ (q : ℕ). is_some (greatest_refuser (replies n q))) last ∙ ap (λ (r : Option Refuser). is_some r) refuser_now ∙ refused)
+      ap (λ (q : ℕ). is_some (greatest_refuser (replies n q))) last ∙ ap (λ (r : Option Refuser). is_some r) (refuser_now (round_ahead c.phase round)) ∙ refused)
       (λ (before : p ≢ c.call.phase). refused_before round p low (omega arith))
       (cases_eq p c.call.phase)
 
@@ -232,13 +302,14 @@ module _ (setting : Setting) (w : World) (me : BrickId) (now known : ℕ) (c : C
       → IsRound d.phase → (p : ℕ) → first_round d.phase ≤ p → p < d.call.phase → is_some (greatest_refuser (replies n p)) ≡ true
   refused_sends d fits phase round p low high = by fits.how
     where
-      recovers : (IsLook c.phase × (d.phase ≡ Recovers)) ⊎ ((bound : Stamp) × (d.phase ≡ Descends bound))
+      recovers : (IsLook c.phase × (d.phase ≡ Recovers)) ⊎ (((bound : Stamp) × (d.phase ≡ Descends bound)) ⊎ BackFits (with_reply c seat from reply) d)
           → is_some (greatest_refuser (replies n p)) ≡ true
       recovers (inl (look, is)) =
           let first : (c.call.phase ≡ 1) × (c.round ≡ 1) = look_first c c.phase look mine.in_round in
           let two : first_round d.phase ≡ 2 = ap (λ (x : Phase). first_round x) is in
           absurd (omega (arith, first.0))
-      recovers (inr (bound, is)) = absurd (subst (λ (x : Phase). IsRound x) is round)
+      recovers (inr (inl (bound, is))) = absurd (subst (λ (x : Phase). IsRound x) is round)
+      recovers (inr (inr back)) = absurd (subst (λ (x : Phase). IsRound x) (back_phase (with_reply c seat from reply) d back).1 round)
 
       rebuilds : RebuildsIn (with_reply c seat from reply) d → is_some (greatest_refuser (replies n p)) ≡ true
       rebuilds (inl (u, j, was, now, base)) = absurd (subst (λ (x : Phase). IsRound x) now round)
@@ -250,6 +321,64 @@ module _ (setting : Setting) (w : World) (me : BrickId) (now known : ℕ) (c : C
       by (inl again) =
           let same : first_round d.phase ≡ first_round c.phase = ap (λ (x : Phase). first_round x) again.phase in
           refused_again again.was again.refused p (omega arith) (omega arith)
+      by (inr (inl goes)) = recovers goes.phase
+      by (inr (inr builds)) = rebuilds builds.how
+
+  -- an operation that has begun to look back goes on so, in a phase no earlier
+  back_on : (more : List Packet) (call : Call) → call.boot ≡ c.call.boot → call.seq ≡ c.call.seq → c.call.phase ≤ call.phase
+      → BeganBack w.packets (w.replies n) i c.call → BeganBack (w.packets ++ more) (replies n) i call
+  back_on more call =
+      began_on w.packets (w.packets ++ more) (w.replies n) (replies n) i c.call call (λ packet was. (was.0, get_kept w.packets more was.0 packet was.1))
+      (λ p less. replies_else p (λ same. omega (arith, less)))
+
+  -- and one that begins so found nothing before
+  back_begins : (more : List Packet) (d : Coordinator) → SendsFits fresh (with_reply c seat from reply) d → (d.phase ≡ LooksBack None)
+      → looks_back c.phase ≡ false → greatest_found (c.counted ++ (one ∷ [])) ≡ None → (IsRebuild c.phase → ⊥)
+      → (to : BrickId) × IsAmong (w.packets ++ more) (record { from = record { 0 = i }; to = to; message = Message.Request d.call (Request.OldRead None) })
+      → BeganBack (w.packets ++ more) (replies n) i d.call
+  back_begins more d fits now ahead nothing other asked = record {
+    first = d.call;
+    before = c.call.phase;
+    member = asked.0;
+    boot = refl;
+    seq = refl;
+    most = omega arith;
+    asked = asked.1;
+    follows = ap (λ (x : Call). x.phase) fits.call;
+    nothing = ⊎_elim
+        (λ (before : greatest_found replies_now.forgotten ≡ None). found_now before ∙ nothing)
+        (λ (rebuilds : IsRebuild c.phase). absurd (other rebuilds))
+        replies_now.found;
+  }
+
+  -- so what is sent next
+  back_sends : (more : List Packet) (d : Coordinator) → SendsFits fresh (with_reply c seat from reply) d
+      → (d.phase ≡ LooksBack None
+      → (to : BrickId) × IsAmong (w.packets ++ more) (record { from = record { 0 = i }; to = to; message = Message.Request d.call (Request.OldRead None) }))
+      → looks_back d.phase ≡ true → BeganBack (w.packets ++ more) (replies n) i d.call
+  back_sends more d fits asked looks = by fits.how
+    where
+      Back : Type 0
+      Back = BeganBack (w.packets ++ more) (replies n) i d.call
+
+      never : looks_back d.phase ≡ false → Back
+      never ahead = absurd (false≢true (sym ahead ∙ looks))
+
+      recovers : (IsLook c.phase × (d.phase ≡ Recovers)) ⊎ (((bound : Stamp) × (d.phase ≡ Descends bound)) ⊎ BackFits (with_reply c seat from reply) d) → Back
+      recovers (inl (look, is)) = never (ap (λ (p : Phase). looks_back p) is)
+      recovers (inr (inl (bound, is))) = never (ap (λ (p : Phase). looks_back p) is)
+      recovers (inr (inr (inl (now, ahead, nothing, other)))) = back_begins more d fits now ahead nothing other (asked now)
+      recovers (inr (inr (inr (bound, v, was, now)))) =
+          let phase : d.call.phase ≡ c.call.phase + 1 = ap (λ (x : Call). x.phase) fits.call in
+          back_on more d.call fits.same.boot fits.same.seq (omega (arith, phase)) (its.back (ap (λ (p : Phase). looks_back p) was))
+
+      rebuilds : RebuildsIn (with_reply c seat from reply) d → Back
+      rebuilds (inl (u, j, was, now, base)) = never (ap (λ (p : Phase). looks_back p) now)
+      rebuilds (inr (u, was, now, base)) = never (ap (λ (p : Phase). looks_back p) now)
+
+      by : ReordersFits fresh (with_reply c seat from reply) d
+          ⊎ (RecoversFits (with_reply c seat from reply) d ⊎ RebuildsFits (with_reply c seat from reply) d) → Back
+      by (inl again) = never (ap (λ (p : Phase). looks_back p) again.phase ∙ round_ahead c.phase again.was)
       by (inr (inl goes)) = recovers goes.phase
       by (inr (inr builds)) = rebuilds builds.how
 
@@ -311,27 +440,34 @@ module _ (setting : Setting) (w : World) (me : BrickId) (now known : ℕ) (c : C
   number_next time busy d j l = w.numbers j (put w.nodes i (with_call node time busy k d) j).boot l
 
   -- the history of each open operation, where this one is at d, or has ended
-  calls_next : (time busy : ℕ) (d : Option Coordinator) → node.known ≤ time → ((e : Coordinator) → d ≡ Some e → CallTallied replies n e)
+  calls_next : (time busy : ℕ) (d : Option Coordinator) (more : List Packet) → node.known ≤ time
+      → ((e : Coordinator) → d ≡ Some e → CallTallied (w.packets ++ more) replies i n e)
       → (j l : ℕ) (e : Coordinator) → (put w.nodes i (with_call node time busy k d) j).calls l ≡ Some e
-      → CallTallied replies (number_next time busy d j l) e
-  calls_next time busy d later new j l e at =
-      subst (λ (b : ℕ). CallTallied replies (w.numbers j b l) e) (sym (keeps time busy d later j).boot)
+      → CallTallied (w.packets ++ more) replies j (number_next time busy d j l) e
+  calls_next time busy d more later new j l e at =
+      subst (λ (b : ℕ). CallTallied (w.packets ++ more) replies j (w.numbers j b l) e) (sym (keeps time busy d later j).boot)
       (⊎_elim
       (λ (own : (j ≡ i) × (l ≡ k) × (d ≡ Some e)).
-      subst (λ (a : ℕ). CallTallied replies (number_of w a l) e) (sym own.0) (subst (λ (b : ℕ). CallTallied replies (number_of w i b) e) (sym own.1)
-      (new e own.2)))
+      subst (λ (a : ℕ). CallTallied (w.packets ++ more) replies a (number_of w a l) e) (sym own.0)
+      (subst (λ (b : ℕ). CallTallied (w.packets ++ more) replies i (number_of w i b) e) (sym own.1) (new e own.2)))
       (λ (other : IsCall w j l e × (j ≡ i → l ≡ k → ⊥)).
       let apart : number_of w j l ≢ n = λ same.
       (let both : (j ≡ i) × (l ≡ k) = calls_apart setting w i k j l c e mine (books.calls j l e other.0) same in other.1 both.0 both.1) in
-      call_tallied_on w.replies replies (number_of w j l) (number_of w j l) e refl (other_replies (number_of w j l) apart)
+      call_tallied_on w.packets (w.packets ++ more) w.replies replies j (number_of w j l) (number_of w j l) e
+      (λ packet was. (was.0, get_kept w.packets more was.0 packet was.1)) refl (other_replies (number_of w j l) apart)
       (tallied.calls j l e other.0))
       (call_at time busy d j l e at))
 
-  calls_by : (time busy : ℕ) (d : Coordinator) → node.known ≤ time → CallTallied replies n d
+  -- this one is there
+  at_next : (time busy : ℕ) (d : Coordinator) → (put w.nodes i (with_call node time busy k (Some d)) i).calls k ≡ Some d
+  at_next time busy d =
+      ap (λ (x : Node). x.calls k) (put_same w.nodes i (with_call node time busy k (Some d))) ∙ put_same node.calls k (Some d)
+
+  calls_by : (time busy : ℕ) (d : Coordinator) (more : List Packet) → node.known ≤ time → CallTallied (w.packets ++ more) replies i n d
       → (j l : ℕ) (e : Coordinator) → (put w.nodes i (with_call node time busy k (Some d)) j).calls l ≡ Some e
-      → CallTallied replies (number_next time busy (Some d) j l) e
-  calls_by time busy d later new =
-      calls_next time busy (Some d) later (λ e at. subst (λ (z : Coordinator). CallTallied replies n z) (same_Some d e at) new)
+      → CallTallied (w.packets ++ more) replies j (number_next time busy (Some d) j l) e
+  calls_by time busy d more later new =
+      calls_next time busy (Some d) more later (λ e at. subst (λ (z : Coordinator). CallTallied (w.packets ++ more) replies i n z) (same_Some d e at) new)
 
   -- the next world goes on from this one
   furthers : (next : World) (time busy : ℕ) (d : Option Coordinator) (more : List Packet) → next.nodes ≡ put w.nodes i (with_call node time busy k d)
@@ -406,6 +542,11 @@ module _ (setting : Setting) (w : World) (me : BrickId) (now known : ℕ) (c : C
       each_more (λ y. WasSent w (record { from = y.brick; to = me; message = Message.Reply c.call y.reply })) c.counted one
       (shows.counted i k c is) sent
 
+  -- and tells of versions that were dropped only where the phase looks back
+  each_kept : looks_back c.phase ≡ false → EachCounted (λ y. dropper_of y ≡ None) (c.counted ++ (one ∷ []))
+  each_kept ahead =
+      each_more (λ y. dropper_of y ≡ None) c.counted one (shows.kept i k c is ahead) (dropper_ahead setting.layout.block c.stamp c.phase one ahead answers)
+
   -- the brick whose full store aborts the operation told so
   full_shown : (operations : ℕ → Option Operation) (answer : Answer) (stored : Option Stamp) (brick : BrickId) (live : ℕ) → FullFits (with_reply c seat from reply) brick live
       → Furthers w (after_end operations answer stored) → AbortShown (after_end operations answer stored) n (Cause.Full brick live)
@@ -459,6 +600,52 @@ module _ (setting : Setting) (w : World) (me : BrickId) (now known : ℕ) (c : C
         },
       )
 
+  -- the evidence of an abort for versions that were dropped
+  gone_shown : (operations : ℕ → Option Operation) (answer : Answer) (stored : Option Stamp) (brick : BrickId) → GoneFits (with_reply c seat from reply) brick
+      → Furthers w (after_end operations answer stored) → AbortShown (after_end operations answer stored) n (Cause.Gone brick)
+  gone_shown operations answer stored brick fits on =
+      let next : World = after_end operations answer stored in
+      let P : Counted → Type 0 = λ y. WasSent w (record { from = y.brick; to = me; message = Message.Reply c.call y.reply }) in
+      let d : Dropper = record { seat = fits.seat; brick = brick } in
+      let found = dropper_counted P (c.counted ++ (one ∷ [])) d each_sent fits.told in
+      let told : WasSent w (record { from = brick; to = me; message = Message.Reply c.call Reply.Retired })
+      = subst (λ (b : BrickId). WasSent w (record { from = b; to = me; message = Message.Reply c.call Reply.Retired })) found.3
+      (subst (λ (y : Reply). WasSent w (record { from = found.0.brick; to = me; message = Message.Reply c.call y })) found.2 found.1) in
+      let goes = on.operations n o mine.operation_is in
+      let by : me ≡ goes.0.brick = me_is ∙ sym goes.2.brick in
+      let began : BeganBack next.packets (replies n) i c.call = back_on (collect_packets me c stored) c.call refl refl (omega arith) (its.back (looked d fits.told)) in
+      let own : IsCallOf c.call goes.0 = (mine.call_boot ∙ sym mine.boot ∙ sym goes.2.boot, sym mine.seq ∙ sym goes.2.seq) in (
+        goes.0,
+        goes.1,
+        record {
+          call = c.call;
+          seat = fits.seat;
+          first = began.first;
+          before = began.before;
+          member = began.member;
+          own = own;
+          told = subst (λ (b : BrickId). WasSent next (record { from = brick; to = b; message = Message.Reply c.call Reply.Retired })) by
+              (on.sent (record { from = brick; to = me; message = Message.Reply c.call Reply.Retired }) told);
+          lowest = dropper_now ∙ fits.told;
+          final = replies_later;
+          first_own = (began.boot ∙ own.0, began.seq ∙ own.1);
+          most = began.most;
+          asked = subst (λ (b : BrickId). RequestSent next began.first b began.member (Request.OldRead None)) by began.asked;
+          follows = began.follows;
+          nothing = began.nothing;
+        },
+      )
+    where
+      -- no reply tells so to a phase that does not look back
+      looked : (d : Dropper) → lowest_dropper (c.counted ++ (one ∷ [])) ≡ Some d → looks_back c.phase ≡ true
+      looked d is = ⊎_elim
+          (λ (back : looks_back c.phase ≡ true). back)
+          (λ (ahead : looks_back c.phase ≡ false).
+          let found = dropper_counted (λ y. dropper_of y ≡ None) (c.counted ++ (one ∷ [])) d (each_kept ahead) is in
+          absurd (let never : dropper_of (record { seat = found.0.seat; brick = found.0.brick; reply = Reply.Retired }) ≡ None
+          = ap (λ (r : Reply). dropper_of (record { seat = found.0.seat; brick = found.0.brick; reply = r })) (sym found.2) ∙ found.1 in cc))
+          (cases_Bool (looks_back c.phase))
+
   -- the evidence of an abort for a later stamp
   later_shown : (operations : ℕ → Option Operation) (answer : Answer) (stored : Option Stamp) (brick : BrickId) (x : Stamp) → AbortFits fresh (with_reply c seat from reply) brick x
       → MessagesShow (after_end operations answer stored) → Furthers w (after_end operations answer stored)
@@ -488,12 +675,17 @@ module _ (setting : Setting) (w : World) (me : BrickId) (now known : ℕ) (c : C
               (record { from = brick; to = b; message = Message.Reply c.call (Reply.Later x) })) by
               (on.sent (record { from = brick; to = me; message = Message.Reply c.call (Reply.Later x) }) told);
           above = low.2;
-          greatest = refuser_now ∙ fits.refused;
+          greatest = refuser_now (ahead c.phase refl fits.last) ∙ fits.refused;
           last = λ order. last_round goes.0 by boot (ordered_round goes.0 goes.1 by own (goes.2.ask ∙ sym mine.ask) low.0 low.1 order) fits.last;
           final = replies_later;
         },
       )
     where
+      -- it does not look back
+      ahead : (p : Phase) → c.phase ≡ p → LastFits fresh (with_reply c seat from reply) p → looks_back c.phase ≡ false
+      ahead (LooksBack bound) at last = absurd last
+      ahead p at last = ap (λ (x : Phase). looks_back x) at
+
       -- the time that the brick knows in its present boot
       known_now : known_in (after_end operations answer stored) i node.boot ≡ known
       known_now =
@@ -506,7 +698,7 @@ module _ (setting : Setting) (w : World) (me : BrickId) (now known : ℕ) (c : C
       ends_rounds e by boot round (inl none) =
           inr (subst (λ (b : BrickId). has_later_time (known_in (after_end operations answer stored) b.0 e.boot) ≡ false) by
           (subst (λ (b : ℕ). has_later_time (known_in (after_end operations answer stored) i b) ≡ false) (sym boot)
-          (ap (λ (y : ℕ). has_later_time y) known_now ∙ none_left me c.call.view now node.boot known none)))
+          (ap (λ (y : ℕ). has_later_time y) known_now ∙ none_left me c.stamp.view now node.boot known none)))
       ends_rounds e by boot round (inr most) =
           let facts = round_of c c.phase round mine.in_round in
           inl (omega (arith, facts.0, facts.1), λ p few less. refused_before round p (omega (arith, facts.0)) less)
@@ -542,7 +734,7 @@ module _ (setting : Setting) (w : World) (me : BrickId) (now known : ℕ) (c : C
   abort_shown operations answer stored (Cause.Later brick x) fits later on = later_shown operations answer stored brick x fits later on
   abort_shown operations answer stored (Cause.Full brick live) fits later on = full_shown operations answer stored brick live fits on
   abort_shown operations answer stored (Cause.Moved brick view) fits later on = moved_shown operations answer stored brick view fits on
-  abort_shown operations answer stored cause fits later on = absurd fits
+  abort_shown operations answer stored (Cause.Gone brick) fits later on = gone_shown operations answer stored brick fits on
 
   -- and after an end
   tallied_ends : (operations : ℕ → Option Operation) (answer : Answer) (stored : Option Stamp)
@@ -554,7 +746,7 @@ module _ (setting : Setting) (w : World) (me : BrickId) (now known : ℕ) (c : C
       let on : Furthers w (after_end operations answer stored) = furthers (after_end operations answer stored) known (node.busy - 1) None
       (collect_packets me c stored) refl grows refl refl (λ j b. refl) goes in
       tallied_on setting w (after_end operations answer stored) books tallied later on
-      (calls_next known (node.busy - 1) None grows (λ e at. absurd (let never : None ≡ Some e = at in cc)))
+      (calls_next known (node.busy - 1) None (collect_packets me c stored) grows (λ e at. absurd (let never : None ≡ Some e = at in cc)))
       unbegun (counted_next (after_end operations answer stored) on)
       (λ a p m cause at. ⊎_elim
       (λ (old : slice_get w.marks a ≡ Some (End p m (Aborted cause))). inl old)
@@ -585,10 +777,12 @@ module _ (setting : Setting) (w : World) (me : BrickId) (now known : ℕ) (c : C
       let phase : d.call.phase ≡ c.call.phase = ap (λ (x : Call). x.phase) fits.call in
       let first : first_round d.phase ≡ first_round c.phase = ap (λ (x : Phase). first_round x) fits.phase in
       tallied_on setting w (after (Waits d)) books tallied later on
-      (calls_by known node.busy d grows (record {
-        now = subst (λ (p : ℕ). IsTally (replies n p) d.counted) (sym phase) (tally_waits d.counted fits.counted);
+      (calls_by known node.busy d [] grows (record {
+        now = subst (λ (p : Phase). IsTally p (replies n d.call.phase) d.counted) (sym fits.phase)
+            (subst (λ (p : ℕ). IsTally c.phase (replies n p) d.counted) (sym phase) (tally_waits d fits.counted));
         later = λ p above. replies_later p (omega arith);
         refused = λ round p low high. refused_before (subst (λ (x : Phase). IsRound x) fits.phase round) p (omega arith) (omega arith);
+        back = λ looks. back_on [] d.call fits.same.boot fits.same.seq (omega (arith, phase)) (its.back (sym (ap (λ (p : Phase). looks_back p) fits.phase) ∙ looks));
       }))
       unbegun (counted_next (after (Waits d)) on) (λ a p m cause at. inl at)
   tallied_counted (Sends d) fits later =
@@ -597,10 +791,11 @@ module _ (setting : Setting) (w : World) (me : BrickId) (now known : ℕ) (c : C
       (omega arith) refl refl (λ j b. refl) same_operations in
       let phase : d.call.phase ≡ c.call.phase + 1 = ap (λ (x : Call). x.phase) fits.call in
       tallied_on setting w (after (Sends d)) books tallied later on
-      (calls_by (max known d.stamp.time) node.busy d (omega arith) (record {
-        now = tally_begins d.call.phase d.counted fits.counted (omega arith);
+      (calls_by (max known d.stamp.time) node.busy d (phase_packets setting me d) (omega arith) (record {
+        now = tally_begins d.call.phase d fits.counted (omega arith);
         later = λ p above. replies_later p (omega arith);
         refused = refused_sends d fits phase;
+        back = back_sends (phase_packets setting me d) d fits (later.begins_back i k d (at_next (max known d.stamp.time) node.busy d));
       }))
       unbegun (counted_next (after (Sends d)) on) (λ a p m cause at. inl at)
   tallied_counted (Makes d) fits later =
@@ -609,10 +804,11 @@ module _ (setting : Setting) (w : World) (me : BrickId) (now known : ℕ) (c : C
       (λ j b. refl) (changed w.operations (with_made d.stamp d.base) (λ e. (_, refl, record { brick = refl; boot = refl; seq = refl; ask = refl }))) in
       let phase : d.call.phase ≡ c.call.phase + 1 = ap (λ (x : Call). x.phase) fits.call in
       tallied_on setting w (after (Makes d)) books tallied later on
-      (calls_by known node.busy d grows (record {
-        now = tally_begins d.call.phase d.counted fits.counted (omega arith);
+      (calls_by known node.busy d (phase_packets setting me d) grows (record {
+        now = tally_begins d.call.phase d fits.counted (omega arith);
         later = λ p above. replies_later p (omega arith);
         refused = λ round p low high. absurd (making_unordered d fits.phase round);
+        back = λ looks. absurd (false≢true (sym (making_ahead d fits.phase) ∙ looks));
       }))
       unbegun (counted_next (after (Makes d)) on) (λ a p m cause at. inl at)
   tallied_counted (Ends answer None stored) fits later =

@@ -2,7 +2,7 @@
 use Rattle.std.proofs.lemmas.List.{append-nil}
 use Rattle.std.proofs.Common.{◌≡◌, ◌≢◌, ℕ, ◌+◌, ◌≤◌, inl, ⊎_elim, true, false, ap, Option, Some, None, List, [], ◌∷◌, ◌++◌, length, refl, sym, ◌∙◌, subst, arith, Bool}
 use Rattle.std.specs.Prelude.{slice_get, if◌then◌else◌}
-use Rattle.std.proofs.lemmas.Bool.{cases_eq}
+use Rattle.std.proofs.lemmas.Bool.{cases_eq, false≢true}
 use Rattle.std.proofs.lemmas.Option.{same_Some}
 use Rattle.fab_base.specs.declared.identities.BrickId.{BrickId}
 use Rattle.fab_base.specs.declared.asks.Ask.{Ask}
@@ -14,14 +14,14 @@ use Rattle.messages.specs.declared.packets.Packet.{Packet}
 use Rattle.messages.specs.declared.requests.Request.{Request}
 use Rattle.messages.specs.declared.replies.Reply.{Reply}
 use Rattle.reg_model.specs.declared.marks.Mark.TheVariants.{Begin, End, Crash}
-use Rattle.fab_base.specs.Layouts.{Group}
+use Rattle.fab_base.specs.Layouts.{Layout, Group}
 use Rattle.protocol.specs.Views.{Views}
-use Rattle.protocol.specs.Settings.{Setting, IsSound}
+use Rattle.protocol.specs.Settings.{Setting, Code, IsSound}
 use Rattle.protocol.specs.Replicas.{handle}
-use Rattle.protocol.specs.Coordinators.{Coordinator, with_reply, once_full, counted_at, counts_at, on_reply}
-use Rattle.protocol.specs.Nodes.{Node, NodeStep, ticked, new_coordinator, put, no_step, fresh_stamp, began_in, began, invoked, with_replica, replica_at, full_at, reply_packets, requested, known_after, with_known, carried_out, replied_at, replied, heard, received, vote_at, with_round, proposed, node_learnt, lists_fit}
+use Rattle.protocol.specs.Coordinators.{Coordinator, with_reply, once_full, counted_at, counts_at, on_reply, asked_group, dropper_of, request_of}
+use Rattle.protocol.specs.Nodes.{Node, NodeStep, ticked, new_coordinator, put, no_step, fresh_stamp, began_in, began, invoked, with_replica, replica_at, full_at, reply_packets, requested, known_after, with_known, carried_out, replied_at, replied, heard, received, vote_at, with_round, proposed, node_learnt, node_synced, lists_fit}
 use Rattle.protocol.specs.Worlds.{World, Found, Before, After, Event, first_world, may_begin, number_of, world_stopped, world_found, world_started, world_began, counted_after, replies_at, replies_with, run, with_held, Choices, voiced}
-use Rattle.protocol_laws.specs.Laws.{WasSent, RunFollows}
+use Rattle.protocol_laws.specs.Laws.{WasSent, RequestSent, RunFollows}
 use Rattle.protocol.proofs.Served.{request_each}
 use Rattle.protocol_laws.proofs.Books.{Books, IsCall}
 use Rattle.protocol_laws.proofs.Left.{Leaves, always_leaves, found_down, packet_was_sent}
@@ -30,9 +30,14 @@ use Rattle.protocol_laws.proofs.Votes.{with_vote}
 use Rattle.protocol_laws.proofs.Proposing.{ballot_each, proposed_each}
 use Rattle.protocol_laws.proofs.Hearing.{kept_world, taught_by, replying_each}
 use Rattle.protocol.specs.declared.phases.Counted.{Counted}
+use Rattle.protocol.specs.declared.phases.Phase.{Phase}
+use Rattle.protocol.specs.declared.phases.Phase.TheVariants.{LooksBack}
+use Rattle.protocol_laws.proofs.StampViews.{first_ahead}
 use Rattle.protocol.specs.Ballots.{Voted}
 use Rattle.protocol.specs.declared.tellings.Report.{Report}
 use Rattle.fab_base.specs.declared.identities.GroupId.{GroupId}
+use Rattle.fab_base.specs.declared.identities.ViewNo.{ViewNo}
+use Rattle.view_laws.proofs.Syncing.{synced_each}
 use Rattle.protocol_laws.proofs.BooksQuiet.{quiet_world, started_calls, unstarted, started_known}
 use Rattle.protocol_laws.proofs.BooksEnds.{stopped_keeps, stopped_calls, unstopped_calls}
 use Rattle.protocol_laws.proofs.BooksBegins.{call_is, other_calls, same_boots, call_number, other_number, other_operations, knows}
@@ -40,13 +45,13 @@ use Rattle.protocol_laws.proofs.BooksEvents.{keeps_put, stepped, known_grows, Be
 use Rattle.protocol_laws.proofs.Outcomes.{first_round_above, once_full_fits}
 use Rattle.protocol_laws.proofs.Said.{Stamping, Said, IsSaid, CountedSays}
 use Rattle.protocol_laws.proofs.SaidAlways.{always_said, follows_front}
-use Rattle.protocol_laws.proofs.OwnStamps.{orders_alone, in_round}
+use Rattle.protocol_laws.proofs.OwnStamps.{asked_is, orders_alone, in_round}
 use Rattle.protocol_laws.proofs.Counting.{each_then}
 use Rattle.protocol.proofs.CountsAt.{CountsAt, counts_facts}
 use Rattle.protocol.proofs.Tables.{put_each, put_same, get_kept, get_grown, get_one}
 use Rattle.protocol_laws.proofs.Tallies.{CallTallied, Tallied, MessagesShow}
-use Rattle.protocol_laws.proofs.TalliesKept.{call_tallied_on, known_kept, tallied_on}
-use Rattle.protocol_laws.proofs.TalliesCounts.{tallied_counted}
+use Rattle.protocol_laws.proofs.TalliesKept.{StaySent, call_tallied_on, known_kept, tallied_on}
+use Rattle.protocol_laws.proofs.TalliesCounts.{dropper_ahead, tallied_counted}
 use Rattle.protocol.proofs.Events.{EventCases, world_handled, run_along}
 
 module _ (setting : Setting) (w : World) (books : Books setting w) (tallied : Tallied w) where
@@ -64,7 +69,7 @@ module _ (setting : Setting) (w : World) (books : Books setting w) (tallied : Ta
         operations = λ n o is. (o, is, record { brick = refl; boot = refl; seq = refl; ask = refl });
         replies = λ n. inl (λ p. refl);
       })
-      (λ i k c is. call_tallied_on w.replies w.replies (number_of w i k) (w.numbers i (nodes i).boot k) c
+      (λ i k c is. call_tallied_on w.packets packets w.replies w.replies i (number_of w i k) (w.numbers i (nodes i).boot k) c sent
       (ap (λ (b : ℕ). w.numbers i b k) (keeps i).boot) (λ p. refl) (tallied.calls i k c (sym (calls i k) ∙ is)))
       tallied.unbegun (λ n phase k x is. inl is) (λ k p n cause is. inl is)
 
@@ -126,23 +131,23 @@ module _ (setting : Setting) (w : World) (books : Books setting w) (tallied : Ta
           → counts_at setting.layout.block c from.0 call reply ≡ z
           → MessagesShow (stepped setting w (counted_after w.replies (number_of w me.0 call.seq) from call reply z) me
           (carried_out setting me (w.nodes me.0) (known_after (w.nodes me.0).known reply) c
-          (counted_at setting.layout.block setting.code (fresh_stamp me c.call.view now (w.nodes me.0).boot (known_after (w.nodes me.0).known reply)) c from reply z)))
+          (counted_at setting.layout.block setting.code (fresh_stamp me c.stamp.view now (w.nodes me.0).boot (known_after (w.nodes me.0).known reply)) c from reply z)))
           → Tallied (stepped setting w (counted_after w.replies (number_of w me.0 call.seq) from call reply z) me
           (carried_out setting me (w.nodes me.0) (known_after (w.nodes me.0).known reply) c
-          (counted_at setting.layout.block setting.code (fresh_stamp me c.call.view now (w.nodes me.0).boot (known_after (w.nodes me.0).known reply)) c from reply z)))
+          (counted_at setting.layout.block setting.code (fresh_stamp me c.stamp.view now (w.nodes me.0).boot (known_after (w.nodes me.0).known reply)) c from reply z)))
       at_seat c is None none later =
           tallied_known me (known_after (w.nodes me.0).known reply) (known_grows (w.nodes me.0).known reply) later
       at_seat c is (Some seat) counts later =
           let facts : CountsAt setting.layout.block c from.0 call reply seat = counts_facts setting.layout.block c from.0 call reply seat counts in
           let time : ℕ = known_after (w.nodes me.0).known reply in
-          let fresh : Option Stamp = fresh_stamp me c.call.view now (w.nodes me.0).boot time in
+          let fresh : Option Stamp = fresh_stamp me c.stamp.view now (w.nodes me.0).boot time in
           let after : Call → World = λ k. stepped setting w (counted_after w.replies (number_of w me.0 k.seq) from k reply (Some seat)) me
           (carried_out setting me (w.nodes me.0) time c (once_full setting.layout.block setting.code fresh (with_reply c seat from reply))) in
           subst (λ (k : Call). MessagesShow (after k) → Tallied (after k)) (sym facts.call_is)
           (tallied_counted setting w me now time c from reply seat books tallied shows
           (subst (λ (k : Call). IsCall w me.0 k.seq c) facts.call_is is)
           (subst (λ (k : Call). WasSent w (record { from = from; to = me; message = Message.Reply k reply })) facts.call_is sent)
-          (known_grows (w.nodes me.0).known reply) (once_full setting.layout.block setting.code fresh (with_reply c seat from reply))
+          (known_grows (w.nodes me.0).known reply) facts.answers (once_full setting.layout.block setting.code fresh (with_reply c seat from reply))
           (once_full_fits setting.layout.block setting.code fresh (with_reply c seat from reply)))
           later
 
@@ -165,6 +170,8 @@ shows_kept w me node calls shows = record {
   orders_alone = shows.orders_alone;
   in_round = λ i k c to t is. shows.in_round i k c to t (sym (calls i k) ∙ is);
   counted = λ i k c is. shows.counted i k c (sym (calls i k) ∙ is);
+  kept = λ i k c is. shows.kept i k c (sym (calls i k) ∙ is);
+  begins_back = λ i k c is. shows.begins_back i k c (sym (calls i k) ∙ is);
 }
 
 -- the replies that count are as they would be in the world in which a brick keeps what it is now, where it has the boot that it had
@@ -174,6 +181,12 @@ replies_kept setting w me node from call reply None same = refl
 replies_kept setting w me node from call reply (Some c) same =
     ap (λ (b : ℕ). counted_after w.replies (w.numbers me.0 b call.seq) from call reply (counts_at setting.layout.block c from.0 call reply))
     (ap (λ (n : Node). n.boot) (put_same w.nodes me.0 node) ∙ same)
+
+-- a brick that hears that a view is synced has the calls that it had
+synced_calls : (layout : Layout) (node : Node) (group : GroupId) (number : ViewNo) → KeepsCalls node (node_synced layout node group number)
+synced_calls layout node group number =
+    synced_each (λ (n : Node). KeepsCalls node n) layout node group number (keeps_itself node)
+    (λ now unsynced. (record { boot = refl; seq = omega arith; known = omega arith }, λ l. refl))
 
 module _ (setting : Setting) (w : World) (books : Books setting w) (tallied : Tallied w) where
   tallied_kept : (me : BrickId) (node : Node) → KeepsCalls (w.nodes me.0) node → MessagesShow w → MessagesShow (kept_world w me node) × Tallied (kept_world w me node)
@@ -236,11 +249,20 @@ module _ (setting : Setting) (w : World) (books : Books setting w) (tallied : Ta
   tallied_received now from to (Message.Reply call reply) shows sent = tallied_heard to now from call reply shows sent
   tallied_received now from to (Message.Learn group view) shows sent =
       tallied_silent setting w books tallied to (node_learnt setting.layout (w.nodes to.0) group view) [] [] (learnt_keeps setting.layout (w.nodes to.0) group view)
+  tallied_received now from to (Message.Synced group number) shows sent =
+      tallied_silent setting w books tallied to (node_synced setting.layout (w.nodes to.0) group number) [] [] (synced_calls setting.layout (w.nodes to.0) group number)
   tallied_received now from to message shows sent = tallied_no_step setting w books tallied to
 
 -- what messages show does not change with those that were delivered, or with choices
 shows_reached : (w : World) (reached : ℕ → Bool) (choices : Choices) → MessagesShow w → MessagesShow (record w { reached = reached; choices = choices })
-shows_reached w reached choices shows = record { later = shows.later; orders_alone = shows.orders_alone; in_round = shows.in_round; counted = shows.counted }
+shows_reached w reached choices shows = record {
+  later = shows.later;
+  orders_alone = shows.orders_alone;
+  in_round = shows.in_round;
+  counted = shows.counted;
+  kept = shows.kept;
+  begins_back = shows.begins_back;
+}
 
 module _ (setting : Setting) (w : World) (books : Books setting w) (tallied : Tallied w) where
   tallied_handled : (number : ℕ) (packet : Packet) → MessagesShow w → WasSent w packet → MessagesShow (world_handled setting w number packet) → Tallied (world_handled setting w number packet)
@@ -264,14 +286,22 @@ module _ (setting : Setting) (w : World) (books : Books setting w) (tallied : Ta
       let k : ℕ = (w.nodes brick.0).seq + 1 in
       let n : ℕ = w.begun + 1 in
       let c : Coordinator = new_coordinator (group_there (w.nodes brick.0) ask group) brick now (w.nodes brick.0) ask in
-      let new : CallTallied w.replies n c = record {
-        now = ([], tallied.unbegun n 1 (omega arith), refl, refl, refl);
+      let stays : StaySent w.packets next.packets = λ packet sent. (sent.0, get_kept w.packets _ sent.0 packet sent.1) in
+      let new : CallTallied next.packets w.replies i n c = record {
+        now = record {
+          forgotten = [];
+          are = tallied.unbegun n 1 (omega arith);
+          stops = (refl, refl, refl);
+          refused = λ ahead. refl;
+          found = inl refl;
+        };
         later = λ p above. tallied.unbegun n p (omega arith);
         refused = λ round p low high. absurd (omega (arith, first_round_above c.phase));
+        back = λ looks. absurd (false≢true (sym (first_ahead ask.op) ∙ looks));
       } in
       tallied_on setting w next books tallied shows
       (record {
-        sent = λ packet sent. (sent.0, get_kept w.packets _ sent.0 packet sent.1);
+        sent = stays;
         known = known_kept w next (λ j b. refl) (same_boots setting w brick now ask group) (knows setting w brick now ask group);
         operations = λ m o is. (
           o,
@@ -286,12 +316,12 @@ module _ (setting : Setting) (w : World) (books : Books setting w) (tallied : Ta
       = subst (λ (x : ℕ). (next.nodes x).calls k ≡ Some e) mine.0 (subst (λ (y : ℕ). (next.nodes j).calls y ≡ Some e) mine.1 is) in
       let one : c ≡ e = same_Some c e (sym (call_is setting w brick now ask group) ∙ at) in
       let number : number_of next i k ≡ n = call_number setting w brick now ask group in
-      subst (λ (x : ℕ). CallTallied w.replies (number_of next x l) e) (sym mine.0) (subst (λ (y : ℕ). CallTallied w.replies (number_of next i y) e)
-      (sym mine.1)
-      (subst (λ (x : ℕ). CallTallied w.replies x e) (sym number) (subst (λ (z : Coordinator). CallTallied w.replies n z) one new))))
+      subst (λ (x : ℕ). CallTallied next.packets w.replies x (number_of next x l) e) (sym mine.0)
+      (subst (λ (y : ℕ). CallTallied next.packets w.replies i (number_of next i y) e) (sym mine.1)
+      (subst (λ (x : ℕ). CallTallied next.packets w.replies i x e) (sym number) (subst (λ (z : Coordinator). CallTallied next.packets w.replies i n z) one new))))
       (λ (other : j ≡ i → l ≡ k → ⊥).
       let old : IsCall w j l e = sym (other_calls setting w brick now ask group j l other) ∙ is in
-      call_tallied_on w.replies w.replies (number_of w j l) (number_of next j l) e (other_number setting w brick now ask group j l other)
+      call_tallied_on w.packets next.packets w.replies w.replies j (number_of w j l) (number_of next j l) e stays (other_number setting w brick now ask group j l other)
       (λ p. refl) (tallied.calls j l e old))
       (cases_call i k j l))
       (λ m p above. tallied.unbegun m p (omega arith))
@@ -332,7 +362,7 @@ module _ (setting : Setting) (w : World) (books : Books setting w) (tallied : Ta
       absurd (let never : None ≡ Some c = sym none ∙ is in cc))
       (λ (other : i ≢ brick.0).
       let old : IsCall w i k c = sym (unstopped_calls setting w brick during books i k other) ∙ is in
-      call_tallied_on w.replies w.replies (number_of w i k) (number_of next i k) c (ap (λ (b : ℕ). w.numbers i b k) (keeps i).boot) (λ p. refl)
+      call_tallied_on w.packets w.packets w.replies w.replies i (number_of w i k) (number_of next i k) c (λ packet sent. sent) (ap (λ (b : ℕ). w.numbers i b k) (keeps i).boot) (λ p. refl)
       (tallied.calls i k c old))
       (cases_eq i brick.0))
       tallied.unbegun (λ n phase k x is. inl is)
@@ -363,7 +393,7 @@ module _ (setting : Setting) (w : World) (books : Books setting w) (tallied : Ta
       (λ (other : i ≢ brick.0).
       let same : next.nodes i ≡ w.nodes i = unstarted setting w brick openings books down once i other in
       let old : IsCall w i k c = sym (ap (λ (x : Node). x.calls k) same) ∙ is in
-      call_tallied_on w.replies w.replies (number_of w i k) (number_of next i k) c (ap (λ (x : Node). w.numbers i x.boot k) same) (λ p. refl)
+      call_tallied_on w.packets w.packets w.replies w.replies i (number_of w i k) (number_of next i k) c (λ packet sent. sent) (ap (λ (x : Node). w.numbers i x.boot k) same) (λ p. refl)
       (tallied.calls i k c old))
       (cases_eq i brick.0))
       tallied.unbegun (λ n phase k x is. inl is) (λ k p n cause is. inl is)
@@ -416,6 +446,16 @@ tallied_first setting = record {
   aborts = λ k p n cause is. absurd (let never : None ≡ Some (End p n (Aborted cause)) = is in cc);
 }
 
+-- where there are members there is a first one
+first_member : (members : List BrickId) → 1 ≤ length members → (member : BrickId) × (slice_get members 0 ≡ Some member)
+first_member [] some = absurd (omega (arith, some))
+first_member (member ∷ members) some = (member, refl)
+
+-- what is asked of a member where the operation begins to look back
+asks_old : (code : Code) (c : Coordinator) → c.phase ≡ LooksBack None → (seat : ℕ) → request_of code c seat ≡ Request.OldRead None
+unfolding request_of
+asks_old code c now seat = ap (λ (p : Phase). request_of code (record c { phase = p }) seat) now
+
 -- what is said of a world is what its messages should show
 messages_show : (setting : Setting) (views : Views) (w : World) (stamps : Stamping) → Books setting w → Said setting views w stamps → MessagesShow w
 messages_show setting views w stamps books said = record {
@@ -426,6 +466,18 @@ messages_show setting views w stamps books said = record {
       each_then (CountedSays setting views w i c) (λ x. WasSent w
       (record { from = x.brick; to = record { 0 = i }; message = Message.Reply c.call x.reply }))
       c.counted (λ x says. says.sent) (said.calls i k c is).counted;
+  kept = λ i k c is ahead.
+      each_then (CountedSays setting views w i c) (λ x. dropper_of x ≡ None) c.counted
+      (λ x says. dropper_ahead setting.layout.block c.stamp c.phase x ahead says.answers) (said.calls i k c is).counted;
+  begins_back = λ i k c is now.
+      (let limits = said.limits c.call.group.0 c.call.view.0 (asked_group c) (asked_is setting views w stamps books said i k c is) in
+      let block = limits.some_block in
+      let seats = limits.enough_seats in
+      let member = first_member (asked_group c).members (omega (arith, block, seats)) in (
+        member.0,
+        subst (λ (r : Request). RequestSent w c.call (record { 0 = i }) member.0 r) (asks_old setting.code c now 0)
+            ((said.calls i k c is).asked 0 member.0 member.1),
+      ));
 }
   where
     at_call : (i k : ℕ) (c : Coordinator) → IsCall w i k c → IsCall w i c.call.seq c

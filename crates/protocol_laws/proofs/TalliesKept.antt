@@ -1,5 +1,5 @@
 -- What the history of replies has shown stays shown.
-use Rattle.std.proofs.Common.{◌≡◌, ℕ, ◌<◌, ◌≤◌, ◌⊎◌, inl, inr, ⊎_elim, Bool, true, false, List, [], Some, is_some, sym, ap, ◌∙◌, subst, arith}
+use Rattle.std.proofs.Common.{◌≡◌, ℕ, ◌<◌, ◌≤◌, ◌⊎◌, inl, inr, ⊎_elim, Bool, true, false, List, [], Some, None, is_some, refl, sym, ap, ◌∙◌, subst, arith}
 use Rattle.std.specs.Prelude.{slice_get, nat_lt, nat_eq, if◌then◌else◌}
 use Rattle.std.proofs.lemmas.Bool.{ltb-false, le-ltb}
 use Rattle.fab_base.specs.declared.identities.BrickId.{BrickId}
@@ -10,28 +10,59 @@ use Rattle.messages.specs.declared.calls.Call.{Call}
 use Rattle.messages.specs.declared.packets.Message.TheVariants as Message
 use Rattle.fab_base.specs.declared.asks.Ask.{Ask}
 use Rattle.messages.specs.declared.requests.Request.{Request}
+use Rattle.messages.specs.declared.packets.Packet.{Packet}
 use Rattle.messages.specs.declared.replies.Reply.TheVariants as Reply
 use Rattle.reg_model.specs.declared.marks.Mark.TheVariants.{End}
 use Rattle.reg_model.specs.Marks.{life_of, IsOpen}
 use Rattle.protocol.specs.Settings.{Setting}
 use Rattle.protocol.specs.declared.phases.Counted.{Counted}
-use Rattle.protocol.specs.Coordinators.{Coordinator, greatest_refuser, lowest_full, lowest_mover}
+use Rattle.protocol.specs.Coordinators.{Coordinator, greatest_refuser, greatest_found, lowest_full, lowest_mover, lowest_dropper}
 use Rattle.protocol.specs.Nodes.{has_later_time}
 use Rattle.protocol.specs.Worlds.{World, Operation, number_of, known_in}
-use Rattle.protocol_laws.specs.Laws.{WasSent, RequestSent, AskedAt, order_of, IsLastRound, LaterEvidence, FullEvidence, MovedEvidence, Evidence}
+use Rattle.protocol_laws.specs.Laws.{WasSent, RequestSent, AskedAt, order_of, IsLastRound, LaterEvidence, FullEvidence, MovedEvidence, GoneEvidence, Evidence}
 use Rattle.fab_base.specs.declared.identities.ViewNo.{ViewNo}
 use Rattle.protocol_laws.proofs.Books.{Replies, Books, IsOperation, IsCall}
 use Rattle.reg_model.proofs.GrowingLives.{ended_not_open}
-use Rattle.protocol_laws.proofs.Tallies.{CallTallied, CountedSent, AbortShown, Tallied, MessagesShow, GoesOn, Furthers}
+use Rattle.protocol_laws.proofs.Tallies.{IsAmong, BeganBack, CallTallied, CountedSent, AbortShown, Tallied, MessagesShow, GoesOn, Furthers}
+
+-- what was sent stays sent
+abbrev pub StaySent : List Packet → List Packet → Type 0
+StaySent packets later = (packet : Packet) → IsAmong packets packet → IsAmong later packet
+
+-- an operation that had begun to look back had so later, where the replies of the phases before stay
+pub began_on : (packets more : List Packet) (replies later : ℕ → List Counted) (i : ℕ) (call next : Call) → StaySent packets more
+    → ((p : ℕ) → p < call.phase → later p ≡ replies p) → next.boot ≡ call.boot → next.seq ≡ call.seq → call.phase ≤ next.phase
+    → BeganBack packets replies i call → BeganBack more later i next
+began_on packets more replies later i call next sent same boot seq most began =
+    let goes = began.most in
+    let from = began.follows in
+    record {
+      first = began.first;
+      before = began.before;
+      member = began.member;
+      boot = began.boot ∙ sym boot;
+      seq = began.seq ∙ sym seq;
+      most = omega (arith, goes, most);
+      asked = sent (record { from = record { 0 = i }; to = began.member; message = Message.Request began.first (Request.OldRead None) }) began.asked;
+      follows = began.follows;
+      nothing = ap (λ (l : List Counted). greatest_found l) (same began.before (omega (arith, goes, from))) ∙ began.nothing;
+    }
 
 -- an operation whose replies stay
-pub call_tallied_on : (replies later : Replies) (n m : ℕ) (c : Coordinator) → m ≡ n → ((p : ℕ) → later n p ≡ replies n p)
-    → CallTallied replies n c → CallTallied later m c
-call_tallied_on replies later n m c number same tallied =
-    subst (λ (x : ℕ). CallTallied later x c) (sym number) (record {
-      now = (tallied.now.0, same c.call.phase ∙ tallied.now.1, tallied.now.2, tallied.now.3, tallied.now.4);
+pub call_tallied_on : (packets more : List Packet) (replies later : Replies) (i n m : ℕ) (c : Coordinator) → StaySent packets more → m ≡ n
+    → ((p : ℕ) → later n p ≡ replies n p) → CallTallied packets replies i n c → CallTallied more later i m c
+call_tallied_on packets more replies later i n m c sent number same tallied =
+    subst (λ (x : ℕ). CallTallied more later i x c) (sym number) (record {
+      now = record {
+        forgotten = tallied.now.forgotten;
+        are = same c.call.phase ∙ tallied.now.are;
+        stops = tallied.now.stops;
+        refused = tallied.now.refused;
+        found = tallied.now.found;
+      };
       later = λ p above. same p ∙ tallied.later p above;
       refused = λ round p low high. ap (λ (l : List Counted). is_some (greatest_refuser l)) (same p) ∙ tallied.refused round p low high;
+      back = λ looks. began_on packets more (replies n) (later n) i c.call c.call sent (λ p less. same p) refl refl (omega arith) (tallied.back looks);
     })
 
 -- what is not below a limit stays so as it grows
@@ -97,6 +128,28 @@ module _ (w next : World) (on : Furthers w next) where
         final = λ q above. same q ∙ was.final q above;
       }
 
+  -- and so does what an abort for versions that were dropped shows
+  gone_on : (n : ℕ) (o p : Operation) (brick : BrickId) → GoesOn o p → ((q : ℕ) → next.replies n q ≡ w.replies n q) → GoneEvidence w n o brick
+      → GoneEvidence next n p brick
+  gone_on n o p brick goes same was = record {
+    call = was.call;
+    seat = was.seat;
+    first = was.first;
+    before = was.before;
+    member = was.member;
+    own = (was.own.0 ∙ sym goes.boot, was.own.1 ∙ sym goes.seq);
+    told = subst (λ (b : BrickId). WasSent next (record { from = brick; to = b; message = Message.Reply was.call Reply.Retired })) (sym goes.brick)
+        (on.sent (record { from = brick; to = o.brick; message = Message.Reply was.call Reply.Retired }) was.told);
+    lowest = ap (λ (l : List Counted). lowest_dropper l) (same was.call.phase) ∙ was.lowest;
+    final = λ q above. same q ∙ was.final q above;
+    first_own = (was.first_own.0 ∙ sym goes.boot, was.first_own.1 ∙ sym goes.seq);
+    most = was.most;
+    asked = subst (λ (b : BrickId). RequestSent next was.first b was.member (Request.OldRead None)) (sym goes.brick)
+        (on.sent (record { from = o.brick; to = was.member; message = Message.Request was.first (Request.OldRead None) }) was.asked);
+    follows = was.follows;
+    nothing = ap (λ (l : List Counted). greatest_found l) (same was.before) ∙ was.nothing;
+  }
+
   pub asked_on : (call : Call) (from to : BrickId) (t : Stamp) → AskedAt w call from to t → AskedAt next call from to t
   asked_on call from to t asked = (
     asked.0,
@@ -154,11 +207,11 @@ module _ (w next : World) (on : Furthers w next) where
   evidence_on shows n o p (Cause.Later brick x) is goes begun same was = later_on shows n o p brick x is goes begun same was
   evidence_on shows n o p (Cause.Full brick live) is goes begun same was = full_on n o p brick live goes same was
   evidence_on shows n o p (Cause.Moved brick view) is goes begun same was = moved_on n o p brick view goes same was
-  evidence_on shows n o p cause is goes begun same was = absurd was
+  evidence_on shows n o p (Cause.Gone brick) is goes begun same was = gone_on n o p brick goes same was
 
 -- the history of the next world: what is new in it is shown
 pub tallied_on : (setting : Setting) (w next : World) → Books setting w → Tallied w → MessagesShow next → Furthers w next
-    → ((i k : ℕ) (c : Coordinator) → IsCall next i k c → CallTallied next.replies (number_of next i k) c)
+    → ((i k : ℕ) (c : Coordinator) → IsCall next i k c → CallTallied next.packets next.replies i (number_of next i k) c)
     → ((n p : ℕ) → next.begun < n → next.replies n p ≡ [])
     → ((n phase k : ℕ) (x : Counted) → slice_get (next.replies n phase) k ≡ Some x
     → (slice_get (w.replies n phase) k ≡ Some x) ⊎ CountedSent next n phase x)

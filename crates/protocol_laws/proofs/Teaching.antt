@@ -91,7 +91,7 @@ module _ (setting : Setting) (me from : BrickId) (now group : ℕ) (call : Call)
   replied_then node learnt None = proposal_then (with_known node (known_after node.known reply)) learnt node.proposal
   replied_then node learnt (Some c) =
       carried_then node learnt (known_after node.known reply) c
-      (on_reply setting.layout.block setting.code (fresh_stamp me c.call.view now node.boot (known_after node.known reply)) c from call reply)
+      (on_reply setting.layout.block setting.code (fresh_stamp me c.stamp.view now node.boot (known_after node.known reply)) c from call reply)
 
   -- a reply itself leaves what a brick has learnt, what it keeps of ballots and its parts as they are
   pub record IsAtRest (node next : Node) : Type 0 where
@@ -117,7 +117,7 @@ module _ (setting : Setting) (me from : BrickId) (now group : ℕ) (call : Call)
       (λ seq round proposal packets reports more are. record { boot = refl; learnt = refl; ballots = refl; replicas = refl; live = refl })
   replied_rests node (Some c) =
       carried_rests node (known_after node.known reply) c
-      (on_reply setting.layout.block setting.code (fresh_stamp me c.call.view now node.boot (known_after node.known reply)) c from call reply)
+      (on_reply setting.layout.block setting.code (fresh_stamp me c.stamp.view now node.boot (known_after node.known reply)) c from call reply)
 
   -- a reply does what it does, and teaches a view: it does so as well at a brick that was taught the view before
   pub taught_first : (node : Node) (found : Option Coordinator) (view : Option View)

@@ -30,8 +30,8 @@ use Rattle.protocol.specs.Settings.{Setting, IsSound}
 use Rattle.protocol.specs.Views.{Views, first_kept, view_of, group_in}
 use Rattle.protocol.specs.Replicas.{Replica, is_held, is_wanted}
 use Rattle.protocol.specs.declared.phases.Counted.{Counted}
-use Rattle.protocol.specs.declared.phases.Phase.TheVariants.{Bases}
-use Rattle.protocol.specs.Coordinators.{Coordinator, most_rounds, greatest_refuser, lowest_full, lowest_mover, told_in, counts_at, with_reply, pieces_at, delta_at}
+use Rattle.protocol.specs.declared.phases.Phase.TheVariants.{Bases, LooksBack}
+use Rattle.protocol.specs.Coordinators.{Coordinator, most_rounds, greatest_refuser, greatest_found, lowest_full, lowest_mover, lowest_dropper, told_in, asked_group, counts_at, with_reply, pieces_at, delta_at}
 use Rattle.protocol.specs.Nodes.{view_at, has_accepted, has_later_time}
 use Rattle.protocol.specs.Worlds.{World, Event, Operation, content_on, first_world, mark_of, known_in, happens, run}
 use Rattle.protocol.specs.Happenings.{is_of, effect_in, happenings_of}
@@ -73,6 +73,7 @@ pub record IsModified (setting : Setting) (w : World) (group stripe : ℕ) (vers
 abbrev pub want_in : Request → Option Want
 want_in (Request.Read want) = Some want
 want_in (Request.OrderRead t look want) = Some want
+want_in (Request.OldRead bound) = Some Want.All
 want_in request = None
 
 -- One stamp has one content: each block of a version that was sent, or was found, or is kept is its seat's
@@ -170,6 +171,14 @@ DropsOnlyOlder setting views w =
     ⊎ ((later : Stamp) × (is_held later (part_in w number (view_of version) stripe brick).log ≡ true) × (stamp_below version later ≡ true)
     × ((group : Group) → group_in setting.layout views number (view_of later) ≡ Some group → IsHeldByQuorum w number stripe group later))
 
+-- What a member dropped with a view is replaced: where it keeps no versions of a view any more, a quorum of the next view's members has held a version of that, of each
+-- stripe.
+abbrev pub DroppedAreReplaced : Setting → Views → World → Type 0
+DroppedAreReplaced setting views w =
+    (number view stripe brick : ℕ) (group next : Group) → view < first_kept_in w number brick → group_of setting.layout number ≡ Some group → stripe < group.stripes
+    → group_in setting.layout views number (view + 1) ≡ Some next
+    → (version : Stamp) × (view_of version ≡ view + 1) × IsHeldByQuorum w number stripe next version
+
 -- no step lowers the stamp below which a brick takes nothing
 abbrev pub NeverFalls : World → World → Type 0
 NeverFalls old new = (group stripe brick : ℕ) → stamp_below (top_in new group stripe brick) (top_in old group stripe brick) ≡ false
@@ -265,12 +274,31 @@ pub record MovedEvidence (w : World) (n : ℕ) (o : Operation) (brick : BrickId)
   pub lowest : lowest_mover (w.replies n call.phase) ≡ Some (record { seat = seat; brick = brick; view = view })
   pub final : IsLastPhase w n call.phase
 
--- the evidence of an abort, by its cause: there are three causes
+-- What the abort of operation n for versions that were dropped shows: in the last phase of this very operation the brick had told the coordinator that it had
+-- dropped them, and no reply that counted in that phase told so from a lower seat. In that phase or one before it the operation had asked a member for what that
+-- keeps in the view before, below no bound; and no reply that counted in the phase just before told a version.
+pub record GoneEvidence (w : World) (n : ℕ) (o : Operation) (brick : BrickId) : Type 0 where
+  pub call : Call
+  pub seat : ℕ
+  pub first : Call
+  pub before : ℕ
+  pub member : BrickId
+  pub own : IsCallOf call o
+  pub told : WasSent w (record { from = brick; to = o.brick; message = Message.Reply call Reply.Retired })
+  pub lowest : lowest_dropper (w.replies n call.phase) ≡ Some (record { seat = seat; brick = brick })
+  pub final : IsLastPhase w n call.phase
+  pub first_own : IsCallOf first o
+  pub most : first.phase ≤ call.phase
+  pub asked : RequestSent w first o.brick member (Request.OldRead None)
+  pub follows : first.phase ≡ before + 1
+  pub nothing : greatest_found (w.replies n before) ≡ None
+
+-- the evidence of an abort, by its cause
 abbrev pub Evidence : World → ℕ → Operation → Cause → Type 0
 Evidence w n o (Cause.Later brick x) = LaterEvidence w n o brick x
 Evidence w n o (Cause.Full brick live) = FullEvidence w n o brick live
 Evidence w n o (Cause.Moved brick view) = MovedEvidence w n o brick view
-Evidence w n o cause = ⊥
+Evidence w n o (Cause.Gone brick) = GoneEvidence w n o brick
 
 -- each reply that counted in a phase of an operation was sent to it, as a reply to that phase
 abbrev pub CountedWereSent : World → Type 0
@@ -282,7 +310,7 @@ CountedWereSent w =
 
 -- A message that was sent says what was so of its brick then, where it refuses: of a later stamp, that the brick took nothing below just that
 -- stamp for the stripe; of a full store, that it kept so many live records; of a later view with its members, that it had learnt just that; of one
--- without, that it had learnt the call's view, and accepted a list to follow it; of a view that is not synced, that it had learnt the call's view, and did
+-- without, that it had learnt the call's view, and accepted a list to follow it; that it dropped the call's view, that it kept versions of later views alone; of a view that is not synced, that it had learnt the call's view, and did
 -- not know all stripes to be kept in it; of a greater ballot, that it had learnt the call's view, and promised to that ballot.
 abbrev pub RefusalIsTrue : World → BrickId → Message → Type 0
 RefusalIsTrue w from (Message.Reply call (Reply.Later x)) = top_in w call.group.0 call.stripe.0 from.0 ≡ x
@@ -297,6 +325,7 @@ RefusalIsTrue w from (Message.Reply call Reply.NotSynced) =
 RefusalIsTrue w from (Message.Reply call (Reply.Outbid ballot)) =
     (view_at (w.nodes from.0) call.group.0 ≡ call.view.0)
     × ((accepted : Option (Ballot × List BrickId)) × ((w.nodes from.0).ballots call.group.0 ≡ Some (ballot, accepted)))
+RefusalIsTrue w from (Message.Reply call Reply.Retired) = call.view.0 < first_kept_in w call.group.0 from.0
 RefusalIsTrue w from message = Unit {0}
 
 -- A moment of the run that led to a world: the one just before the event that sent the packet of a place among those sent.
@@ -349,6 +378,17 @@ BasesAreFound setting w =
     → (is_some (lowest_mover (with_reply c seat from reply).counted) ≡ false)
     → c.group.m ≤ length (pieces_at base (with_reply c seat from reply).counted)
 
+-- An operation that looks back finds a version: once a quorum of replies of the members of the view before counts, of which none tells that its member has
+-- dropped what it kept, one of them tells a version. So it never waits for more.
+abbrev pub OldVersionsAreFound : Setting → World → Type 0
+OldVersionsAreFound setting w =
+    (i k seat : ℕ) (c : Coordinator) (bound : Option Stamp) (from : BrickId) (reply : Reply) → (w.nodes i).calls k ≡ Some c → c.phase ≡ LooksBack bound
+    → WasSent w (record { from = from; to = record { 0 = i }; message = Message.Reply c.call reply })
+    → counts_at setting.layout.block c from.0 c.call reply ≡ Some seat
+    → quorum_of (asked_group c) ≤ length (with_reply c seat from reply).counted
+    → (is_some (lowest_dropper (with_reply c seat from reply).counted) ≡ false)
+    → is_some (greatest_found (with_reply c seat from reply).counted) ≡ true
+
 -- The laws of a world, for an assignment of members to views.
 pub record Laws (setting : Setting) (views : Views) (w : World) : Type 0 where
   pub one_content : OneContent setting views w
@@ -359,8 +399,10 @@ pub record Laws (setting : Setting) (views : Views) (w : World) : Type 0 where
   pub stored : StoredIsHeld w
   pub collects : CollectsStand setting views w
   pub drops : DropsOnlyOlder setting views w
+  pub replaced : DroppedAreReplaced setting views w
   pub bases : BasesAreNewest setting views w
   pub bases_found : BasesAreFound setting w
+  pub old_found : OldVersionsAreFound setting w
   pub neighbours : (number stripe : ℕ) → NeighboursFollow w number stripe
   pub lowest : (number stripe : ℕ) → LowestFollows w number stripe
   pub real_time : (number stripe : ℕ) → FollowsRealTime w number stripe

@@ -28,16 +28,19 @@ ghost use Rattle.protocol_laws.specs.Laws.{EveryRunKeepsTheLaws, NeverSurfaces, 
 ///   view whose versions it keeps, lies below a version that it keeps, and that a quorum has held. What a quorum "has held", each of
 ///   its members has kept at some time. A member keeps the versions of the view that it has learnt, and those of the one before while
 ///   it does not know all stripes to be kept in the learnt one.
+/// - Where a member keeps no versions of a view any more, a quorum of the next view's members has held a version of that, of each stripe.
 /// - A version's content is what its maker makes of its base's: a stripe write's bytes, what a recovery read back, or that with the
 ///   one block that is written. The content of the first version is zero.
 /// - A version that is made on a base, as a recovery's or a block write's is, is above it; and no quorum of its view has held a
 ///   version between the two, or ever will (Frølund et al., DSN 2004).
 /// - A block write that reads its base back finds it: once the replies of a quorum count, and none refuses, at least m of them tell
 ///   blocks of the base.
+/// - An operation that looks back finds a version: once the replies of a quorum of the members of the view before count, and none tells
+///   that its member has dropped what it kept, one of them tells a version.
 /// - Of two neighbours among the versions that take effect, the upper was written whole, or was made on the lower. The lowest is the
 ///   first version, or was written whole, or was made on the first one.
 /// - Each reply that counted in a phase of an operation was sent to its coordinator, as a reply to that phase.
-/// - An operation is aborted for a later view, for a later stamp or for a full store, and for nothing else.
+/// - An operation is aborted for a later view, for versions that were dropped, for a later stamp or for a full store, and for nothing else.
 /// - For a later stamp only where, in its last phase, a member had told its coordinator of a later stamp than the one that it was
 ///   asked at, and no reply that counted in that phase told a greater one, or an equal one from a lower seat. A round of ordering,
 ///   of which an operation has four at most, aborts only where no other may follow: the three rounds before it had each counted a
@@ -46,9 +49,13 @@ ghost use Rattle.protocol_laws.specs.Laws.{EveryRunKeepsTheLaws, NeverSurfaces, 
 ///   whose replies counted.
 /// - For a later view only where, in its last phase, that member had told its coordinator of it, the one of the lowest seat of those
 ///   whose replies counted that told of one.
+/// - For versions that were dropped only where, in its last phase, that member had told its coordinator that it had dropped those of the
+///   call's view, the one of the lowest seat of those whose replies counted; and where, in that phase or one before it, the operation had
+///   begun to look back: it had asked a member for what that keeps in the view before, and no reply that counted in the phase just
+///   before that told a version.
 /// - What a refusal tells was true of its member when it was sent: it had come to just that stamp, or it kept so many live records, or
 ///   it had learnt just that later view; or it had learnt the view of the call, and had accepted a list to follow it, or did not know
-///   that all stripes are kept in it, or had promised to just that ballot.
+///   that all stripes are kept in it, or had promised to just that ballot; or it kept the versions of later views than the call's alone.
 ///   A member says that its store is full only with as many live records as a brick may keep.
 /// - Each answer has the word of its operation: a read is answered the data of its block, or of its m blocks, a write that it is
 ///   done; any may be aborted.

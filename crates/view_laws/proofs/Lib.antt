@@ -20,5 +20,7 @@ pub mod Replying
 pub mod ReportSteps
 pub mod Reporting
 pub mod Requesting
+pub mod SyncedViews
+pub mod Syncing
 pub mod Voices
 pub mod Votings
