@@ -6,6 +6,7 @@ use Rattle.fab_base.specs.declared.identities.BrickId.{BrickId}
 use Rattle.fab_base.specs.declared.identities.GroupId.{GroupId}
 use Rattle.fab_base.specs.declared.asks.Op.TheVariants.{ReadStripe}
 use Rattle.fab_base.specs.declared.answers.Cause.{Cause}
+use Rattle.fab_base.specs.declared.answers.Cause.TheVariants.{Full}
 use Rattle.fab_base.specs.declared.member_lists.View.{View}
 use Rattle.fab_base.specs.declared.stamps.Stamp.{Stamp}
 use Rattle.messages.specs.declared.calls.Call.{Call}
@@ -20,6 +21,7 @@ use Rattle.synod_laws.specs.Synods.{ballot_same}
 use Rattle.protocol.specs.Settings.{Piece, Setting}
 use Rattle.protocol.specs.Views.{learns, notes_synced}
 use Rattle.protocol.specs.Ballots.{voting}
+use Rattle.protocol.specs.Jobs.{Job}
 use Rattle.protocol.specs.Proposals.{seat_voting, ballot_decided}
 use Rattle.protocol.specs.Replicas.{top_of, handle}
 use Rattle.protocol.specs.Coordinators.{call_same, counts_at, fast_version, request_of, decided, on_reply}
@@ -41,11 +43,12 @@ old_members = brick 0 ∷ (brick 1 ∷ (brick 2 ∷ []))
 abbrev new_members : List BrickId
 new_members = brick 1 ∷ (brick 2 ∷ (brick 3 ∷ []))
 
-abbrev layout : Layout
-layout = record {
+-- a store keeps so many live records
+abbrev layout : ℕ → Layout
+layout records = record {
   block = 1;
   bricks = 4;
-  records = 10;
+  records = records;
   port = 0;
   store = 2;
   spares = [];
@@ -58,9 +61,9 @@ abbrev first_bytes : List Piece → List ℕ
 first_bytes [] = []
 first_bytes (piece ∷ pieces) = piece.bytes
 
-abbrev setting : Setting
-setting = record {
-  layout = layout;
+abbrev setting : ℕ → Setting
+setting records = record {
+  layout = layout records;
   code = record { encode = λ m content seat. content; decode = λ m pieces. first_bytes pieces; delta = λ old new. new; modify = λ m j seat delta block. delta };
 }
 
@@ -68,8 +71,11 @@ abbrev delivers : List ℕ → List Event
 delivers [] = []
 delivers (number ∷ numbers) = Delivers number ∷ delivers numbers
 
+abbrev after_with : ℕ → List Event → World
+after_with records events = run (setting records) events (first_world (layout records))
+
 abbrev after : List Event → World
-after events = run setting events (first_world layout)
+after events = after_with 10 events
 
 -- the last messages that were sent, from a number on
 abbrev sent_from : ℕ → List Event → List Packet
@@ -182,3 +188,16 @@ at_once = refl
 sends_nothing : length (after once_more).packets ≡ 64
 unfolding machine
 sends_nothing = refl
+
+-- If a store may keep one record, a member that promised a stamp has no room for the version. The read is aborted, and stripe 0 is tried again.
+tried_again : drop 34 (after_with 1 first_read).packets ≡ (looks_at (read_call 2 0) 1 ∷ (looks_at (read_call 2 0) 2 ∷ (looks_at (read_call 2 0) 3 ∷ [])))
+unfolding machine
+tried_again = refl
+
+second_try : option_map (λ (job : Job). job.attempt) ((after_with 1 first_read).nodes 1).job ≡ Some (record { stripe = 0; tries = 2 })
+unfolding machine
+second_try = refl
+
+closed_aborted : how_closed ((after_with 1 first_read).operations 1) ≡ Some (Some (Some (Full (brick 1) 1)))
+unfolding machine
+closed_aborted = refl
