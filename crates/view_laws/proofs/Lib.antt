@@ -16,6 +16,7 @@ pub mod Held
 pub mod Histories
 pub mod Named
 pub mod Owning
+pub mod Reads
 pub mod Replying
 pub mod ReportSteps
 pub mod Reporting

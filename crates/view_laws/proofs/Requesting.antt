@@ -263,15 +263,15 @@ module _ (setting : Setting) (v : ViewWorld) (called : Called v.packets v.nodes)
   node = v.nodes me.0
 
   -- what a brick owes that keeps its own and what it kept of views, and may reply
-  replies_says : (next : Node) → KeepsViews node next → next.calls ≡ node.calls → next.proposal ≡ node.proposal → (said : Option Reply)
+  replies_says : (next : Node) → KeepsViews node next → next.calls ≡ node.calls → next.proposal ≡ node.proposal → next.job ≡ node.job → (said : Option Reply)
       → ((one : Reply) → said ≡ Some one → (last : ViewWorld) → Extends setting.layout v last → ReplySays setting.layout last me.0 from.0 call one)
       → StepSays setting.layout v me.0 next (reply_packets me from call said)
-  replies_says next keeps calls proposal said says =
+  replies_says next keeps calls proposal job said says =
       let turn : Turn setting.layout v.packets node next = no_turn setting.layout v.packets node next keeps in
       let extends = step_extends setting.layout v me.0 next (reply_packets me from call said) agreed turn in
       record {
         turn = turn;
-        body = still_body setting.layout v (turned v me.0 next) me.0 next (reply_packets me from call said) extends refl drafting calls proposal
+        body = still_body setting.layout v (turned v me.0 next) me.0 next (reply_packets me from call said) extends refl drafting calls proposal job
             (each_reply (λ (packet : Packet). (g e : ℕ) (b : Ballot) (members : List BrickId) → accept_in g e b packet.message ≡ Some members → ⊥) me from call said
             (λ one is g e b members asks. let never : None ≡ Some members = asks in cc))
             (each_reply (PacketSays setting.layout (sending_more (turned v me.0 next) (reply_packets me from call said))) me from call said
@@ -449,7 +449,7 @@ module _ (setting : Setting) (v : ViewWorld) (called : Called v.packets v.nodes)
       record {
         turn = turn;
         body = still_body setting.layout v (turned v me.0 (granted ballot asks)) me.0 (granted ballot asks) new
-            (step_extends setting.layout v me.0 (granted ballot asks) new agreed turn) refl drafting refl refl
+            (step_extends setting.layout v me.0 (granted ballot asks) new agreed turn) refl drafting refl refl refl
             (each_reply (λ (packet : Packet). (g e : ℕ) (b : Ballot) (members : List BrickId) → accept_in g e b packet.message ≡ Some members → ⊥) me from call
             (Some (granting (node.ballots call.group.0) ballot asks).reply)
             (λ one is g e b members asked. let never : None ≡ Some members = asked in cc))
@@ -577,7 +577,7 @@ synced_says setting v agreed drafting me group number =
     record {
       turn = turn;
       body = body_own setting.layout v (turned v me.0 next) me.0 node next [] (synced_own setting.layout node group number)
-          (still_body setting.layout v (turned v me.0 next) me.0 node [] (step_extends setting.layout v me.0 next [] agreed turn) refl drafting refl refl
+          (still_body setting.layout v (turned v me.0 next) me.0 node [] (step_extends setting.layout v me.0 next [] agreed turn) refl drafting refl refl refl
           (λ k packet at. absurd (let never : None ≡ Some packet = at in cc)) (λ k packet at. absurd (let never : None ≡ Some packet = at in cc)));
     }
 
@@ -597,5 +597,5 @@ learn_says setting v agreed drafting from me group view sent =
   where
     still_body_of : (node next : Node) → Extends setting.layout v (sending_more (turned v me.0 next) []) → BodySays setting.layout v (turned v me.0 next) me.0 (v.nodes me.0) []
     still_body_of node next extends =
-        still_body setting.layout v (turned v me.0 next) me.0 (v.nodes me.0) [] extends refl drafting refl refl
+        still_body setting.layout v (turned v me.0 next) me.0 (v.nodes me.0) [] extends refl drafting refl refl refl
         (λ k packet at. absurd (let never : None ≡ Some packet = at in cc)) (λ k packet at. absurd (let never : None ≡ Some packet = at in cc))
