@@ -379,7 +379,7 @@ agreement_cases setting limits w calls was = record {
       let before_is = restarted_agreement setting w.packets w.choices.votes w.nodes brick.0 openings was.agreed was.drafting in
       let after_is = restarted_agreement setting w.packets (turned (view_world w) brick.0 after).votes (put w.nodes brick.0 after) brick.0 openings
       (turn_agrees setting.layout (view_world w) brick.0 after was.agreed left.turn)
-      (turned_drafting setting.layout (view_world w) brick.0 after was.agreed left.turn left.calls left.proposal was.drafting) in
+      (turned_drafting setting.layout (view_world w) brick.0 after was.agreed left.turn left.calls left.proposal left.job was.drafting) in
       started_each (Agreement setting.layout) w brick openings
       (record {
         agreed = before_is.0;
