@@ -1,5 +1,5 @@
 -- No event lowers what a brick has promised or stored, or drops a version that it holds.
-use Rattle.view_laws.proofs.Reads.{synced_at_each}
+use Rattle.view_laws.proofs.SyncReads.{synced_at_each}
 use Rattle.fab_base.specs.declared.identities.ViewNo.{ViewNo}
 use Rattle.view_laws.proofs.Syncing.{synced_of, synced_each, synced_views}
 use Rattle.protocol_laws.proofs.Logs.{LogAscends, IsKept}

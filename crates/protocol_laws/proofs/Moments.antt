@@ -1,6 +1,6 @@
 -- What a member told was true of it when it told it.
 use Rattle.protocol.specs.Jobs.{Job}
-use Rattle.view_laws.proofs.Reads.{carried_each, synced_at_each, each_tick, each_synced}
+use Rattle.view_laws.proofs.SyncReads.{carried_each, synced_at_each, each_tick, each_synced}
 use Rattle.protocol.specs.Views.{first_kept}
 use Rattle.std.proofs.Common.{nat_lt, ◌≡◌, ◌≤◌, ⊎_elim, arith, not, Bool, ℕ, true, List, [], Option, Some, None, refl, sym, ap, ◌∙◌, subst, false, is_some, ltb-true}
 use Rattle.std.specs.Prelude.{nat_eq, if◌then◌else◌}

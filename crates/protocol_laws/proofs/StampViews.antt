@@ -1,7 +1,7 @@
 -- The stamps of a part, of a call and of a request are of its own view, and what a brick keeps of views that it has not learnt is fresh: so it is in every
 -- run, whatever members the views have.
 use Rattle.protocol.specs.Jobs.{Job, begun_job, job_ask}
-use Rattle.view_laws.proofs.Reads.{carried_each, synced_at_each, each_tick, each_synced}
+use Rattle.view_laws.proofs.SyncReads.{carried_each, synced_at_each, each_tick, each_synced}
 use Rattle.fab_base.specs.declared.asks.Op.TheVariants.{ReadBlock, WriteBlock, ReadStripe, WriteStripe}
 use Rattle.fab_base.specs.declared.asks.Op.{Op}
 use Rattle.view_laws.proofs.Syncing.{synced_each, synced_of}

@@ -1,5 +1,5 @@
 -- A brick is taught a view: by a message, or by a reply that counts. It does what it does with the reply as well if it is taught first.
-use Rattle.view_laws.proofs.Reads.{carried_each}
+use Rattle.view_laws.proofs.SyncReads.{carried_each}
 use Rattle.protocol.specs.declared.tellings.Report.{Report}
 use Rattle.protocol.specs.Jobs.{Job, JobNext, Reads, Finishes, GivesUp, job_ask, job_after, abort_cause, spent_answer}
 use Rattle.std.proofs.Common.{◌≡◌, ℕ, ◌<◌, Bool, true, false, nat_lt, Option, Some, None, refl, sym, ap, ◌∙◌, subst, ltb-true, [], List}

@@ -25,7 +25,7 @@ use Rattle.view_laws.proofs.Histories.{ViewWorld, IsNamed, accept_in, accept_is,
 use Rattle.view_laws.proofs.Agreeing.{Agreed, Turn, turned, sending_more}
 use Rattle.view_laws.proofs.Calling.{Called, unproposed}
 use Rattle.protocol.specs.Jobs.{Job, begun_job, job_ask}
-use Rattle.view_laws.proofs.Reads.{each_tick, synced_at_each}
+use Rattle.view_laws.proofs.SyncReads.{each_tick, synced_at_each}
 use Rattle.view_laws.proofs.Drafting.{DraftSays, Drafting, draft_stays, still_unproposed, StepSays, step_extends}
 use Rattle.view_laws.proofs.Requesting.{no_turn}
 use Rattle.view_laws.proofs.Replying.{IsQuiet, phase_quiet, same_accept, view_from, read_named}
@@ -152,6 +152,7 @@ proposed_says setting v called agreed drafting me group members = by (group_of s
           turn = turn;
           body = record {
             calls = λ k c at. drafting.calls me.0 k c at;
+            jobs = λ j at. drafting.jobs me.0 j at;
             drafts = λ q same. subst (λ (z : Proposal). DraftSays setting.layout (sending_more (turned v me.0 next) new) me.0 z) (same_Some p q same)
                 (record {
                   group = base;
@@ -200,6 +201,7 @@ ticked_says setting v agreed drafting me =
       turn = turn;
       body = record {
         calls = λ k c at. drafting.calls me.0 k c at;
+        jobs = λ j at. drafting.jobs me.0 j at;
         drafts = λ q is. draft_stays setting.layout v (sending_more (turned v me.0 node) new) me.0 q extends
             (λ unasked. still_unproposed v.packets new q.call.group.0 q.view.number.0 q.ballot ((drafting.drafts me.0 q is).unasked unasked)
             (λ k packet members at asks.

@@ -26,14 +26,14 @@ use Rattle.synod_laws.specs.Synods.{value_or}
 use Rattle.protocol.specs.Replicas.{handle}
 use Rattle.protocol.specs.Proposals.{Proposal, Voting, ballot_request, ballot_packets, round_after, with_voice, asking, greatest_choice, voted}
 use Rattle.protocol.specs.Coordinators.{Coordinator, Next, Ignores, Waits, Sends, Makes, Ends, request_of, on_reply, asked_group}
-use Rattle.protocol.specs.Nodes.{Node, NodeStep, put, no_step, sending, with_known, with_round, known_after, carried_for, job_reading, synced_at, collect_packets, phase_packets, invoked, began, group_at, new_coordinator, fresh_stamp, requested, full_at, replica_at, vote_at, carried_out, ended_packets, carried_ballot, replied_ballot, replied_at, view_counted, replied, lists_fit, heard, received, absorbed, ticked, resent_up_to, ballot_resent, proposed, proposed_in, new_proposal, proposing, stopped, restarted, may_open}
+use Rattle.protocol.specs.Nodes.{Node, NodeStep, put, no_step, sending, with_known, with_round, known_after, carried_for, job_reading, synced_at, collect_packets, phase_packets, invoked, began, group_at, new_coordinator, fresh_stamp, requested, full_at, replica_at, vote_at, carried_out, ended_packets, carried_ballot, replied_ballot, replied_at, view_counted, replied, lists_fit, heard, received, absorbed, ticked, resent_up_to, ballot_resent, proposed, proposed_in, new_proposal, proposing, stopped, restarted, may_open, read_closed, synced_packets}
 use Rattle.protocol.specs.Worlds.{World, Event, first_world, is_up, packet_during, left_after, world_stepped, run}
 use Rattle.protocol.proofs.Events.{EventCases, step_on, world_counting, always, started_each, stepped_each}
 use Rattle.protocol.proofs.Packets.{OfEach, each_none, each_both, each_member, each_collect, each_reply, each_learn, each_ticked, each_ballot, each_ballot_resent}
 use Rattle.protocol.proofs.Served.{request_each}
 use Rattle.protocol.proofs.Tables.{put_each, put_twice}
-use Rattle.protocol.specs.Jobs.{Job}
-use Rattle.view_laws.proofs.Reads.{carried_each, synced_at_each, each_synced, each_tick}
+use Rattle.protocol.specs.Jobs.{Job, begun_job}
+use Rattle.view_laws.proofs.SyncReads.{carried_each, synced_at_each, each_synced, each_tick, read_call}
 use Rattle.view_laws.proofs.Calling.{OfBallot, OfBallots, ballots_map, IsOldDraft, IsNewDraft, IsOfDraft, StepCalls, Called, own_calls, called_after}
 use Rattle.view_laws.proofs.Owning.{taught_own, learnt_own, absorbed_own, synced_own}
 use Rattle.view_laws.proofs.Votings.{voting_each}
@@ -143,15 +143,17 @@ carried_for_calls setting me now node known c next reading =
     (carried_calls setting me node known c next)
     (λ job is answered seen stored ends.
     let collects = each_collect NamesNone me c stored (λ t to. tt) in
+    let closed : NodeStep = read_closed me node known c answered seen stored in
     record {
       stays = still_calls me.0 node _ _ refl (omega arith) (omega arith) refl (each_both NamesNone (collect_packets me c stored) [] collects (each_none NamesNone));
       ends = λ answer. still_calls me.0 node _ _ refl (omega arith) (omega arith) refl
           (each_both NamesNone (collect_packets me c stored) [] collects (each_none NamesNone));
       finishes = still_calls me.0 node _ _ refl (omega arith) (omega arith) refl
-          (each_both NamesNone (collect_packets me c stored) _ collects
+          (each_both NamesNone (collect_packets me c stored) (synced_packets me job.group job.view.number setting.layout.bricks 0) collects
           (each_synced NamesNone me job.group job.view.number (λ to. tt) setting.layout.bricks 0));
       reads = λ attempt group kept. still_calls me.0 node _ _ refl (omega arith) (omega arith) refl
-          (each_both NamesNone (collect_packets me c stored) _ collects (phase_none setting me _));
+          (each_both NamesNone (collect_packets me c stored) (phase_packets setting me (read_call group (record job { attempt = attempt }) me now closed.node)) collects
+          (phase_none setting me (read_call group (record job { attempt = attempt }) me now closed.node)));
     })
 
 -- a synchronisation begins
@@ -162,7 +164,8 @@ synced_calls setting me now node group =
     (still_calls me.0 node node [] refl (omega arith) (omega arith) refl (each_none NamesNone))
     (λ answer. still_calls me.0 node node [] refl (omega arith) (omega arith) refl (each_none NamesNone))
     (λ answer. still_calls me.0 node _ [] refl (omega arith) (omega arith) refl (each_none NamesNone))
-    (λ kept is. still_calls me.0 node _ _ refl (omega arith) (omega arith) refl (phase_none setting me _))
+    (λ kept is. still_calls me.0 node _ _ refl (omega arith) (omega arith) refl
+    (phase_none setting me (read_call kept (begun_job group (node.learnt group.0).view) me now node)))
 
 -- an end of a proposal names no ballot
 ended_none : (layout : Layout) (me : BrickId) (p : Proposal) (ended : ViewAnswer) → OfEach NamesNone (ended_packets layout me p ended)

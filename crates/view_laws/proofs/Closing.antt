@@ -1,6 +1,6 @@
 -- A brick that has closed a view keeps it closed, takes nothing for a stripe of it, and serves it no more.
-use Rattle.view_laws.proofs.Reads.{carried_each, synced_at_each, each_synced, each_tick}
-use Rattle.protocol.specs.Jobs.{Job}
+use Rattle.view_laws.proofs.SyncReads.{carried_each, synced_at_each, each_synced, each_tick, read_call}
+use Rattle.protocol.specs.Jobs.{Job, begun_job}
 use Rattle.fab_base.specs.declared.identities.ViewNo.{ViewNo}
 use Rattle.view_laws.proofs.Syncing.{synced_each, synced_of}
 use Rattle.std.proofs.Common.{◌≡◌, ℕ, zero, suc, ◌+◌, ◌-◌, ◌<◌, ◌≤◌, Bool, true, false, ◌&&◌, ◌||◌, ◌⊎◌, inl, inr, ⊎_elim, List, [], ◌∷◌, Option, Some, None, refl, sym, ap, ◌∙◌, subst, arith, nat_lt, nat_eq, is_some}
@@ -32,7 +32,7 @@ use Rattle.protocol.specs.Replicas.{Replica, Reaction, fresh_replica, is_held, i
 use Rattle.protocol.specs.Ballots.{moved_to, outbidding, granting, unless_barred, voting}
 use Rattle.protocol.specs.Proposals.{Proposal, Voting, Ignored, Waited, Asks, Ended, voted}
 use Rattle.protocol.specs.Coordinators.{Coordinator, Next, Ignores, Waits, Sends, Makes, Ends, request_of, on_reply, asked_group}
-use Rattle.protocol.specs.Nodes.{Node, NodeStep, view_at, has_accepted, put, no_step, sending, with_known, with_round, known_after, fresh_stamp, group_at, began, invoked, phase_packets, replica_at, full_at, moved_at, vote_at, voted_on, requested, with_learnt, node_taught, node_taught_by, may_teach, node_learnt, view_counted, carried_out, ended_packets, carried_ballot, replied_ballot, replied_at, replied, lists_fit, heard, received, absorbed, resent_up_to, ballot_resent, ticked, new_proposal, proposing, proposed_in, proposed, stopped, restarted, node_synced, old_reply, new_coordinator, synced_at, carried_for, job_reading, collect_packets}
+use Rattle.protocol.specs.Nodes.{Node, NodeStep, view_at, has_accepted, put, no_step, sending, with_known, with_round, known_after, fresh_stamp, group_at, began, invoked, phase_packets, replica_at, full_at, moved_at, vote_at, voted_on, requested, with_learnt, node_taught, node_taught_by, may_teach, node_learnt, view_counted, carried_out, ended_packets, carried_ballot, replied_ballot, replied_at, replied, lists_fit, heard, received, absorbed, resent_up_to, ballot_resent, ticked, new_proposal, proposing, proposed_in, proposed, stopped, restarted, node_synced, old_reply, new_coordinator, synced_at, carried_for, job_reading, collect_packets, read_closed, synced_packets}
 use Rattle.protocol.specs.Worlds.{World, Event, first_world, is_up, packet_during, left_after, world_stepped, run}
 use Rattle.protocol.proofs.Events.{EventCases, step_on, world_counting, always, started_each}
 use Rattle.protocol.proofs.Packets.{OfEach, each_none, each_both, each_member, each_collect, each_reply, each_learn, each_ticked, each_ballot, each_ballot_resent}
@@ -378,18 +378,20 @@ carried_for_closes setting me now node mid known c decision reading same =
     (carried_closes setting me node mid known c decision same)
     (λ job is answered seen stored ends.
     let collects = each_collect (ServesNone me node) me c stored (λ t to. request_serves me me to node c.call (Request.Collect t)) in
+    let closed : NodeStep = read_closed me mid known c answered seen stored in
     record {
       stays = (same, each_both (ServesNone me node) (collect_packets me c stored) [] collects (each_none (ServesNone me node)));
       ends = λ answer. (same, each_both (ServesNone me node) (collect_packets me c stored) [] collects (each_none (ServesNone me node)));
       finishes = (
         same,
-        each_both (ServesNone me node) (collect_packets me c stored) _ collects
+        each_both (ServesNone me node) (collect_packets me c stored) (synced_packets me job.group job.view.number setting.layout.bricks 0) collects
             (each_synced (ServesNone me node) me job.group job.view.number (λ to. synced_serves me me to node job.group job.view.number)
             setting.layout.bricks 0),
       );
       reads = λ attempt group kept. (
         same,
-        each_both (ServesNone me node) (collect_packets me c stored) _ collects (phase_serves setting me node _),
+        each_both (ServesNone me node) (collect_packets me c stored) (phase_packets setting me (read_call group (record job { attempt = attempt }) me now closed.node))
+            collects (phase_serves setting me node (read_call group (record job { attempt = attempt }) me now closed.node)),
       );
     })
 
@@ -401,7 +403,8 @@ sync_closes setting me now node group =
     (sends_closes setting.layout me node node [] refl (each_none (ServesNone me node)))
     (λ answer. sends_closes setting.layout me node node [] refl (each_none (ServesNone me node)))
     (λ answer. sends_closes setting.layout me node _ [] refl (each_none (ServesNone me node)))
-    (λ kept is. sends_closes setting.layout me node _ _ refl (phase_serves setting me node _))
+    (λ kept is. sends_closes setting.layout me node _ _ refl
+    (phase_serves setting me node (read_call kept (begun_job group (node.learnt group.0).view) me now node)))
 
 -- what a proposal decided is carried out
 ended_serves : (layout : Layout) (me : BrickId) (node : Node) (p : Proposal) (ended : ViewAnswer) → OfEach (ServesNone me node) (ended_packets layout me p ended)

@@ -16,11 +16,11 @@ pub mod Held
 pub mod Histories
 pub mod Named
 pub mod Owning
-pub mod Reads
 pub mod Replying
 pub mod ReportSteps
 pub mod Reporting
 pub mod Requesting
+pub mod SyncReads
 pub mod SyncedViews
 pub mod Syncing
 pub mod Voices

@@ -28,7 +28,7 @@ use Rattle.protocol.specs.Nodes.{Node, NodeStep, put, no_step, with_known, with_
 use Rattle.protocol.proofs.Packets.{OfEach, each_none, each_both, each_member, each_collect, each_ballot, each_learn}
 use Rattle.protocol.proofs.Tables.{put_each}
 use Rattle.protocol.specs.Jobs.{Job, Attempt, job_ask}
-use Rattle.view_laws.proofs.Reads.{carried_each, each_synced}
+use Rattle.view_laws.proofs.SyncReads.{carried_each, each_synced}
 use Rattle.view_laws.proofs.FirstTold.{first_told, first_some, first_of_later, first_alike}
 use Rattle.view_laws.proofs.Histories.{ViewWorld, IsSent, IsNamed, named_in, accept_in, accept_is, IsAccept, history, seated, seated_grows, PacketSays, MessageSays, IsDecided, IsTaught, Extends, name_stays, name_has_number, names_once, known_taught, name_is, ballot_called, kept_is}
 use Rattle.view_laws.proofs.Agreeing.{IsSafeIn, Agreed, KeepsViews, Turn, turned, sending_more}

@@ -1,5 +1,5 @@
 -- What follows a view is chosen only once all stripes are said to be kept in that view.
-use Rattle.view_laws.proofs.Reads.{synced_at_each}
+use Rattle.view_laws.proofs.SyncReads.{synced_at_each}
 use Rattle.std.proofs.Common.{◌≡◌, ℕ, ◌-◌, ◌<◌, ◌≤◌, Bool, true, false, ◌⊎◌, inl, inr, ⊎_elim, List, [], ◌++◌, length, Option, Some, None, refl, sym, ◌∙◌, subst, arith, nat_lt, nat_eq}
 use Rattle.std.specs.Prelude.{if◌then◌else◌}
 use Rattle.std.specs.Option.{option_map}

@@ -20,12 +20,16 @@ use Rattle.protocol.specs.Nodes.{Node, NodeStep, no_step, reporting, coordinator
 use Rattle.protocol.proofs.Packets.{OfEach, OfRequests, each_none, each_one, each_both, each_resent, each_teaching, each_ticked}
 use Rattle.protocol.proofs.Tables.{put_each}
 
+-- the coordinator of a read of a synchronisation
+abbrev pub read_call : Group → Job → BrickId → ℕ → Node → Coordinator
+read_call group job me now node = coordinator_in group job.view me now node (job_ask job)
+
 module _ (P : NodeStep → Type 0) (setting : Setting) (me : BrickId) (now : ℕ) (node : Node) where
   -- a brick begins to read, or its synchronisation ends
   pub read_each : (job : Job) → P (no_step node)
       → ((answer : SyncAnswer) → P (reporting (with_job node None) [] (Report.Sync job.group answer)))
       → ((group : Group) → group_kept setting.layout job.view.members job.group.0 ≡ Some group
-      → P (read_begun_by setting me node job (coordinator_in group job.view me now node (job_ask job))))
+      → P (read_begun_by setting me node job (read_call group job me now node)))
       → P (read_begun setting me now node job)
   read_each job stays ends reads = by (group_kept setting.layout job.view.members job.group.0) refl
     where
@@ -38,7 +42,7 @@ module _ (P : NodeStep → Type 0) (setting : Setting) (me : BrickId) (now : ℕ
       → ((answer : SyncAnswer) → P (reporting (with_job node None) [] (Report.Sync group answer)))
       → (let job = begun_job group (node.learnt group.0).view in
       (kept : Group) → group_kept setting.layout job.view.members group.0 ≡ Some kept
-      → P (read_begun_by setting me node job (coordinator_in kept job.view me now node (job_ask job))))
+      → P (read_begun_by setting me node job (read_call kept job me now node)))
       → P (synced_at setting me now node group)
   unfolding synced_at
   synced_at_each group stays known ends reads =
@@ -53,7 +57,7 @@ pub record AfterRead (P : NodeStep → Type 0) (setting : Setting) (me : BrickId
       (Report.Sync job.group (synced_answer job.view.number))))
   pub reads : (attempt : Attempt) (group : Group) → group_kept setting.layout job.view.members job.group.0 ≡ Some group
       → P (then_does closed (read_begun_by setting me closed.node (record job { attempt = attempt })
-      (coordinator_in group job.view me now closed.node (job_ask (record job { attempt = attempt })))))
+      (read_call group (record job { attempt = attempt }) me now closed.node)))
 
 -- what follows it
 goes_each : (P : NodeStep → Type 0) (setting : Setting) (me : BrickId) (now : ℕ) (closed : NodeStep) (job : Job) → AfterRead P setting me now closed job
