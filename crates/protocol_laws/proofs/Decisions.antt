@@ -3,7 +3,7 @@ use Rattle.protocol.specs.declared.phases.Refuser.{Refuser}
 use Rattle.protocol.specs.Views.{Views, group_in, view_of, floor_of}
 use Rattle.protocol_laws.proofs.Blocking.{blocked_never_stands}
 use Rattle.fab_base.specs.declared.asks.Ask.{Ask}
-use Rattle.protocol_laws.proofs.OwnStamps.{maker_stamp, operation_unique, call_in, m_is, asked_is, asked_in, asked_m, back_is}
+use Rattle.protocol_laws.proofs.OwnStamps.{maker_stamp, operation_unique, m_is, asked_is, asked_in, asked_m, back_is}
 use Rattle.std.proofs.Common.{◌≡◌, ℕ, zero, suc, ◌-◌, ◌*◌, ◌/◌, ◌<◌, ◌≤◌, ◌⊎◌, inl, inr, true, false, not, List, [], ◌∷◌, length, replicate, Option, Some, None, refl, sym, ap, ◌∙◌, subst, ⊎_elim, arith, Bool}
 use Rattle.std.specs.Prelude.{nat_eq, if◌then◌else◌}
 use Rattle.std.specs.Option.{option_map}

@@ -1,5 +1,5 @@
 -- An operation that looks back finds a version: all stripes are said to be kept in the view before its own, so of its stripe a version of that stands.
-use Rattle.std.proofs.Common.{◌≡◌, ℕ, ◌-◌, ◌<◌, ◌≤◌, ◌⊎◌, inl, inr, true, false, List, [], ◌∷◌, ◌++◌, length, Option, Some, None, is_some, refl, sym, ap, ◌∙◌, subst, arith}
+use Rattle.std.proofs.Common.{◌≡◌, ℕ, ◌-◌, ◌<◌, inl, inr, true, false, List, [], ◌∷◌, ◌++◌, length, Option, Some, None, is_some, refl, sym, ap, ◌∙◌, subst, arith}
 use Rattle.std.proofs.lemmas.Bool.{false≢true}
 use Rattle.fab_base.specs.declared.identities.BrickId.{BrickId}
 use Rattle.fab_base.specs.declared.asks.Ask.{Ask}
@@ -8,18 +8,16 @@ use Rattle.fab_base.specs.Stamps.{stamp_below, first_stamp}
 use Rattle.fab_base.specs.Layouts.{Group, group_of, brick_at}
 use Rattle.messages.specs.declared.packets.Message.TheVariants as Message
 use Rattle.messages.specs.declared.replies.Reply.{Reply}
-use Rattle.messages.specs.declared.requests.Look.{Look}
 use Rattle.messages.specs.declared.requests.Look.TheVariants.{Below}
-use Rattle.quorum.specs.Quorums.{quorum_of}
 use Rattle.quorum.proofs.Counts.{count_full}
 use Rattle.protocol.specs.Settings.{Setting, IsSound}
-use Rattle.protocol.specs.Views.{Views, view_of, group_in}
+use Rattle.protocol.specs.Views.{Views, view_of}
 use Rattle.protocol.specs.declared.phases.Counted.{Counted}
 use Rattle.protocol.specs.declared.phases.FullMember.{FullMember}
 use Rattle.protocol.specs.declared.phases.Mover.{Mover}
 use Rattle.protocol.specs.declared.phases.Phase.{Phase}
 use Rattle.protocol.specs.declared.phases.Phase.TheVariants.{LooksBack}
-use Rattle.protocol.specs.Coordinators.{Coordinator, looks_back, asked_group, old_bound, answers_phase, mover_of, lower_mover, lowest_mover, full_member_of, lower_full, lowest_full, lowest_dropper, greatest_refuser, greatest_found}
+use Rattle.protocol.specs.Coordinators.{Coordinator, looks_back, asked_group, old_bound, answers_phase, mover_of, lower_mover, lowest_mover, full_member_of, lower_full, lowest_full, lowest_dropper, greatest_found}
 use Rattle.protocol.specs.Worlds.{World, Operation, number_of}
 use Rattle.protocol.proofs.CountsAt.{CountsAt, counts_facts}
 use Rattle.view_laws.specs.Syncs.{IsSaidSynced}

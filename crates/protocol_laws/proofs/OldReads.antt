@@ -1,5 +1,5 @@
 -- What a brick tells of a view that it serves no more: it takes nothing below the first stamp of the next view, so what it finds there below a bound stays its newest.
-use Rattle.std.proofs.Common.{◌≡◌, ℕ, ◌+◌, ◌≤◌, ◌<◌, ◌⊎◌, inl, inr, ⊎_elim, Bool, true, false, List, [], ◌∷◌, Option, Some, None, refl, sym, ap, ◌∙◌, subst, arith, nat_lt, is_some}
+use Rattle.std.proofs.Common.{◌≡◌, ℕ, ◌+◌, ◌≤◌, ◌⊎◌, inl, inr, ⊎_elim, Bool, true, false, List, [], ◌∷◌, Option, Some, None, refl, sym, ap, ◌∙◌, subst, arith, nat_lt, is_some}
 use Rattle.std.specs.Prelude.{slice_get, filter, if◌then◌else◌}
 use Rattle.std.proofs.lemmas.Bool.{cond_both, cases_Bool, false≢true, or_left}
 use Rattle.std.proofs.lemmas.Bool.Decides.{nat_tests}
@@ -13,20 +13,19 @@ use Rattle.messages.specs.declared.packets.Message.{Message}
 use Rattle.messages.specs.declared.requests.Request.{Request}
 use Rattle.messages.specs.declared.requests.Version.{Version}
 use Rattle.messages.specs.declared.requests.Look.TheVariants.{Below}
-use Rattle.messages.specs.declared.requests.Want.TheVariants.{All}
 use Rattle.messages.specs.declared.replies.Reply.{Reply}
 use Rattle.messages.specs.declared.replies.Reply.TheVariants as reply
 use Rattle.protocol.specs.Settings.{Setting}
 use Rattle.protocol.specs.Views.{Views, first_kept, floor_of, view_of}
-use Rattle.protocol.specs.Replicas.{Replica, newest_of, under, is_held, stamp_max, top_of}
+use Rattle.protocol.specs.Replicas.{Replica, newest_of, under, is_held}
 use Rattle.protocol.specs.Coordinators.{old_bound}
-use Rattle.protocol.specs.Nodes.{Node, view_at, view_floor, has_accepted, top_at, replica_at, moved_at, old_reply}
+use Rattle.protocol.specs.Nodes.{Node, view_at, view_floor, has_accepted, top_at, moved_at, old_reply}
 use Rattle.protocol.specs.Worlds.{World}
 use Rattle.protocol_laws.specs.Laws.{WasSent, top_in, part_in}
 use Rattle.protocol_laws.proofs.Blocking.{held_in, was_kept}
-use Rattle.protocol_laws.proofs.Logs.{IsWithin, IsKept, IsUnder, among, newest_among, newest_stands_among, place_held}
+use Rattle.protocol_laws.proofs.Logs.{IsWithin, IsUnder, among, newest_among, newest_stands_among, place_held}
 use Rattle.protocol_laws.proofs.Requests.{within_lower}
-use Rattle.protocol_laws.proofs.Said.{Stamping, Said, OldReadSays, OldSays, ReplySays, ToldSays, VersionSays, IsPassedOver, IsBottom, WasCollected}
+use Rattle.protocol_laws.proofs.Said.{Stamping, Said, OldReadSays, OldSays, ReplySays, VersionSays, IsPassedOver, IsBottom, WasCollected}
 use Rattle.protocol_laws.proofs.StampViews.{StampViews}
 use Rattle.protocol_laws.proofs.Tops.{floor_rises, view_less, top_floor}
 

@@ -3,7 +3,7 @@ use Rattle.protocol.specs.declared.phases.Dropper.{Dropper}
 use Rattle.fab_base.specs.declared.identities.ViewNo.{ViewNo}
 use Rattle.protocol.specs.declared.phases.Mover.{Mover}
 use Rattle.protocol_laws.proofs.Counting.{NoneStops}
-use Rattle.std.proofs.Common.{◌≡◌, ℕ, ◌+◌, ◌<◌, ◌≤◌, ◌⊎◌, inl, inr, true, false, List, [], length, Option, Some, None, is_some, refl, arith, subst, ⊎_elim, sym, not, ◌&&◌}
+use Rattle.std.proofs.Common.{◌≡◌, ℕ, ◌+◌, ◌<◌, ◌≤◌, ◌⊎◌, inl, inr, true, false, List, [], length, Option, Some, None, is_some, refl, arith, subst, ⊎_elim, sym, not}
 use Rattle.std.specs.Prelude.{nat_lt}
 use Rattle.std.proofs.lemmas.Bool.{cond_both, false≢true, ltb-true, ltb-false, and_parts, not-true}
 use Rattle.fab_base.specs.declared.asks.Ask.{Ask}

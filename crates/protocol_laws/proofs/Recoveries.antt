@@ -2,7 +2,7 @@
 -- recovery's stamp; nor that version itself, where too few blocks of it were found.
 use Rattle.std.proofs.lemmas.Option.{same_Some}
 use Rattle.protocol_laws.proofs.Tops.{view_between, floor_least, view_before, before_floor, from_floor}
-use Rattle.protocol_laws.proofs.OwnStamps.{call_in, own_in, asked_is, asked_in, asked_m, ahead_call, back_call, back_is}
+use Rattle.protocol_laws.proofs.OwnStamps.{own_in, asked_is, asked_in, asked_m, ahead_call, back_call, back_is}
 use Rattle.std.proofs.Common.{◌≡◌, ℕ, ◌+◌, ◌<◌, ◌≤◌, Bool, true, false, not, List, [], ◌∷◌, length, Option, Some, None, refl, sym, ap, ◌∙◌, subst, ⊎_elim, arith, ◌&&◌, ◌-◌}
 use Rattle.std.specs.Prelude.{filter, if◌then◌else◌}
 use Rattle.std.specs.Option.{option_map}

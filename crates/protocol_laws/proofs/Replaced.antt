@@ -2,7 +2,6 @@
 use Rattle.std.proofs.Common.{◌≡◌, ℕ, ◌+◌, ◌-◌, ◌<◌, ◌≤◌, Bool, true, false, ◌⊎◌, inl, inr, ⊎_elim, Some, refl, sym, subst, arith, nat_lt}
 use Rattle.std.proofs.lemmas.Bool.{cond_both, ltb-true, ltb-false}
 use Rattle.fab_base.specs.declared.stamps.Stamp.{Stamp}
-use Rattle.fab_base.specs.Layouts.{Group, group_of}
 use Rattle.protocol.specs.Settings.{Setting, IsSound}
 use Rattle.protocol.specs.Views.{Views, Learnt, view_of, group_in}
 use Rattle.protocol.specs.Nodes.{view_at}
@@ -28,11 +27,11 @@ module _ (setting : Setting) (views : Views) (sound : IsSound setting) (w : Worl
       let learnt : Learnt = (w.nodes brick).learnt number in
       cond_both learnt.synced learnt.view.number.0 (learnt.view.number.0 - 1) (λ (first : ℕ). view < first → IsSaidSynced w number (view + 1))
       (λ synced below. now_or_before synced below)
-      (λ isnt below. syncs.learnt brick number (view + 1) (omega (arith)) (omega (arith, below)))
+      (λ isnt below. syncs.learnt brick number (view + 1) (omega arith) (omega (arith, below)))
     where
       now_or_before : ((w.nodes brick).learnt number).synced ≡ true → view < view_at (w.nodes brick) number → IsSaidSynced w number (view + 1)
       now_or_before synced below = ⊎_elim
-          (λ (before : view + 1 < view_at (w.nodes brick) number). syncs.learnt brick number (view + 1) (omega (arith)) before)
+          (λ (before : view + 1 < view_at (w.nodes brick) number). syncs.learnt brick number (view + 1) (omega arith) before)
           (λ (now : view + 1 ≡ view_at (w.nodes brick) number).
           subst (λ (e : ℕ). IsSaidSynced w number e) (sym now) (syncs.synced brick number synced))
           (at_most (view + 1) (view_at (w.nodes brick) number) (omega (arith, below)))

@@ -4,11 +4,10 @@ use Rattle.fab_base.specs.declared.identities.GroupId.{GroupId}
 use Rattle.protocol.specs.declared.phases.Dropper.{Dropper}
 use Rattle.protocol.specs.declared.phases.Mover.{Mover}
 use Rattle.protocol.specs.declared.phases.Counted.{Counted}
-use Rattle.protocol_laws.proofs.Tops.{view_between}
 use Rattle.protocol_laws.proofs.OwnStamps.{call_by, own_in, m_is, ahead_group, ahead_call, asked_in, asked_m, back_call, back_is, call_in}
-use Rattle.std.proofs.Common.{◌≡◌, ℕ, ◌+◌, ◌*◌, ◌<◌, ◌≤◌, max, nat_lt, ◌⊎◌, inl, inr, true, false, List, [], length, Option, Some, None, refl, sym, ap, ◌∙◌, subst, ⊎_elim, arith, ◌≢◌, Bool}
-use Rattle.std.specs.Prelude.{nat_eq, ◌-◌, not, ◌&&◌}
-use Rattle.std.proofs.lemmas.Bool.{cond_both, cases_Bool, false≢true, and_parts, eqb-true, ltb-true, ltb-false, cases_eq, not-true}
+use Rattle.std.proofs.Common.{◌≡◌, ℕ, ◌+◌, ◌*◌, ◌<◌, ◌≤◌, max, nat_lt, ◌⊎◌, inl, inr, true, false, List, [], length, Option, Some, None, refl, sym, ap, ◌∙◌, subst, ⊎_elim, arith, Bool}
+use Rattle.std.specs.Prelude.{nat_eq, ◌-◌, not}
+use Rattle.std.proofs.lemmas.Bool.{cond_both, cases_Bool, false≢true, and_parts, eqb-true, ltb-true, ltb-false, not-true}
 use Rattle.std.proofs.lemmas.Option.{same_Some}
 use Rattle.fab_base.specs.declared.identities.BrickId.{BrickId}
 use Rattle.fab_base.specs.declared.stamps.Stamp.{Stamp}
@@ -50,7 +49,7 @@ use Rattle.protocol_laws.proofs.Stampings.{ComesFrom, ages_within, stamp_stays, 
 use Rattle.protocol_laws.proofs.Growth.{Grows, stays_call}
 use Rattle.protocol_laws.proofs.Steps.{KeepsStamps, keeps_same, quiet, quiet_grows, said_quiet, stamps_stay_by}
 use Rattle.protocol_laws.proofs.Decisions.{PromisesAt, ReadsAt, all_ordered, all_read, promises_guard, promises_floors, stored_stands, fast_guards, fast_floors, fast_stands, fast_made, fast_decodes, content_formed, modified_stands, fast_block, common_block, common_stands, fast_in, back_unrefused}
-use Rattle.protocol_laws.proofs.Recoveries.{something_found, version_lower, version_above, version_made, between_blocked, too_few_blocked, pieces_decode, base_enough, base_decodes, version_view, nothing_blocks}
+use Rattle.protocol_laws.proofs.Recoveries.{version_lower, version_above, version_made, between_blocked, too_few_blocked, pieces_decode, base_enough, base_decodes, version_view, nothing_blocks}
 use Rattle.protocol_laws.proofs.Stores.{MakesOn, SendsVersion, made_content, said_made}
 use Rattle.protocol_laws.proofs.Sends.{IsCovered, MayBegin, said_sent}
 use Rattle.protocol_laws.proofs.Ends.{WillShow, said_ended}

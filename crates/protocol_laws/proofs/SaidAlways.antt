@@ -26,7 +26,7 @@ use Rattle.protocol.specs.Settings.{Setting, IsSound}
 use Rattle.protocol.specs.Replicas.{Reaction, first_replica, top_of, handle, is_held, Replica}
 use Rattle.protocol.specs.Coordinators.{Coordinator}
 use Rattle.protocol.specs.Nodes.{Node, NodeStep, put, with_known, with_replica, replica_at, reacted, full_at, reply_packets, ticked, stopped, restarted, new_stamp, fresh_stamp, no_step, began, invoked, requested, known_after, replied_at, received, group_at, view_at, moved_at, vote_at, heard, with_round, proposed, node_taught_by, view_counted, lists_fit}
-use Rattle.protocol.specs.Worlds.{World, Found, Before, After, Event, replies_with, first_world, zero_content, world_ticked, left_after, packet_during, world_stopped, world_found, world_started, may_begin, world_began, world_stepped, run, reached_during, number_of, voiced}
+use Rattle.protocol.specs.Worlds.{World, Found, Before, After, Event, replies_with, first_world, zero_content, world_ticked, left_after, packet_during, world_stopped, world_found, world_started, may_begin, world_began, world_stepped, run, reached_during, voiced}
 use Rattle.protocol_laws.specs.Laws.{WasSent, Follows, RunFollows}
 use Rattle.protocol_laws.proofs.Books.{Books, IsCall}
 use Rattle.protocol_laws.proofs.Left.{IsLeft, kept_of, Leaves, always_leaves, packet_was_sent}

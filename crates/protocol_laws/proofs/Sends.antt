@@ -23,7 +23,7 @@ use Rattle.protocol.specs.Settings.{Setting, IsSound}
 use Rattle.protocol.specs.declared.phases.Counted.{Counted}
 use Rattle.protocol.specs.declared.phases.Phase.{Phase}
 use Rattle.protocol.specs.declared.phases.Phase.TheVariants.{Looks, LooksAt, Orders, OrdersAt, Recovers, Descends, Modifies, Bases, Stores, LooksBack}
-use Rattle.protocol.specs.Coordinators.{Coordinator, next_phase, has_seat, request_of, asked_group, asked_view, looks_back, old_bound}
+use Rattle.protocol.specs.Coordinators.{Coordinator, has_seat, request_of, asked_group, asked_view, looks_back, old_bound}
 use Rattle.protocol.specs.Nodes.{Node, with_known, with_call, phase_packets, given_content, resent_to, resent, resent_up_to, view_in, ballot_resent, ticked}
 use Rattle.protocol.specs.Worlds.{World, Operation, number_of}
 use Rattle.protocol_laws.specs.Laws.{WasSent, IsGuarded}
@@ -223,10 +223,10 @@ module _ (setting : Setting) (views : Views) (sound : IsSound setting) (w : Worl
     stamp = t;
     begun = subst (λ (z : Phase). IsBegun later me.0 c.call.boot c.call.seq (c.call.phase + 1) z t) same begun_call;
     view = (
-      let before : d.call.view.0 ≡ c.stamp.view.0 - 1 = ap (λ (z : Phase). (asked_view c.stamp z).0) same in
-      let own : t.view.0 ≡ c.stamp.view.0 = ap (λ (v : ViewNo). v.0) same_view in
-      let later_view : 1 < t.view.0 = ok.view in omega (arith, before, own, later_view)
-      );
+        let before : d.call.view.0 ≡ c.stamp.view.0 - 1 = ap (λ (z : Phase). (asked_view c.stamp z).0) same in
+        let own : t.view.0 ≡ c.stamp.view.0 = ap (λ (v : ViewNo). v.0) same_view in
+        let later_view : 1 < t.view.0 = ok.view in omega (arith, before, own, later_view)
+        );
   }
   request_says (Bases u) same ok k member at =
       order_read_says (Bases u) (At u) same refl

@@ -22,7 +22,7 @@ use Rattle.reg_model.specs.Registers.{block_of, with_block, after_op}
 use Rattle.protocol.specs.Replicas.{is_changed, modified_block}
 use Rattle.protocol.specs.declared.phases.Phase.{Phase}
 use Rattle.protocol.specs.declared.phases.Phase.TheVariants.{Orders, Descends, Modifies, Stores, LooksBack}
-use Rattle.protocol.specs.Coordinators.{Coordinator, next_phase, request_of, delta_at, asked_group, looks_back}
+use Rattle.protocol.specs.Coordinators.{Coordinator, request_of, delta_at, asked_group, looks_back}
 use Rattle.protocol.specs.declared.tellings.Told.TheVariants.{Made}
 use Rattle.protocol.specs.Nodes.{Node, put, has_block, has_length, with_call, phase_packets}
 use Rattle.protocol.specs.Worlds.{World, Operation, number_of, world_stepped, with_made, with_content, with_held, content_on, content_by, choices_after}

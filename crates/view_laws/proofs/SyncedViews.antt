@@ -1,6 +1,6 @@
 -- What follows a view is chosen only once all stripes are said to be kept in that view.
 use Rattle.view_laws.proofs.SyncReads.{synced_at_each}
-use Rattle.std.proofs.Common.{◌≡◌, ℕ, ◌-◌, ◌<◌, ◌≤◌, Bool, true, false, ◌⊎◌, inl, inr, ⊎_elim, List, [], ◌++◌, length, Option, Some, None, refl, sym, ◌∙◌, subst, arith, nat_lt, nat_eq}
+use Rattle.std.proofs.Common.{◌≡◌, ℕ, ◌+◌, ◌-◌, ◌<◌, ◌≤◌, Bool, true, false, ◌⊎◌, inl, inr, ⊎_elim, List, [], ◌++◌, length, Option, Some, None, refl, sym, ◌∙◌, subst, arith, nat_lt, nat_eq}
 use Rattle.std.specs.Prelude.{if◌then◌else◌}
 use Rattle.std.specs.Option.{option_map}
 use Rattle.std.proofs.lemmas.Bool.{cond_both, false≢true, eqb-true, ltb-true}
@@ -441,8 +441,9 @@ syncs_are_said setting events sound = record {
     learnt brick number view some before =
         let agreed = (always_agreed setting sound events).agreed in
         let next = below_known setting.layout (view_world w) number view (view_at (w.nodes brick) number - (view + 1)) ((w.nodes brick).learnt number).view agreed some
-            (omega (arith, before)) (agreed.learnt brick number) in
+        (omega (arith, before)) (agreed.learnt brick number) in
         let after : next.0.number.0 ≡ view + 1 = next.2 in
-        subst (λ (e : ℕ). IsSaid w.packets number e) (omega (arith, after))
+        let same : next.0.number.0 - 1 ≡ view = omega (arith, after) in
+        subst (λ (e : ℕ). IsSaid w.packets number e) same
         (decided_follows number next.0
         (known_taught setting.layout (view_world w) number next.0 agreed.says next.1 (omega (arith, after, some))).1)
