@@ -1,6 +1,6 @@
 -- What a member told was true of it when it told it.
-use Rattle.protocol.specs.Jobs.{Job}
-use Rattle.view_laws.proofs.SyncReads.{carried_each, synced_at_each, each_tick, each_synced}
+use Rattle.protocol.specs.Jobs.{Job, begun_job}
+use Rattle.view_laws.proofs.SyncReads.{carried_each, synced_at_each, each_tick, each_synced, read_call}
 use Rattle.protocol.specs.Views.{first_kept}
 use Rattle.std.proofs.Common.{nat_lt, ◌≡◌, ◌≤◌, ⊎_elim, arith, not, Bool, ℕ, true, List, [], Option, Some, None, refl, sym, ap, ◌∙◌, subst, false, is_some, ltb-true}
 use Rattle.std.specs.Prelude.{nat_eq, if◌then◌else◌}
@@ -23,7 +23,7 @@ use Rattle.protocol.specs.Settings.{Setting, Code}
 use Rattle.protocol_laws.proofs.Reactions.{modified_each}
 use Rattle.protocol.specs.Replicas.{Replica, Reaction, top_of, is_held, is_wanted, told_version, stays, unless_full, promised, stored, looked_up, handle, ignored, newest_of, under}
 use Rattle.protocol.specs.Coordinators.{Coordinator, Next, Ignores, Waits, Sends, Makes, Ends, request_of, on_reply, asked_group}
-use Rattle.protocol.specs.Nodes.{view_at, Node, replica_at, full_at, reply_packets, ticked, began, invoked, requested, known_after, fresh_stamp, carried_out, group_at, replied_at, heard, received, with_round, node_taught_by, view_counted, moved_at, is_void, requested_in, requested_as, no_step, vote_at, with_known, proposed, ballot_resent, NodeStep, phase_packets, new_coordinator, view_floor, old_reply, synced_at, carried_for, job_reading, collect_packets}
+use Rattle.protocol.specs.Nodes.{view_at, Node, replica_at, full_at, reply_packets, ticked, began, invoked, requested, known_after, fresh_stamp, carried_out, group_at, replied_at, heard, received, with_round, node_taught_by, view_counted, moved_at, is_void, requested_in, requested_as, no_step, vote_at, with_known, proposed, ballot_resent, NodeStep, phase_packets, new_coordinator, view_floor, old_reply, synced_at, carried_for, job_reading, collect_packets, read_closed, synced_packets}
 use Rattle.protocol.specs.Worlds.{World, Event, first_world, world_stopped, happens, run}
 use Rattle.protocol_laws.specs.Laws.{RefusalIsTrue, RefusalsWereTrue, stamp_asked}
 use Rattle.protocol.proofs.Served.{request_each, TellsOld}
@@ -216,15 +216,17 @@ module _ (setting : Setting) (w : World) where
       record {
         stays = each_both (IsTrue w) (collect_packets me c held) [] collects (each_none (IsTrue w));
         ends = λ answered. each_both (IsTrue w) (collect_packets me c held) [] collects (each_none (IsTrue w));
-        finishes = each_both (IsTrue w) (collect_packets me c held) _ collects
+        finishes = each_both (IsTrue w) (collect_packets me c held) (synced_packets me job.group job.view.number setting.layout.bricks 0) collects
             (each_synced (IsTrue w) me job.group job.view.number (λ to. tt) setting.layout.bricks 0);
-        reads = λ attempt kept is. each_both (IsTrue w) (collect_packets me c held) _ collects (phase_true setting w me _);
+        reads = λ attempt group kept.
+            let d : Coordinator = read_call group (record job { attempt = attempt }) me now (read_closed me node known c answer seen held).node in
+            each_both (IsTrue w) (collect_packets me c held) (phase_packets setting me d) collects (phase_true setting w me d);
       })
 
   sync_true : (me : BrickId) (now : ℕ) (group : GroupId) → AreTrue w (synced_at setting me now (w.nodes me.0) group).packets
   sync_true me now group =
       synced_at_each (λ (step : NodeStep). AreTrue w step.packets) setting me now (w.nodes me.0) group (each_none (IsTrue w)) (λ answer. each_none (IsTrue w))
-      (λ answer. each_none (IsTrue w)) (λ kept is. phase_true setting w me _)
+      (λ answer. each_none (IsTrue w)) (λ kept is. phase_true setting w me (read_call kept (begun_job group ((w.nodes me.0).learnt group.0).view) me now (w.nodes me.0)))
 
   -- what is of views refuses nothing
   ballots_true : (packets : List Packet) → AreOfViews packets → AreTrue w packets

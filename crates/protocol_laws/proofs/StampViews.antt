@@ -1,7 +1,7 @@
 -- The stamps of a part, of a call and of a request are of its own view, and what a brick keeps of views that it has not learnt is fresh: so it is in every
 -- run, whatever members the views have.
 use Rattle.protocol.specs.Jobs.{Job, begun_job, job_ask}
-use Rattle.view_laws.proofs.SyncReads.{carried_each, synced_at_each, each_tick, each_synced}
+use Rattle.view_laws.proofs.SyncReads.{carried_each, synced_at_each, each_tick, each_synced, read_call}
 use Rattle.fab_base.specs.declared.asks.Op.TheVariants.{ReadBlock, WriteBlock, ReadStripe, WriteStripe}
 use Rattle.fab_base.specs.declared.asks.Op.{Op}
 use Rattle.view_laws.proofs.Syncing.{synced_each, synced_of}
@@ -32,7 +32,7 @@ use Rattle.protocol.specs.Replicas.{Replica, Reaction, first_replica, fresh_repl
 use Rattle.protocol.specs.declared.phases.Phase.{Phase}
 use Rattle.protocol.specs.declared.phases.Phase.TheVariants.{Looks, LooksAt, Orders, OrdersAt, Recovers, Descends, Modifies, Bases, Stores, LooksBack}
 use Rattle.protocol.specs.Coordinators.{Coordinator, Next, Ignores, Waits, Sends, Makes, Ends, with_reply, once_full, counted_at, counts_at, on_reply, request_of, asked_view, asked_group, looks_back}
-use Rattle.protocol.specs.Nodes.{Node, NodeStep, view_at, view_floor, put, first_node, no_step, phase_packets, new_coordinator, began, invoked, replica_at, full_at, requested, known_after, with_call, carried_out, has_later_time, new_stamp, fresh_stamp, group_at, replied_at, heard, received, absorbed, vote_at, with_learnt, node_taught_by, node_learnt, lists_fit, view_counted, with_known, with_round, proposed, ballot_resent, ticked, stopped, restarted, has_accepted, node_synced, first_phase, synced_at, carried_for, job_reading, collect_packets, coordinator_in, reading, with_job}
+use Rattle.protocol.specs.Nodes.{Node, NodeStep, view_at, view_floor, put, first_node, no_step, phase_packets, new_coordinator, began, invoked, replica_at, full_at, requested, known_after, with_call, carried_out, has_later_time, new_stamp, fresh_stamp, group_at, replied_at, heard, received, absorbed, vote_at, with_learnt, node_taught_by, node_learnt, lists_fit, view_counted, with_known, with_round, proposed, ballot_resent, ticked, stopped, restarted, has_accepted, node_synced, first_phase, synced_at, carried_for, job_reading, collect_packets, coordinator_in, reading, with_job, read_closed, synced_packets}
 use Rattle.protocol.specs.Worlds.{World, Event, After, first_world, packet_during, left_after, world_found, world_started, run}
 use Rattle.protocol.proofs.Events.{EventCases, step_on, started_each, always, world_counting}
 use Rattle.protocol.proofs.Packets.{OfEach, each_none, each_both, each_member, each_collect, each_reply, each_ticked}
@@ -414,12 +414,14 @@ carried_for_views setting me now node known c next read has is =
       };
       finishes = record {
         node = jobless gone;
-        packets = each_both PacketIsOf (collect_packets me c held) _ collects
+        packets = each_both PacketIsOf (collect_packets me c held) (synced_packets me job.group job.view.number setting.layout.bricks 0) collects
             (each_synced PacketIsOf me job.group job.view.number (λ to. tt) setting.layout.bricks 0);
       };
       reads = λ attempt group kept. record {
         node = read_views setting.layout me now (with_call node known node.busy c.call.seq None) (record job { attempt = attempt }) group gone;
-        packets = each_both PacketIsOf (collect_packets me c held) _ collects (phase_views setting me _ refl);
+        packets = each_both PacketIsOf (collect_packets me c held)
+            (phase_packets setting me (read_call group (record job { attempt = attempt }) me now (read_closed me node known c answer seen held).node)) collects
+            (phase_views setting me (read_call group (record job { attempt = attempt }) me now (read_closed me node known c answer seen held).node) refl);
       };
     })
   where
@@ -553,7 +555,7 @@ sync_views setting me now node group has =
     (λ answer. record { node = same; packets = each_none PacketIsOf }) (λ answer. record { node = jobless; packets = each_none PacketIsOf })
     (λ kept is. record {
       node = read_views setting.layout me now node (begun_job group (node.learnt group.0).view) kept has;
-      packets = phase_views setting me _ refl;
+      packets = phase_views setting me (read_call kept (begun_job group (node.learnt group.0).view) me now node) refl;
     })
   where
     same : NodeViews setting.layout node
