@@ -213,6 +213,7 @@ left_turn setting v called agreed drafting brick None sent = record {
       (no_turn setting.layout v.packets (v.nodes brick.0) (v.nodes brick.0) (refl, refl));
   calls = refl;
   proposal = refl;
+  job = refl;
 }
 left_turn setting v called agreed drafting brick (Some packet) sent =
     cond_both (nat_eq packet.to.0 brick.0) (stopped (absorbed setting brick (v.nodes brick.0) packet)) (stopped (v.nodes brick.0))

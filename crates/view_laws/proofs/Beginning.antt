@@ -17,7 +17,7 @@ use Rattle.quorum.specs.Memberships.{is_membership}
 use Rattle.protocol.specs.Settings.{Setting}
 use Rattle.protocol.specs.Proposals.{Proposal, ballot_request, ballot_packets}
 use Rattle.protocol.specs.Coordinators.{Coordinator, request_of, asked_group}
-use Rattle.protocol.specs.Nodes.{Node, NodeStep, sending, phase_packets, group_at, new_coordinator, coordinator_in, reading, synced_at, opened, began, invoked, view_in, resent_up_to, ballot_resent, ticked, new_proposal, proposing, proposed_in, proposed}
+use Rattle.protocol.specs.Nodes.{Node, NodeStep, sending, phase_packets, group_at, new_coordinator, coordinator_in, reading, synced_at, opened, began, invoked, view_in, resent, resent_up_to, calls_but_read, job_call, ballot_resent, ticked, new_proposal, proposing, proposed_in, proposed}
 use Rattle.protocol.proofs.Packets.{OfEach, each_none, each_both, each_member, each_ballot, each_ticked, each_ballot_resent}
 use Rattle.protocol.proofs.Tables.{put_each}
 use Rattle.view_laws.proofs.FirstTold.{first_told}
@@ -187,13 +187,13 @@ pub ticked_says : (setting : Setting) (v : ViewWorld) → Agreed setting.layout 
 unfolding ticked
 ticked_says setting v agreed drafting me =
     let node : Node = v.nodes me.0 in
-    let new : List Packet = resent_up_to setting me node.calls node.seq ++ ballot_resent me node.proposal in
+    let new : List Packet = resent_up_to setting me (calls_but_read node.calls node.job) node.seq
+    ++ (ballot_resent me node.proposal ++ resent setting me (job_call node.calls node.job)) in
     let turn : Turn setting.layout v.packets node node = no_turn setting.layout v.packets node node (refl, refl) in
     let extends : Extends setting.layout v (sending_more (turned v me.0 node) new) = step_extends setting.layout v me.0 node new agreed turn in
-    let accepts : OfEach Accepts new = each_both Accepts (resent_up_to setting me node.calls node.seq) (ballot_resent me node.proposal)
-    (each_ticked Accepts setting me node.calls node.seq
+    let accepts : OfEach Accepts new = each_tick Accepts setting me node.calls
     (λ j c is seat to g e b members asks. absurd ((phase_quiet setting.layout setting.code me to c.call c seat).none g e b members asks))
-    (λ j c is later from to g e b members asks. absurd (let never : None ≡ Some members = asks in cc)))
+    (λ j c is later from to g e b members asks. absurd (let never : None ≡ Some members = asks in cc)) node.job node.seq node.proposal
     (each_ballot_resent Accepts me node.proposal
     (λ p is to. ballot_accepts p.asks p refl (drafting.drafts me.0 p is) to)
     (λ p is later from to g e b members asks. absurd (let never : None ≡ Some members = asks in cc))) in

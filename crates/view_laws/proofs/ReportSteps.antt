@@ -1,6 +1,7 @@
 -- Each step of a brick reports what is so, so all reports of a run do.
 use Rattle.view_laws.proofs.SyncReads.{carried_each, synced_at_each}
-use Rattle.protocol.specs.Jobs.{Job, SyncAnswer}
+use Rattle.protocol.specs.Jobs.{Job}
+use Rattle.protocol.specs.declared.tellings.SyncAnswer.{SyncAnswer}
 use Rattle.std.proofs.Common.{◌≡◌, ℕ, zero, suc, ◌+◌, ◌<◌, ◌≤◌, Bool, true, false, cond, ◌&&◌, ◌⊎◌, inl, inr, List, [], ◌∷◌, ◌++◌, length, Option, Some, None, refl, sym, ap, ◌∙◌, subst, arith, nat_lt}
 use Rattle.std.specs.Prelude.{slice_get, not}
 use Rattle.std.specs.Option.{option_map}

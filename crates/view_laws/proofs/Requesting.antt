@@ -281,7 +281,7 @@ module _ (setting : Setting) (v : ViewWorld) (called : Called v.packets v.nodes)
   -- one that does nothing
   quiet_says : StepSays setting.layout v me.0 node []
   quiet_says =
-      replies_says node (refl, refl) refl refl None (λ one is last extends. absurd (let never : None ≡ Some one = is in cc))
+      replies_says node (refl, refl) refl refl refl None (λ one is last extends. absurd (let never : None ≡ Some one = is in cc))
 
   -- a view that it has learnt, and that is later than the call's, is taught
   learnt_taught : 1 ≤ call.view.0 → nat_lt call.view.0 (view_at node call.group.0) ≡ true → (last : ViewWorld) → Extends setting.layout v last
@@ -335,7 +335,7 @@ module _ (setting : Setting) (v : ViewWorld) (called : Called v.packets v.nodes)
   seat_says m request None = quiet_says
   seat_says m request (Some seat) =
       let reaction : Reaction = handle setting.code m (full_at setting.layout.records node.live) seat (replica_at node call) request in
-      replies_says (reacted me from node call reaction).node (refl, refl) refl refl reaction.reply
+      replies_says (reacted me from node call reaction).node (refl, refl) refl refl refl reaction.reply
       (λ one is last extends. plain_says setting.layout last me.0 from.0 call one
       (handle_plain setting.code m (full_at setting.layout.records node.live) seat (replica_at node call) request one is))
 
@@ -348,7 +348,7 @@ module _ (setting : Setting) (v : ViewWorld) (called : Called v.packets v.nodes)
           → (let step = served_unless setting m me from node call request seat z in StepSays setting.layout v me.0 step.node step.packets)
       by None is = seat_says m request seat
       by (Some said) is =
-          replies_says node (refl, refl) refl refl (Some said)
+          replies_says node (refl, refl) refl refl refl (Some said)
           (λ one same last extends. moved_says positive known one (is ∙ same) last extends)
 
   -- the ballot of a request that asks for a vote is its call's
@@ -466,7 +466,7 @@ module _ (setting : Setting) (v : ViewWorld) (called : Called v.packets v.nodes)
       → StepSays setting.layout v me.0 (record node { ballots = put node.ballots call.group.0 (node.ballots call.group.0) })
       (reply_packets me from call (Some refused))
   refuses_says ballot asks refused sent positive is =
-      replies_says (record node { ballots = put node.ballots call.group.0 (node.ballots call.group.0) }) (refl, put_back node.ballots call.group.0) refl refl
+      replies_says (record node { ballots = put node.ballots call.group.0 (node.ballots call.group.0) }) (refl, put_back node.ballots call.group.0) refl refl refl
       (Some refused)
       (λ one same last extends.
       subst (λ (z : Reply). ReplySays setting.layout last me.0 from.0 call z) (same_Some refused one same)
@@ -500,7 +500,7 @@ module _ (setting : Setting) (v : ViewWorld) (called : Called v.packets v.nodes)
 
       plain : (said : Reply) → IsPlain said → Says (Some said)
       plain said is =
-          replies_says node (refl, refl) refl refl (Some said) (λ one same last extends. plain_says setting.layout last me.0 from.0 call one (one_plain said one is same))
+          replies_says node (refl, refl) refl refl refl (Some said) (λ one same last extends. plain_says setting.layout last me.0 from.0 call one (one_plain said one is same))
 
   -- a ballot is voted on
   vote_says : (base : Group) (ballot : Ballot) (asks : Option (List BrickId))

@@ -11,11 +11,12 @@ use Rattle.fab_base.specs.Layouts.{Group}
 use Rattle.messages.specs.declared.packets.Message.{Message}
 use Rattle.messages.specs.declared.packets.Packet.{Packet}
 use Rattle.protocol.specs.declared.tellings.Report.{Report}
+use Rattle.protocol.specs.declared.tellings.SyncAnswer.{SyncAnswer}
 use Rattle.protocol.specs.Settings.{Setting}
 use Rattle.protocol.specs.Views.{group_kept}
 use Rattle.protocol.specs.Proposals.{Proposal}
 use Rattle.protocol.specs.Coordinators.{Coordinator, Next, Ignores, Waits, Sends, Makes, Ends, request_of, asked_group}
-use Rattle.protocol.specs.Jobs.{Job, Attempt, SyncAnswer, JobNext, Reads, Finishes, GivesUp, begun_job, job_ask, job_after, abort_cause, synced_answer}
+use Rattle.protocol.specs.Jobs.{Job, Attempt, JobNext, Reads, Finishes, GivesUp, begun_job, job_ask, job_after, abort_cause, synced_answer}
 use Rattle.protocol.specs.Nodes.{Node, NodeStep, no_step, reporting, coordinator_in, is_spent, view_in, put, then_does, with_job, read_begun_by, read_begun_in, read_begun, synced_packets, job_goes, read_closed, carried_out, carried_for, synced_at, resent, resent_up_to, ballot_resent, calls_but_read, job_call}
 use Rattle.protocol.proofs.Packets.{OfEach, OfRequests, each_none, each_one, each_both, each_resent, each_teaching, each_ticked}
 use Rattle.protocol.proofs.Tables.{put_each}
