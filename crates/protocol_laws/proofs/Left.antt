@@ -14,12 +14,12 @@ use Rattle.fab_base.specs.Layouts.{Group, group_of, Layout}
 use Rattle.protocol.specs.Settings.{Setting}
 use Rattle.protocol.specs.declared.phases.Counted.{Counted}
 use Rattle.protocol.specs.declared.tellings.Told.{Told}
-use Rattle.protocol.specs.declared.tellings.Told.TheVariants.{Made, Seen}
+use Rattle.protocol.specs.declared.tellings.Told.TheVariants.{Made, Seen, Began, Closed}
 use Rattle.protocol.specs.declared.tellings.Answered.{Answered}
 use Rattle.messages.specs.declared.replies.Reply.{Reply}
 use Rattle.fab_base.specs.declared.member_lists.View.{View}
 use Rattle.protocol.specs.Views.{learns, is_later, view_told, is_unsynced, notes_synced}
-use Rattle.protocol.specs.Nodes.{Node, NodeStep, group_at, put, refusal_of, requested_at, seat_now, is_void, moved_at, served_unless, requested_as, requested_in, requested, lists_fit, counts_here, may_teach, with_learnt, node_taught, node_taught_by, node_learnt, no_step, absorbed, stopped, restarted, proposed, proposal_refusal, invoked, node_synced}
+use Rattle.protocol.specs.Nodes.{Node, NodeStep, group_at, put, refusal_of, requested_at, seat_now, is_void, moved_at, served_unless, requested_as, requested_in, requested, lists_fit, counts_here, may_teach, with_learnt, node_taught, node_taught_by, node_learnt, no_step, absorbed, stopped, restarted, proposed, proposal_refusal, invoked, node_synced, synced_at, sync_refusal}
 use Rattle.protocol.specs.Worlds.{World, Choices, Found, Before, After, Event, first_world, is_brick, is_up, world_began, world_told, world_tells, world_answered, world_answers, world_stepped, world_ticked, left_after, packet_during, world_stopped, world_found, world_started, replies_with, voiced, packet_of, run}
 use Rattle.protocol_laws.specs.Laws.{WasSent}
 use Rattle.protocol.proofs.Puts.{put_other}
@@ -199,6 +199,8 @@ answered_same read brick one (answered ∷ more) w = answered_same read brick on
 up_told : (setting : Setting) (brick : BrickId) (w : World) (told : Told) → (world_told setting w brick told).up ≡ w.up
 up_told setting brick w (Made seq t base) = refl
 up_told setting brick w (Seen seq v) = refl
+up_told setting brick w (Began call) = refl
+up_told setting brick w (Closed seq cause) = refl
 
 up_stepped : (setting : Setting) (w : World) (me : BrickId) (step : NodeStep) → (world_stepped setting w me step).up ≡ w.up
 up_stepped setting w me step =
@@ -208,6 +210,8 @@ up_stepped setting w me step =
 after_told : (setting : Setting) (brick : BrickId) (w : World) (told : Told) → (world_told setting w brick told).after ≡ w.after
 after_told setting brick w (Made seq t base) = refl
 after_told setting brick w (Seen seq v) = refl
+after_told setting brick w (Began call) = refl
+after_told setting brick w (Closed seq cause) = refl
 
 pub after_stepped : (setting : Setting) (w : World) (me : BrickId) (step : NodeStep) → (world_stepped setting w me step).after ≡ w.after
 after_stepped setting w me step =
@@ -321,6 +325,10 @@ module _ (setting : Setting) (w : World) where
     proposes = λ brick group members may.
         (let up = and_parts (is_up setting.layout w brick) (not (is_some (proposal_refusal setting.layout (w.nodes brick.0) group.0))) may in
         leaves_stepped setting w w.replies w.reached w.choices brick (proposed setting brick (w.nodes brick.0) group members)
+        (and_parts (is_brick setting.layout brick) (w.up brick.0) up.0).1 leaves);
+    syncs = λ brick group may.
+        (let up = and_parts (is_up setting.layout w brick) (not (is_some (sync_refusal setting.layout (w.nodes brick.0) group.0))) may in
+        leaves_stepped setting w w.replies w.reached w.choices brick (synced_at setting brick (w.clocks brick.0) (w.nodes brick.0) group)
         (and_parts (is_brick setting.layout brick) (w.up brick.0) up.0).1 leaves);
     handles = λ number packet at up.
         leaves_stepped setting w (replies_with setting w packet) (put w.reached number true) (voiced setting w packet) packet.to (step_on setting w packet)

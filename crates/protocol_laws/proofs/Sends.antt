@@ -1,8 +1,10 @@
 -- A coordinator begins its next phase, which makes no version yet: a recovery, a look below a lower bound, or another round of ordering.
 -- And an open operation may send its present phase again.
+use Rattle.protocol.specs.Jobs.{Job}
+use Rattle.view_laws.proofs.SyncReads.{but_read_is}
 use Rattle.fab_base.specs.declared.identities.ViewNo.{ViewNo}
 use Rattle.protocol_laws.proofs.Outcomes.{call_after}
-use Rattle.std.proofs.Common.{◌≡◌, ℕ, ◌+◌, ◌≤◌, max, ◌⊎◌, inl, inr, true, false, List, [], ◌∷◌, zero, suc, Option, Some, None, refl, sym, ap, ◌∙◌, subst, arith, Bool, ◌<◌}
+use Rattle.std.proofs.Common.{◌≡◌, ℕ, ◌+◌, ◌≤◌, max, ◌⊎◌, inl, inr, true, false, List, [], ◌∷◌, zero, suc, Option, Some, None, refl, sym, ap, ◌∙◌, subst, arith, Bool, ◌<◌, ◌++◌}
 use Rattle.std.specs.Prelude.{slice_get, if◌then◌else◌, ◌-◌}
 use Rattle.std.proofs.lemmas.Bool.{cond_both}
 use Rattle.fab_base.specs.declared.identities.BrickId.{BrickId}
@@ -24,7 +26,7 @@ use Rattle.protocol.specs.declared.phases.Counted.{Counted}
 use Rattle.protocol.specs.declared.phases.Phase.{Phase}
 use Rattle.protocol.specs.declared.phases.Phase.TheVariants.{Looks, LooksAt, Orders, OrdersAt, Recovers, Descends, Modifies, Bases, Stores, LooksBack}
 use Rattle.protocol.specs.Coordinators.{Coordinator, has_seat, request_of, asked_group, asked_view, looks_back, old_bound}
-use Rattle.protocol.specs.Nodes.{Node, with_known, with_call, phase_packets, given_content, resent_to, resent, resent_up_to, view_in, ballot_resent, ticked}
+use Rattle.protocol.specs.Nodes.{Node, with_known, with_call, phase_packets, given_content, resent_to, resent, resent_up_to, view_in, ballot_resent, ticked, calls_but_read, job_call}
 use Rattle.protocol.specs.Worlds.{World, Operation, number_of}
 use Rattle.protocol_laws.specs.Laws.{WasSent, IsGuarded}
 use Rattle.protocol_laws.proofs.Books.{Books, CallBooks, IsOperation, IsCall}
@@ -417,17 +419,30 @@ module _ (setting : Setting) (views : Views) (w next : World) (stamps : Stamping
       each_teaching SentOrSays c.call.group (view_in c) (λ later from to. inr tt)
       (resent_to me c.call (request_of setting.code c) c.counted 0 (asked_group c).members) (λ j packet at. inl (resent_was_sent k c is j packet at))
 
-  calls_resent : (k : ℕ) → OfEach SentOrSays (resent_up_to setting me (w.nodes me.0).calls k)
-  calls_resent zero = each_none SentOrSays
-  calls_resent (suc k) =
-      each_both SentOrSays (resent_up_to setting me (w.nodes me.0).calls k) (resent setting me ((w.nodes me.0).calls (suc k))) (calls_resent k)
-      (call_resent (suc k) ((w.nodes me.0).calls (suc k)) refl)
+  but_resent : (job : Option Job) (k : ℕ) (z : Option Coordinator) → calls_but_read (w.nodes me.0).calls job k ≡ z → OfEach SentOrSays (resent setting me z)
+  but_resent job k None is = each_none SentOrSays
+  but_resent job k (Some c) is = call_resent k (Some c) (but_read_is (w.nodes me.0).calls job k c is)
+
+  calls_resent : (job : Option Job) (k : ℕ) → OfEach SentOrSays (resent_up_to setting me (calls_but_read (w.nodes me.0).calls job) k)
+  calls_resent job zero = each_none SentOrSays
+  calls_resent job (suc k) =
+      each_both SentOrSays (resent_up_to setting me (calls_but_read (w.nodes me.0).calls job) k)
+      (resent setting me (calls_but_read (w.nodes me.0).calls job (suc k))) (calls_resent job k)
+      (but_resent job (suc k) (calls_but_read (w.nodes me.0).calls job (suc k)) refl)
+
+  -- so is the read of a synchronisation
+  job_resent : (job : Option Job) → OfEach SentOrSays (resent setting me (job_call (w.nodes me.0).calls job))
+  job_resent None = each_none SentOrSays
+  job_resent (Some job) = call_resent job.seq ((w.nodes me.0).calls job.seq) refl
 
   -- so is all that a tick of its clock sends, but for what is of views and of proposals
   pub ticked_was_sent : OfEach SentOrSays (ticked setting me (w.nodes me.0))
   unfolding ticked
   ticked_was_sent =
-      each_both SentOrSays (resent_up_to setting me (w.nodes me.0).calls (w.nodes me.0).seq) (ballot_resent me (w.nodes me.0).proposal)
-      (calls_resent (w.nodes me.0).seq)
+      each_both SentOrSays (resent_up_to setting me (calls_but_read (w.nodes me.0).calls (w.nodes me.0).job) (w.nodes me.0).seq)
+      (ballot_resent me (w.nodes me.0).proposal ++ resent setting me (job_call (w.nodes me.0).calls (w.nodes me.0).job))
+      (calls_resent (w.nodes me.0).job (w.nodes me.0).seq)
+      (each_both SentOrSays (ballot_resent me (w.nodes me.0).proposal) (resent setting me (job_call (w.nodes me.0).calls (w.nodes me.0).job))
       (of_views_each SentOrSays (λ from to group view. inr tt) (λ from to call ballot. inr tt) (λ from to call ballot members. inr tt)
       (ballot_resent me (w.nodes me.0).proposal) (resent_of_views me (w.nodes me.0).proposal))
+      (job_resent (w.nodes me.0).job))

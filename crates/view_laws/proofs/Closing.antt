@@ -1,4 +1,6 @@
 -- A brick that has closed a view keeps it closed, takes nothing for a stripe of it, and serves it no more.
+use Rattle.view_laws.proofs.SyncReads.{carried_each, synced_at_each, each_synced, each_tick, read_call}
+use Rattle.protocol.specs.Jobs.{Job, begun_job}
 use Rattle.fab_base.specs.declared.identities.ViewNo.{ViewNo}
 use Rattle.view_laws.proofs.Syncing.{synced_each, synced_of}
 use Rattle.std.proofs.Common.{◌≡◌, ℕ, zero, suc, ◌+◌, ◌-◌, ◌<◌, ◌≤◌, Bool, true, false, ◌&&◌, ◌||◌, ◌⊎◌, inl, inr, ⊎_elim, List, [], ◌∷◌, Option, Some, None, refl, sym, ap, ◌∙◌, subst, arith, nat_lt, nat_eq, is_some}
@@ -30,7 +32,7 @@ use Rattle.protocol.specs.Replicas.{Replica, Reaction, fresh_replica, is_held, i
 use Rattle.protocol.specs.Ballots.{moved_to, outbidding, granting, unless_barred, voting}
 use Rattle.protocol.specs.Proposals.{Proposal, Voting, Ignored, Waited, Asks, Ended, voted}
 use Rattle.protocol.specs.Coordinators.{Coordinator, Next, Ignores, Waits, Sends, Makes, Ends, request_of, on_reply, asked_group}
-use Rattle.protocol.specs.Nodes.{Node, NodeStep, view_at, has_accepted, put, no_step, sending, with_known, with_round, known_after, fresh_stamp, group_at, began, invoked, phase_packets, replica_at, full_at, moved_at, vote_at, voted_on, requested, with_learnt, node_taught, node_taught_by, may_teach, node_learnt, view_counted, carried_out, ended_packets, carried_ballot, replied_ballot, replied_at, replied, lists_fit, heard, received, absorbed, resent_up_to, ballot_resent, ticked, new_proposal, proposing, proposed_in, proposed, stopped, restarted, node_synced, old_reply, new_coordinator}
+use Rattle.protocol.specs.Nodes.{Node, NodeStep, view_at, has_accepted, put, no_step, sending, with_known, with_round, known_after, fresh_stamp, group_at, began, invoked, phase_packets, replica_at, full_at, moved_at, vote_at, voted_on, requested, with_learnt, node_taught, node_taught_by, may_teach, node_learnt, view_counted, carried_out, ended_packets, carried_ballot, replied_ballot, replied_at, replied, lists_fit, heard, received, absorbed, resent_up_to, ballot_resent, ticked, new_proposal, proposing, proposed_in, proposed, stopped, restarted, node_synced, old_reply, new_coordinator, synced_at, carried_for, job_reading, collect_packets, read_closed, synced_packets}
 use Rattle.protocol.specs.Worlds.{World, Event, first_world, is_up, packet_during, left_after, world_stepped, run}
 use Rattle.protocol.proofs.Events.{EventCases, step_on, world_counting, always, started_each}
 use Rattle.protocol.proofs.Packets.{OfEach, each_none, each_both, each_member, each_collect, each_reply, each_learn, each_ticked, each_ballot, each_ballot_resent}
@@ -361,6 +363,49 @@ carried_closes setting me node mid known c (Makes d) same = (same, phase_serves 
 carried_closes setting me node mid known c (Ends answered seen stored) same =
     (same, each_collect (ServesNone me node) me c stored (λ t to. request_serves me me to node c.call (Request.Collect t)))
 
+-- nor is a message that all stripes are kept in a view a reply
+synced_serves : (me from to : BrickId) (node : Node) (group : GroupId) (view : ViewNo)
+    → ServesNone me node (record { from = from; to = to; message = Message.Synced group view })
+synced_serves me from to node group view other said is = cc
+
+-- so is what the coordinator of a synchronisation's read decided
+carried_for_closes : (setting : Setting) (me : BrickId) (now : ℕ) (node mid : Node) (known : ℕ) (c : Coordinator) (decision : Next) (reading : Option Job)
+    → mid.replicas ≡ node.replicas
+    → (let step = carried_for setting me now mid known c decision reading in
+    (step.node.replicas ≡ node.replicas) × OfEach (ServesNone me node) step.packets)
+carried_for_closes setting me now node mid known c decision reading same =
+    carried_each (λ (step : NodeStep). (step.node.replicas ≡ node.replicas) × OfEach (ServesNone me node) step.packets) setting me now mid known c decision reading
+    (carried_closes setting me node mid known c decision same)
+    (λ job is answered seen stored ends.
+    let collects = each_collect (ServesNone me node) me c stored (λ t to. request_serves me me to node c.call (Request.Collect t)) in
+    let closed : NodeStep = read_closed me mid known c answered seen stored in
+    record {
+      stays = (same, each_both (ServesNone me node) (collect_packets me c stored) [] collects (each_none (ServesNone me node)));
+      ends = λ answer. (same, each_both (ServesNone me node) (collect_packets me c stored) [] collects (each_none (ServesNone me node)));
+      finishes = (
+        same,
+        each_both (ServesNone me node) (collect_packets me c stored) (synced_packets me job.group job.view.number setting.layout.bricks 0) collects
+            (each_synced (ServesNone me node) me job.group job.view.number (λ to. synced_serves me me to node job.group job.view.number)
+            setting.layout.bricks 0),
+      );
+      reads = λ attempt group kept. (
+        same,
+        each_both (ServesNone me node) (collect_packets me c stored) (phase_packets setting me (read_call group (record job { attempt = attempt }) me now closed.node))
+            collects (phase_serves setting me node (read_call group (record job { attempt = attempt }) me now closed.node)),
+      );
+    })
+
+-- a synchronisation begins
+pub sync_closes : (setting : Setting) (me : BrickId) (now : ℕ) (node : Node) (group : GroupId)
+    → (let step = synced_at setting me now node group in StepCloses setting.layout me node step.node step.packets)
+sync_closes setting me now node group =
+    synced_at_each (λ (step : NodeStep). StepCloses setting.layout me node step.node step.packets) setting me now node group
+    (sends_closes setting.layout me node node [] refl (each_none (ServesNone me node)))
+    (λ answer. sends_closes setting.layout me node node [] refl (each_none (ServesNone me node)))
+    (λ answer. sends_closes setting.layout me node _ [] refl (each_none (ServesNone me node)))
+    (λ kept is. sends_closes setting.layout me node _ _ refl
+    (phase_serves setting me node (read_call kept (begun_job group (node.learnt group.0).view) me now node)))
+
 -- what a proposal decided is carried out
 ended_serves : (layout : Layout) (me : BrickId) (node : Node) (p : Proposal) (ended : ViewAnswer) → OfEach (ServesNone me node) (ended_packets layout me p ended)
 ended_serves layout me node p (answer.Decided number members) =
@@ -391,8 +436,9 @@ replied_closes setting me from now node call said None = by node.proposal
     by (Some p) =
         ballot_closes setting.layout me node (with_known (with_round node said) (known_after node.known said)) p (voted setting.layout.bricks p from call said) refl
 replied_closes setting me from now node call said (Some c) =
-    carried_closes setting me node (with_round node said) (known_after node.known said) c
-    (on_reply setting.layout.block setting.code (fresh_stamp me c.stamp.view now node.boot (known_after node.known said)) c from call said) refl
+    carried_for_closes setting me now node (with_round node said) (known_after node.known said) c
+    (on_reply setting.layout.block setting.code (fresh_stamp me c.stamp.view now node.boot (known_after node.known said)) c from call said)
+    (job_reading node.job c.call.seq) refl
 
 -- so a reply has a brick take nothing, and serve nothing
 heard_closes : (setting : Setting) (me from : BrickId) (now : ℕ) (node : Node) (call : Call) (said : Reply)
@@ -436,9 +482,8 @@ received_closes setting me now node packet = by packet.message
 pub ticked_serves : (setting : Setting) (me : BrickId) (node : Node) → OfEach (ServesNone me node) (ticked setting me node)
 unfolding ticked
 ticked_serves setting me node =
-    each_both (ServesNone me node) (resent_up_to setting me node.calls node.seq) (ballot_resent me node.proposal)
-    (each_ticked (ServesNone me node) setting me node.calls node.seq (λ j c is seat to. request_serves me me to node c.call (request_of setting.code c seat))
-    (λ j c is later from to. learn_serves me from to node c.call.group _))
+    each_tick (ServesNone me node) setting me node.calls (λ j c is seat to. request_serves me me to node c.call (request_of setting.code c seat))
+    (λ j c is later from to. learn_serves me from to node c.call.group _) node.job node.seq node.proposal
     (each_ballot_resent (ServesNone me node) me node.proposal (λ p is to. request_serves me me to node p.call _)
     (λ p is later from to. learn_serves me from to node p.call.group p.view))
 
@@ -510,6 +555,9 @@ left_cases setting w left = record {
       (up_not_down setting.layout w brick (and_parts (is_up setting.layout w brick) _ may).0) left;
   proposes = λ brick group members may.
       stepped w brick (proposed setting brick (w.nodes brick.0) group members)
+      (up_not_down setting.layout w brick (and_parts (is_up setting.layout w brick) _ may).0) left;
+  syncs = λ brick group may.
+      stepped w brick (synced_at setting brick (w.clocks brick.0) (w.nodes brick.0) group)
       (up_not_down setting.layout w brick (and_parts (is_up setting.layout w brick) _ may).0) left;
   handles = λ number packet at up.
       stepped (world_counting setting w number packet) packet.to (step_on setting w packet) (up_not_down setting.layout w packet.to up) left;

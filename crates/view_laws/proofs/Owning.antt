@@ -27,25 +27,27 @@ use Rattle.protocol.specs.Coordinators.{Coordinator, Next, Ignores, Waits, Sends
 use Rattle.protocol.specs.Nodes.{Node, NodeStep, view_in, with_learnt, node_taught, node_taught_by, may_teach, node_learnt, lists_fit, view_counted, requested, absorbed, node_synced, has_later_time, new_stamp, fresh_stamp}
 use Rattle.protocol.proofs.Served.{request_each}
 
--- a brick's own stays: how often its store was opened, its last call and round, its operations and its proposal
+-- a brick's own stays: how often its store was opened, its last call and round, its operations, its proposal and its
+-- synchronisation
 pub record KeepsOwn (node next : Node) : Type 0 where
   pub boot : next.boot ≡ node.boot
   pub seq : next.seq ≡ node.seq
   pub round : next.round ≡ node.round
   pub proposal : next.proposal ≡ node.proposal
   pub calls : next.calls ≡ node.calls
+  pub job : next.job ≡ node.job
 
 -- a brick that does not change keeps its own
 pub own_same : (node : Node) → KeepsOwn node node
-own_same node = record { boot = refl; seq = refl; round = refl; proposal = refl; calls = refl }
+own_same node = record { boot = refl; seq = refl; round = refl; proposal = refl; calls = refl; job = refl }
 
 -- a request leaves it as it is
 pub requested_own : (setting : Setting) (me from : BrickId) (node : Node) (call : Call) (request : Request)
     → KeepsOwn node (requested setting me from node call request).node
 requested_own setting me from node call request =
     request_each (λ (step : NodeStep). KeepsOwn node step.node) setting me from node call request (own_same node) (λ reply is. own_same node)
-    (λ group seat is served. record { boot = refl; seq = refl; round = refl; proposal = refl; calls = refl })
-    (λ group ballot asks is. record { boot = refl; seq = refl; round = refl; proposal = refl; calls = refl })
+    (λ group seat is served. record { boot = refl; seq = refl; round = refl; proposal = refl; calls = refl; job = refl })
+    (λ group ballot asks is. record { boot = refl; seq = refl; round = refl; proposal = refl; calls = refl; job = refl })
 
 -- so does a view that is taught
 pub taught_own : (block group : ℕ) (node : Node) (view : Option View) → KeepsOwn node (node_taught_by block group node view)
@@ -53,7 +55,7 @@ unfolding node_taught
 taught_own block group node None = own_same node
 taught_own block group node (Some view) =
     cond_both (is_later (node.learnt group) view) (with_learnt block group node (learns (node.learnt group) view)) node (λ (n : Node). KeepsOwn node n)
-    (λ later. record { boot = refl; seq = refl; round = refl; proposal = refl; calls = refl }) (λ isnt. own_same node)
+    (λ later. record { boot = refl; seq = refl; round = refl; proposal = refl; calls = refl; job = refl }) (λ isnt. own_same node)
 
 -- so does a message that teaches a view
 pub learnt_own : (layout : Layout) (node : Node) (group : GroupId) (view : View) → KeepsOwn node (node_learnt layout node group view)
@@ -66,7 +68,7 @@ learnt_own layout node group view =
 pub synced_own : (layout : Layout) (node : Node) (group : GroupId) (number : ViewNo) → KeepsOwn node (node_synced layout node group number)
 synced_own layout node group number =
     synced_each (λ (n : Node). KeepsOwn node n) layout node group number (own_same node)
-    (λ now unsynced. record { boot = refl; seq = refl; round = refl; proposal = refl; calls = refl })
+    (λ now unsynced. record { boot = refl; seq = refl; round = refl; proposal = refl; calls = refl; job = refl })
 
 -- so does what is kept of a message whose handling was cut short
 pub absorbed_own : (setting : Setting) (me : BrickId) (node : Node) (packet : Packet) → KeepsOwn node (absorbed setting me node packet)

@@ -263,15 +263,15 @@ module _ (setting : Setting) (v : ViewWorld) (called : Called v.packets v.nodes)
   node = v.nodes me.0
 
   -- what a brick owes that keeps its own and what it kept of views, and may reply
-  replies_says : (next : Node) → KeepsViews node next → next.calls ≡ node.calls → next.proposal ≡ node.proposal → (said : Option Reply)
+  replies_says : (next : Node) → KeepsViews node next → next.calls ≡ node.calls → next.proposal ≡ node.proposal → next.job ≡ node.job → (said : Option Reply)
       → ((one : Reply) → said ≡ Some one → (last : ViewWorld) → Extends setting.layout v last → ReplySays setting.layout last me.0 from.0 call one)
       → StepSays setting.layout v me.0 next (reply_packets me from call said)
-  replies_says next keeps calls proposal said says =
+  replies_says next keeps calls proposal job said says =
       let turn : Turn setting.layout v.packets node next = no_turn setting.layout v.packets node next keeps in
       let extends = step_extends setting.layout v me.0 next (reply_packets me from call said) agreed turn in
       record {
         turn = turn;
-        body = still_body setting.layout v (turned v me.0 next) me.0 next (reply_packets me from call said) extends refl drafting calls proposal
+        body = still_body setting.layout v (turned v me.0 next) me.0 next (reply_packets me from call said) extends refl drafting calls proposal job
             (each_reply (λ (packet : Packet). (g e : ℕ) (b : Ballot) (members : List BrickId) → accept_in g e b packet.message ≡ Some members → ⊥) me from call said
             (λ one is g e b members asks. let never : None ≡ Some members = asks in cc))
             (each_reply (PacketSays setting.layout (sending_more (turned v me.0 next) (reply_packets me from call said))) me from call said
@@ -281,7 +281,7 @@ module _ (setting : Setting) (v : ViewWorld) (called : Called v.packets v.nodes)
   -- one that does nothing
   quiet_says : StepSays setting.layout v me.0 node []
   quiet_says =
-      replies_says node (refl, refl) refl refl None (λ one is last extends. absurd (let never : None ≡ Some one = is in cc))
+      replies_says node (refl, refl) refl refl refl None (λ one is last extends. absurd (let never : None ≡ Some one = is in cc))
 
   -- a view that it has learnt, and that is later than the call's, is taught
   learnt_taught : 1 ≤ call.view.0 → nat_lt call.view.0 (view_at node call.group.0) ≡ true → (last : ViewWorld) → Extends setting.layout v last
@@ -335,7 +335,7 @@ module _ (setting : Setting) (v : ViewWorld) (called : Called v.packets v.nodes)
   seat_says m request None = quiet_says
   seat_says m request (Some seat) =
       let reaction : Reaction = handle setting.code m (full_at setting.layout.records node.live) seat (replica_at node call) request in
-      replies_says (reacted me from node call reaction).node (refl, refl) refl refl reaction.reply
+      replies_says (reacted me from node call reaction).node (refl, refl) refl refl refl reaction.reply
       (λ one is last extends. plain_says setting.layout last me.0 from.0 call one
       (handle_plain setting.code m (full_at setting.layout.records node.live) seat (replica_at node call) request one is))
 
@@ -348,7 +348,7 @@ module _ (setting : Setting) (v : ViewWorld) (called : Called v.packets v.nodes)
           → (let step = served_unless setting m me from node call request seat z in StepSays setting.layout v me.0 step.node step.packets)
       by None is = seat_says m request seat
       by (Some said) is =
-          replies_says node (refl, refl) refl refl (Some said)
+          replies_says node (refl, refl) refl refl refl (Some said)
           (λ one same last extends. moved_says positive known one (is ∙ same) last extends)
 
   -- the ballot of a request that asks for a vote is its call's
@@ -449,7 +449,7 @@ module _ (setting : Setting) (v : ViewWorld) (called : Called v.packets v.nodes)
       record {
         turn = turn;
         body = still_body setting.layout v (turned v me.0 (granted ballot asks)) me.0 (granted ballot asks) new
-            (step_extends setting.layout v me.0 (granted ballot asks) new agreed turn) refl drafting refl refl
+            (step_extends setting.layout v me.0 (granted ballot asks) new agreed turn) refl drafting refl refl refl
             (each_reply (λ (packet : Packet). (g e : ℕ) (b : Ballot) (members : List BrickId) → accept_in g e b packet.message ≡ Some members → ⊥) me from call
             (Some (granting (node.ballots call.group.0) ballot asks).reply)
             (λ one is g e b members asked. let never : None ≡ Some members = asked in cc))
@@ -466,7 +466,7 @@ module _ (setting : Setting) (v : ViewWorld) (called : Called v.packets v.nodes)
       → StepSays setting.layout v me.0 (record node { ballots = put node.ballots call.group.0 (node.ballots call.group.0) })
       (reply_packets me from call (Some refused))
   refuses_says ballot asks refused sent positive is =
-      replies_says (record node { ballots = put node.ballots call.group.0 (node.ballots call.group.0) }) (refl, put_back node.ballots call.group.0) refl refl
+      replies_says (record node { ballots = put node.ballots call.group.0 (node.ballots call.group.0) }) (refl, put_back node.ballots call.group.0) refl refl refl
       (Some refused)
       (λ one same last extends.
       subst (λ (z : Reply). ReplySays setting.layout last me.0 from.0 call z) (same_Some refused one same)
@@ -500,7 +500,7 @@ module _ (setting : Setting) (v : ViewWorld) (called : Called v.packets v.nodes)
 
       plain : (said : Reply) → IsPlain said → Says (Some said)
       plain said is =
-          replies_says node (refl, refl) refl refl (Some said) (λ one same last extends. plain_says setting.layout last me.0 from.0 call one (one_plain said one is same))
+          replies_says node (refl, refl) refl refl refl (Some said) (λ one same last extends. plain_says setting.layout last me.0 from.0 call one (one_plain said one is same))
 
   -- a ballot is voted on
   vote_says : (base : Group) (ballot : Ballot) (asks : Option (List BrickId))
@@ -577,7 +577,7 @@ synced_says setting v agreed drafting me group number =
     record {
       turn = turn;
       body = body_own setting.layout v (turned v me.0 next) me.0 node next [] (synced_own setting.layout node group number)
-          (still_body setting.layout v (turned v me.0 next) me.0 node [] (step_extends setting.layout v me.0 next [] agreed turn) refl drafting refl refl
+          (still_body setting.layout v (turned v me.0 next) me.0 node [] (step_extends setting.layout v me.0 next [] agreed turn) refl drafting refl refl refl
           (λ k packet at. absurd (let never : None ≡ Some packet = at in cc)) (λ k packet at. absurd (let never : None ≡ Some packet = at in cc)));
     }
 
@@ -597,5 +597,5 @@ learn_says setting v agreed drafting from me group view sent =
   where
     still_body_of : (node next : Node) → Extends setting.layout v (sending_more (turned v me.0 next) []) → BodySays setting.layout v (turned v me.0 next) me.0 (v.nodes me.0) []
     still_body_of node next extends =
-        still_body setting.layout v (turned v me.0 next) me.0 (v.nodes me.0) [] extends refl drafting refl refl
+        still_body setting.layout v (turned v me.0 next) me.0 (v.nodes me.0) [] extends refl drafting refl refl refl
         (λ k packet at. absurd (let never : None ≡ Some packet = at in cc)) (λ k packet at. absurd (let never : None ≡ Some packet = at in cc))
