@@ -10,7 +10,7 @@ use Rattle.std.proofs.lemmas.List.{get_or-set_same, get_or-set_other, length-set
 use Rattle.fab_base.specs.declared.stamps.Stamp.{Stamp}
 use Rattle.fab_base.proofs.StampOrder.{stamp_same_refl, stamp_same_true}
 use Rattle.messages.specs.declared.replies.Reply.{Reply}
-use Rattle.messages.specs.declared.replies.Reply.TheVariants.{Found, OrderedRead}
+use Rattle.messages.specs.declared.replies.Reply.TheVariants.{Found, OrderedRead, Old}
 use Rattle.protocol.specs.declared.phases.Counted.{Counted}
 use Rattle.protocol.specs.Coordinators.{has_seat, told_stamp, finds, pieces_at}
 use Rattle.quorum.specs.declared.seats.Seat.{Seat}
@@ -76,6 +76,8 @@ reports_found v k c (Found order None) is = refl
 reports_found v k c (Found order (Some version)) is = refl
 reports_found v k c (OrderedRead None) is = refl
 reports_found v k c (OrderedRead (Some version)) is = refl
+reports_found v k c (Old None) is = refl
+reports_found v k c (Old (Some version)) is = refl
 reports_found v k c reply is = refl
 
 pub reports_finds : (v : Stamp) (c : Counted) → reports v (seat.Counted (told_stamp c.reply)) ≡ finds v c
