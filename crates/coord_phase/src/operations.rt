@@ -250,9 +250,10 @@ impl Operation {
         &self.ask
     }
 
-    /// How far the operation is.
+    /// How far the operation is. There is a view whose members its phase asks.
     pub fn stage(&self) -> Stage
-        ensures { result ≡ record { stamp = self.now.state.stamp; round = self.now.state.round; call = self.now.state.call; phase = self.now.state.phase } }
+        ensures asks { MayAsk self.now.state.stamp.view self.now.state.phase }
+        ensures stage { result ≡ record { stamp = self.now.state.stamp; round = self.now.state.round; call = self.now.state.call; phase = self.now.state.phase } }
     {
         self.stage
     }
