@@ -10,9 +10,8 @@ use Rattle.messages.specs.declared.packets.Packet.{Packet}
 use Rattle.messages.specs.declared.replies.Lineage.{Lineage}
 use Rattle.messages.specs.declared.replies.Reply.{Reply}
 use Rattle.messages.specs.declared.replies.Reply.TheVariants as reply
-use Rattle.brick_store.specs.Calls.{append_of, append_calls}
-use Rattle.brick_store.specs.Sizes.{view_size}
 use Rattle.replica.specs.Calls.{learnt_append}
+use Rattle.replica.proofs.Learning.{learnt_append_none}
 use Rattle.fab_base.specs.declared.stamps.Stamp.{Stamp}
 use Rattle.stripe_code.specs.Codes.{block_code, coding}
 use Rattle.protocol.specs.Proposals.{Proposal, seat_voting, voted_at}
@@ -69,7 +68,7 @@ module _ (layout : Layout) (me : BrickId) (now : ℕ) (from : BrickId) (node : N
   left_by None none = left_ballot node.proposal none (with_known node (known_after node.known told))
   left_by (Some c) none =
       let known = known_after node.known told in
-      ap (carried_out (coding layout) me node known c) (left_call (fresh_stamp me c.call.view now node.boot known) c none)
+      ap (carried_out (coding layout) me node known c) (left_call (fresh_stamp me c.stamp.view now node.boot known) c none)
 
 module _ (layout : Layout) (me : BrickId) (now : ℕ) (from : BrickId) (node : Node) (call : Call) (told : Reply) where
   -- the reply is handled as such, by the open operation of its call or by the proposal
@@ -182,4 +181,4 @@ module _ (layout : Layout) (me from to : BrickId) (node : Node) (call : Call) (t
 
 -- what was learnt already is not appended
 pub learnt_none : (learnt : Learnt) → learnt_append learnt learnt ≡ None
-learnt_none learnt = ap (λ (b : Bool). cond b None (Some (append_of (view_size learnt.view) append_calls))) (eq-eqb learnt.view.number.0 learnt.view.number.0 refl)
+learnt_none learnt = learnt_append_none learnt

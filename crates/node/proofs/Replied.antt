@@ -39,10 +39,10 @@ pub replied_is : (layout : Layout) (me : BrickId) (now : ℕ) (from : BrickId) (
     → (let known = known_after node.known reply in
     replied_at (coding layout) me now from node call reply (node.calls call.seq)
     ≡ carried_out (coding layout) me node known c
-    (or_waits c (on_reply layout.block (block_code layout.block) (fresh_stamp me c.call.view now node.boot known) c from call reply)))
+    (or_waits c (on_reply layout.block (block_code layout.block) (fresh_stamp me c.stamp.view now node.boot known) c from call reply)))
 replied_is layout me now from node call reply c held seq =
     let known = known_after node.known reply in
-    let next = on_reply layout.block (block_code layout.block) (fresh_stamp me c.call.view now node.boot known) c from call reply in
+    let next = on_reply layout.block (block_code layout.block) (fresh_stamp me c.stamp.view now node.boot known) c from call reply in
     ap (replied_at (coding layout) me now from node call reply) held
     ∙ waits_is layout me node known c next (ap node.calls seq ∙ held)
 

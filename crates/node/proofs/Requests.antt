@@ -1,8 +1,10 @@
 -- What a brick does with a message that it serves, over its store.
 use Rattle.std.proofs.Common.{◌≡◌, ◌⊎◌, ℕ, List, [], Option, Some, inl, inr, refl, sym, ◌∙◌, ap, subst}
+use Rattle.std.specs.Prelude.{◌&&◌, is_some}
 use Rattle.std.proofs.lemmas.Bool.{cond_both}
 use Rattle.fab_base.specs.declared.identities.BrickId.{BrickId}
 use Rattle.fab_base.specs.declared.identities.GroupId.{GroupId}
+use Rattle.fab_base.specs.declared.identities.ViewNo.{ViewNo}
 use Rattle.fab_base.specs.declared.member_lists.View.{View}
 use Rattle.messages.specs.declared.calls.Call.{Call}
 use Rattle.messages.specs.declared.packets.Message.{Message}
@@ -17,8 +19,8 @@ use Rattle.stripe_code.specs.Codes.{coding}
 use Rattle.messages.specs.declared.packets.Packet.{Packet}
 use Rattle.synod_laws.specs.Synods.{Kept as Ballots}
 use Rattle.protocol.specs.Replicas.{Replica}
-use Rattle.protocol.specs.Views.{Learnt, is_later, learns}
-use Rattle.protocol.specs.Nodes.{Node, NodeStep, no_step, sending, requested, may_teach, node_learnt, node_taught, with_learnt}
+use Rattle.protocol.specs.Views.{Learnt, is_later, is_unsynced, learns, notes_synced}
+use Rattle.protocol.specs.Nodes.{Node, NodeStep, no_step, sending, requested, may_teach, node_learnt, node_synced, node_taught, with_learnt}
 use Rattle.protocol.proofs.Served.{request_each}
 use Rattle.replica.specs.Parts.{IsPartsOf}
 use Rattle.replica.specs.Reactions.{IsStep, member_step, answer_packets}
@@ -89,13 +91,21 @@ taught_calls layout node group view =
     cond_both (may_teach layout (Some view) (group_of layout group.0)) (node_taught layout.block group.0 node view) node
     (λ (n : Node). KeepsCalls node (no_step n)) (λ may. learns_calls layout.block group.0 node view) (λ not. same_calls node)
 
+-- so does a message that tells that a view is synced
+synced_calls : (layout : Layout) (node : Node) (group : GroupId) (number : ViewNo) → KeepsCalls node (no_step (node_synced layout node group number))
+unfolding node_synced
+synced_calls layout node group number =
+    cond_both (is_some (group_of layout group.0) && is_unsynced (node.learnt group.0) number.0)
+    (with_learnt layout.block group.0 node (notes_synced (node.learnt group.0) number.0)) node
+    (λ (n : Node). KeepsCalls node (no_step n)) (λ notes. keeps_by node _ _ _ _ _ _) (λ not. same_calls node)
+
 -- so does each message that a member serves
 serves_calls : (layout : Layout) (me from : BrickId) (node : Node) (message : Message) → KeepsCalls node (member_step layout me from node message)
 unfolding requested
 serves_calls layout me from node (Message.Request call request) = keeps_calls layout me from node call request
 serves_calls layout me from node (Message.Reply call reply) = same_calls node
 serves_calls layout me from node (Message.Learn group view) = taught_calls layout node group view
-serves_calls layout me from node (Message.Synced group view) = same_calls node
+serves_calls layout me from node (Message.Synced group number) = synced_calls layout node group number
 serves_calls layout me from node (Message.Client ask) = same_calls node
 serves_calls layout me from node (Message.ClientReply id answer) = same_calls node
 

@@ -220,8 +220,8 @@ impl<D: Disk> Node<D> {
         Ok(self.work.on_tick(self.alloc)?)
     }
 
-    /// Handles a message, at this time of the brick's clock. What it keeps of a request, and a view that it learns, is on the disk before it
-    /// answers, by the calls of [`replica::handle`]; a message that changes nothing that is kept makes no call of the disk. A reply makes
+    /// Handles a message, at this time of the brick's clock. What it keeps of a request, a view that it learns, and that all stripes are kept in that, is on
+    /// the disk before it answers, by the calls of [`replica::handle`]; a message that changes nothing that is kept makes no call of the disk. A reply makes
     /// some where it counts and tells a later view with its members, which the brick learns then.
     ///
     /// # Errors
@@ -251,15 +251,14 @@ impl<D: Disk> Node<D> {
         match &packet.message {
             Message::Request(_, _) => self.serve(packet.from, &packet.message),
             Message::Learn { .. } => self.serve(packet.from, &packet.message),
+            Message::Synced { .. } => self.serve(packet.from, &packet.message),
             Message::Reply(call, reply) => self.on_reply(now, packet, *call, reply),
-            Message::Synced { .. } | Message::Client(_) | Message::ClientReply { .. } => {
-                Ok(Outs::nothing(self.alloc))
-            }
+            Message::Client(_) | Message::ClientReply { .. } => Ok(Outs::nothing(self.alloc)),
         }
     }
 
-    /// Serves a message as a member of a group: it handles a request, and learns a later view that it is taught. A brick ignores a void
-    /// request, and each other message.
+    /// Serves a message as a member of a group: it handles a request, learns a later view that it is taught, and notes that all stripes are kept in the view
+    /// that it has learnt. A brick ignores a void request, and each other message.
     fn serve(&mut self, from: BrickId, message: &Message) -> Result<Outs, NodeFault>
         requires runs { self.old.brick.halted ≡ false }
         requires stands { IsShown D.Disk self.old }

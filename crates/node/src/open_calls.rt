@@ -1,6 +1,6 @@
 //! The operations that a brick coordinates.
 
-ghost use Rattle.std.specs.Prelude.{◌≡◌, ◌<◌, ◌≤◌, ℕ, false, is_some};
+ghost use Rattle.std.specs.Prelude.{◌≡◌, ◌<◌, ◌≤◌, ℕ, false, is_some, IfSome};
 ghost use Rattle.std.specs.BTreeMap as tree;
 ghost use Rattle.std.specs.Ordering.{nat_cmp};
 ghost use Rattle.protocol.specs.Nodes.{known_after, fresh_stamp};
@@ -44,7 +44,8 @@ fn after_reply(mut stamps: StampSource, reply: &Reply) -> StampSource
 
 /// The stamp that a new round of ordering would have in a view, at this time of the brick's clock. None where no later time is left.
 fn fresh_stamp(mut stamps: StampSource, now: u64, view: ViewNo, me: BrickId) -> Option<Stamp>
-    ensures { result ≡ fresh_stamp me view now stamps.boot stamps.known }
+    ensures stamp { result ≡ fresh_stamp me view now stamps.boot stamps.known }
+    ensures view { IfSome result (λ stamp. stamp.view ≡ view) }
 {
     stamps.next(now, view, me)
 }
@@ -59,7 +60,7 @@ impl OpenCalls {
     ghost use Rattle.fab_base.specs.Layouts.{group_of, most_groups};
     ghost use Rattle.protocol.specs.Nodes.{has_block, has_length, refusal_in, refusal_of, coordinator_in, began_in, known_after, next_call, replied_at, resent_up_to, with_call, with_known};
     ghost use Rattle.quorum.specs.Quorums.{IsWithinLimits};
-    ghost use Rattle.coord_phase.specs.Operations.{group_in_view};
+    ghost use Rattle.coord_phase.specs.Operations.{PriorIsWithinLimits, group_in_view};
     ghost use Rattle.messages.specs.declared.packets.Message.TheVariants as message;
     ghost use Rattle.stripe_code.specs.Codes.{coding};
     ghost use Rattle.coord_phase.specs.Messages.{packets_from};
@@ -188,6 +189,7 @@ impl OpenCalls {
         requires known { self.old.stamps.known + 1 < 2 ^ 64 }
         requires seq { self.old.seq + 1 < 2 ^ 64 }
         requires limits { IsWithinLimits (group_in_view layout.now view.members ask.now.group.0).m (length view.members) }
+        requires prior { PriorIsWithinLimits (group_in_view layout.now view.members ask.now.group.0).m view.number view.prior }
         requires block { has_block (group_in_view layout.now view.members ask.now.group.0).m ask.now.op ≡ true }
         requires fits { has_length (group_in_view layout.now view.members ask.now.group.0).m layout.now.block ask.now.op ≡ true }
         ensures begun { (parts : OtherParts) → IfOk result
@@ -268,7 +270,7 @@ impl OpenCalls {
         let Some(open) = self.operations.get_mut(&call.seq) else {
             unreachable!()
         };
-        let fresh = fresh_stamp(stamps, now, open.call().view, me);
+        let fresh = fresh_stamp(stamps, now, open.stamp_view(), me);
         let outs = open.on_reply(alloc, packet.from, &packet.message, fresh, &mut stamps)?;
         self.stamps = stamps;
         close_answered(&mut self.operations, call.seq, &outs);

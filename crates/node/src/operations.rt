@@ -67,11 +67,12 @@ pub struct Operation {
 }
 
 impl Operation {
-    ghost use Rattle.std.specs.Prelude.{◌≡◌, ◌≤◌, true, None, IfOk, OnOk, OnErr, [], ◌∷◌, length, vec_len, vec_capacity};
+    ghost use Rattle.std.specs.Prelude.{◌≡◌, ◌≤◌, true, None, IfOk, IfSome, OnOk, OnErr, [], ◌∷◌, length, vec_len, vec_capacity};
     ghost use Rattle.quorum.specs.Quorums.{IsWithinLimits};
     ghost use Rattle.fab_base.specs.Layouts.{Layout};
     ghost use Rattle.protocol.specs.Nodes.{has_block, has_length, seen_told};
-    ghost use Rattle.coord_phase.specs.Operations.{group_in_view, first_op, is_storing, seen_in, stored_in};
+    ghost use Rattle.coord_phase.specs.Operations.{PriorIsWithinLimits, group_in_view, first_op, is_storing, seen_in, stored_in};
+    ghost use Rattle.protocol.specs.Coordinators.{asked_group};
     ghost use Rattle.coord_phase.specs.Decisions as decisions;
     ghost use Rattle.coord_phase.specs.Decisions.{Answers, AsksRecovery, NeverRecovers, IsSend, decided_on, begins_in};
     ghost use Rattle.coord_phase.specs.Messages.{phase_messages};
@@ -107,17 +108,24 @@ impl Operation {
         ensures { result ≡ view_in (coordinator_of self.now) }
     {
         View {
-            number: self.call().view,
+            number: self.stamp_view(),
             members: self.group().members().copy(),
             prior: self.prior.copy(),
         }
     }
 
-    /// The group whose members the present phase asks.
+    /// The group, as the members of the operation's view keep it.
     pub fn group(&self) -> &Group
         ensures { result.now ≡ (coordinator_of self.now).group }
     {
-        self.shown().asked()
+        self.shown().group()
+    }
+
+    /// The view that a new round's stamp is of.
+    pub(crate) fn stamp_view(&self) -> ViewNo
+        ensures { result ≡ (coordinator_of self.now).stamp.view }
+    {
+        self.shown().stage().stamp.view
     }
 
     /// Begins an operation on a stripe of a group, or on a block of it, in this view.
@@ -130,6 +138,8 @@ impl Operation {
         stamp: Stamp,
     ) -> Result<(Operation, Next), NoMem>
         requires limits { IsWithinLimits (group_in_view layout.now view.members ask.group.0).m (length view.members) }
+        requires prior { PriorIsWithinLimits (group_in_view layout.now view.members ask.group.0).m view.number view.prior }
+        requires view { stamp.view ≡ view.number }
         requires block { has_block (group_in_view layout.now view.members ask.group.0).m ask.op ≡ true }
         requires fits { has_length (group_in_view layout.now view.members ask.group.0).m layout.now.block ask.op ≡ true }
         ensures operation { IfOk result (λ begun. shown_of begun.0 ≡ first_op layout.now view call ask stamp) }
@@ -161,6 +171,8 @@ impl Operation {
         stamp: Stamp,
     ) -> Result<(Operation, Messages), NoMem>
         requires limits { IsWithinLimits (group_in_view layout.now view.members ask.now.group.0).m (length view.members) }
+        requires prior { PriorIsWithinLimits (group_in_view layout.now view.members ask.now.group.0).m view.number view.prior }
+        requires view { stamp.view ≡ view.number }
         requires block { has_block (group_in_view layout.now view.members ask.now.group.0).m ask.now.op ≡ true }
         requires fits { has_length (group_in_view layout.now view.members ask.now.group.0).m layout.now.block ask.now.op ≡ true }
         ensures operation { IfOk result (λ begun. shown_of begun.0 ≡ first_op layout.now view call ask.now stamp) }
@@ -168,18 +180,18 @@ impl Operation {
         ensures few { IfOk result (λ begun. vec_len begun.1 ≤ 32) }
     {
         let (op, next) = Operation::start(alloc, layout, view, call, ask.copy(alloc)?, stamp)?;
-        // There is a message for each member, and these are few.
-        let _ = op.group().policy();
+        // There is a message for each member that is asked, and these are few.
+        let _ = op.asked_count();
         Ok((op, messages_in(alloc, next)))
     }
 
-    /// The messages of the present phase again, to each member of the group without a reply that counts.
+    /// The messages of the present phase again, to each member that is asked without a reply that counts.
     fn messages(&self, alloc: Global) -> Result<Messages, NoMem>
         ensures messages { IfOk result (λ messages. messages.items ≡ phase_messages (shown_of self.now)) }
         ensures few { IfOk result (λ messages. vec_len messages ≤ 32) }
     {
-        // There is at most a message for each member, and these are few.
-        let _ = self.member_count();
+        // There is at most a message for each member that is asked, and these are few.
+        let _ = self.asked_count();
         self.shown().messages(alloc)
     }
 
@@ -205,12 +217,20 @@ impl Operation {
         }
     }
 
-    /// How many members are asked, at most 32.
+    /// How many members the operation's view has, at most 32.
     fn member_count(&self) -> usize
         ensures value { result ≡ length (coordinator_of self.now).group.members }
         ensures few { result ≤ 32 }
     {
         self.group().policy().n() as usize
+    }
+
+    /// How many members the present phase asks, at most 32.
+    fn asked_count(&self) -> usize
+        ensures value { result ≡ length (asked_group (coordinator_of self.now)).members }
+        ensures few { result ≤ 32 }
+    {
+        self.shown().asked().policy().n() as usize
     }
 
     /// Room for the messages that let all members collect. Only an operation that has members keep its version may end with such messages.
@@ -226,14 +246,15 @@ impl Operation {
         Ok(Vec::with_capacity(alloc, most)?)
     }
 
-    /// Takes a message in place, and may ask that its stripe be recovered. A new round of ordering would have the fresh stamp; there is
-    /// none where no later time is left.
+    /// Takes a message in place, and may ask that its stripe be recovered. A new round of ordering would have the fresh stamp, which is of the operation's
+    /// view; there is none where no later time is left.
     fn hear(
         &mut self,
         from: BrickId,
         message: &Message,
         fresh: Option<Stamp>,
     ) -> Result<Next, NoMem>
+        requires fresh { IfSome fresh (λ stamp. stamp.view ≡ (coordinator_of self.old).stamp.view) }
         ensures answers { IfOk result (λ next. Answers fresh (shown_of self.old) from message.now next (shown_of self.new)) }
         ensures recovery { IfOk result (λ next. AsksRecovery true (shown_of self.old).block next (shown_of self.old).state
             (without_last (shown_of self.new).state)) }
@@ -266,6 +287,7 @@ impl Operation {
         message: &Message,
         fresh: Option<Stamp>,
     ) -> Result<Next, NoMem>
+        requires fresh { IfSome fresh (λ stamp. stamp.view ≡ (coordinator_of self.old).stamp.view) }
         ensures answers { IfOk result (λ next. Answers fresh (shown_of self.old) from message.now next (shown_of self.new)) }
         ensures never { IfOk result NeverRecovers }
         ensures same { OnErr result (coordinator_of self.new ≡ coordinator_of self.old) }
@@ -364,6 +386,7 @@ impl Operation {
         fresh: Option<Stamp>,
         stamps: &mut StampSource,
     ) -> Result<Outs, NoMem>
+        requires fresh { IfSome fresh (λ stamp. stamp.view ≡ (coordinator_of self.old).stamp.view) }
         ensures step { IfOk result (λ outs. (layout : Layout) → IsOperationOf layout self.old → CarriesOut layout self.old self.new stamps.old.known
             stamps.new.known (or_waits (coordinator_of self.old) (decided_on fresh (shown_of self.old) from message.now)) outs) }
         ensures few { IfOk result (λ outs. length outs.messages ≤ 32) }
@@ -376,7 +399,11 @@ impl Operation {
         let call = self.call();
         match self.take_reply(alloc, from, message, fresh)? {
             Next::Wait => Ok(Outs::nothing(alloc)),
-            Next::Send(messages) => Ok(self.begin_phase(messages, stamps)),
+            Next::Send(messages) => {
+                // There is a message for each member that is asked, and these are few.
+                let _ = self.asked_count();
+                Ok(self.begin_phase(messages, stamps))
+            }
             Next::End(answer) => Ok(self.end(room, call, answer)),
             Next::Recover(_) => unreachable!(),
         }
@@ -405,11 +432,12 @@ impl Operation {
     pub(crate) fn ended_by(&self, from: BrickId, view: ViewNo) -> Option<Answer>
         ensures { EndsOrWaits (coordinator_of self.now) from view result }
     {
-        let Some(seat) = self.group().seat_of(from) else {
+        let asked = self.shown().asked();
+        let Some(seat) = asked.seat_of(from) else {
             return None;
         };
         let counted = self.shown().counted();
-        if counted.len() + 1 < usize::from(self.group().quorum()) {
+        if counted.len() + 1 < usize::from(asked.quorum()) {
             return None;
         }
         let last = Mover {

@@ -3,6 +3,7 @@ use Rattle.std.proofs.Common.{◌≡◌, true, length, Some, None, sym, ◌∙�
 use Rattle.std.proofs.lemmas.Bool.{true≢false}
 use Rattle.fab_base.specs.Layouts.{Group}
 use Rattle.quorum.specs.Quorums.{IsWithinLimits}
+use Rattle.coord_phase.specs.Operations.{PriorIsWithinLimits}
 use Rattle.protocol.specs.Nodes.{Node, refusal_of, invoked, has_block, has_length}
 use Rattle.stripe_code.specs.Codes.{coding}
 use Rattle.node.specs.declared.open_work.OpenWork.{OpenWork}
@@ -61,6 +62,15 @@ begin-requires-clause-limits g c =
     let found = c.in-Ok.ensures.group in
     subst (λ (k : Group). IsWithinLimits k.m (length view.members)) (sym (group_in_view_is x.layout view.members c.args.ask.now.group.0 group found))
     (c.learnt_view-view.ensures.limits x.layout found c.self.invariant.lists)
+
+pub begin-requires-clause-prior : goal.begin-requires-clause-prior
+begin-requires-clause-prior g c =
+    let x = c.self.inside in
+    let group = c.in-Ok.group.now in
+    let view = c.learnt_view-view.result in
+    let found = c.in-Ok.ensures.group in
+    subst (λ (k : Group). PriorIsWithinLimits k.m view.number view.prior) (sym (group_in_view_is x.layout view.members c.args.ask.now.group.0 group found))
+    (c.learnt_view-view.ensures.prior x.layout found c.self.invariant.lists)
 
 pub begin-requires-clause-block : goal.begin-requires-clause-block
 begin-requires-clause-block g c =
