@@ -1,78 +1,93 @@
 -- The blocks that are held in memory.
-use Rattle.std.proofs.Common.{◌≡◌, inl, ℕ, zero, suc, ◌+◌, ◌<◌, ◌≤◌, cond, Some, None, List, [], ◌∷◌, ◌++◌, length, take, get_or, add-one, refl, sym, ap, subst, ◌∙◌, arith}
-use Rattle.std.specs.declared.cmp.Ordering.{Ordering}
-use Rattle.std.specs.declared.cmp.Ordering.TheVariants.{Less, Equal, Greater}
-use Rattle.std.specs.Ordering.{nat_cmp, is_eq}
-use Rattle.std.specs.List.{AllByRecursion}
-use Rattle.std.specs.Map.{lookup}
-use Rattle.std.specs.BTreeMap.{BTreeMap, get, is_at}
-use Rattle.std.proofs.lemmas.Map.Lookups.{exact_unsigned}
-use Rattle.std.proofs.lemmas.List.{take_all}
-use Rattle.std.proofs.Math.Seq.{take-suc}
+use Rattle.std.proofs.Common.{◌≡◌, ◌⊎◌, inl, inr, ⊎_elim, ℕ, zero, suc, ◌+◌, ◌<◌, ◌≤◌, true, eqb, ltb, Option, Some, None, List, [], ◌∷◌, ◌++◌, length, get_or, refl, sym, ap, subst, ◌∙◌, arith}
+use Rattle.std.specs.List.{AllByRecursion, Contains}
+use Rattle.std.specs.Option.{IsSome, IfSome}
+use Rattle.std.proofs.lemmas.Bool.{or_cases, ltb-true, eqb-true, cases_lt}
+use Rattle.std.proofs.lemmas.Option.{same_Some, none-some}
+use Rattle.std.proofs.lemmas.List.{length_push}
+use Rattle.std.proofs.Math.ListN.{get_or-eq_default, get_or-append}
+use Rattle.std.proofs.Math.Seq.{get_or-append_seam}
 use Rattle.fab_disk.specs.Disk.{IsUntouched}
 use Rattle.frame_store.specs.declared.shapes.Shape.{Shape}
+use Rattle.frame_store.specs.Images.{HasSlot}
 use Rattle.frame_store.specs.Stores.{Held, IsSame}
-use Rattle.brick_store.specs.Openings.{IsHeld, IsReadFrom, AreRead}
-
-some_same : {X : Type 0} {a b : X} → Some a ≡ Some b → a ≡ b
-some_same h = cc
-
--- one block more
-pub read_more : (tells : Type 0) (shape : Shape) (size : ℕ) (content : List ℕ) (old new : BTreeMap ℕ (List ℕ)) (k : ℕ) (v : List ℕ)
-    → ((q : ℕ) → get nat_cmp new q ≡ cond (is_at (nat_cmp k) q) (Some v) (get nat_cmp old q))
-    → IsReadFrom tells shape size content k v → AreRead tells shape size content old → AreRead tells shape size content new
-read_more tells shape size content old new k v updates here all slot bytes found = by (nat_cmp k slot) refl (sym (updates slot) ∙ found)
-  where
-    by : (r : Ordering) → nat_cmp k slot ≡ r → cond (is_eq r) (Some v) (get nat_cmp old slot) ≡ Some bytes
-        → IsReadFrom tells shape size content slot bytes
-    by Less at is = all slot bytes is
-    by Greater at is = all slot bytes is
-    by Equal at is =
-        let there : IsReadFrom tells shape size content slot v = subst (λ (n : ℕ). IsReadFrom tells shape size content n v)
-        (exact_unsigned k slot at) here in
-        subst (λ (b : List ℕ). IsReadFrom tells shape size content slot b) (some_same is) there
+use Rattle.brick_state.specs.Folds.{Limits, is_slot}
+use Rattle.brick_store.specs.BlockTables.{SlotBlocks, block_under}
+use Rattle.brick_store.specs.Openings.{IsHeld, IsReadFrom, AreRead, IsInside}
 
 -- none is held yet
-pub none_read : (tells : Type 0) (shape : Shape) (size : ℕ) (content : List ℕ) (blocks : BTreeMap ℕ (List ℕ)) → blocks.entries ≡ []
-    → AreRead tells shape size content blocks
-none_read tells shape size content blocks none slot bytes found = absurd (none_some (sym (nothing_at blocks.entries none) ∙ found))
+pub none_read : (tells : Type 0) (shape : Shape) (size : ℕ) (content : List ℕ) → AreRead tells shape size content []
+none_read tells shape size content slot bytes found = absurd (none-some bytes (sym (get_or-eq_default {A = Option (List ℕ)} [] None {n = slot} (omega arith)) ∙ found))
+
+-- one slot more
+pub read_push : (tells : Type 0) (shape : Shape) (size : ℕ) (content : List ℕ) (old : SlotBlocks) (o : Option (List ℕ))
+    → IfSome o (λ bytes. IsReadFrom tells shape size content (length old) bytes) → AreRead tells shape size content old
+    → AreRead tells shape size content (old ++ o ∷ [])
+read_push tells shape size content old o here all slot bytes found =
+    ⊎_elim (λ below. all slot bytes (sym (get_or-append old (o ∷ []) None slot below) ∙ found))
+    (λ past. ⊎_elim (λ lt. last (omega (arith, past, lt))) (λ end. absurd (none-some bytes (sym (beyond end) ∙ found))) (cases_lt slot (length old + 1)))
+    (cases_lt slot (length old))
   where
-    none_some : None ≡ Some bytes → ⊥
-    none_some h = cc
+    at_last : (o : Option (List ℕ)) → IfSome o (λ b. IsReadFrom tells shape size content (length old) b) → o ≡ Some bytes
+        → IsReadFrom tells shape size content (length old) bytes
+    at_last None h is = absurd cc
+    at_last (Some b) h is = subst (λ (x : List ℕ). IsReadFrom tells shape size content (length old) x) (same_Some _ _ is) h
 
-    nothing_at : (es : List (ℕ × List ℕ)) → es ≡ [] → lookup (is_at (nat_cmp slot)) es ≡ None
-    nothing_at es is = ap (lookup (is_at (nat_cmp slot))) is
+    last : slot ≡ length old → IsReadFrom tells shape size content slot bytes
+    last is = subst (λ (n : ℕ). IsReadFrom tells shape size content n bytes) (sym is)
+        (at_last o here (sym (get_or-append_seam old o [] None) ∙ ap (λ (n : ℕ). get_or (old ++ o ∷ []) n None) (sym is) ∙ found))
 
--- a slot more is held
-all_push : {X : Type 0} (P : X → Type 0) (xs : List X) (x : X) → AllByRecursion P xs → P x → AllByRecursion P (xs ++ x ∷ [])
-all_push P [] x all here = (here, tt)
-all_push P (y ∷ ys) x all here = (all.0, all_push P ys x all.1 here)
+    beyond : length old + 1 ≤ slot → get_or (old ++ o ∷ []) slot None ≡ None
+    beyond end = get_or-eq_default (old ++ o ∷ []) None {n = slot} (omega (arith, end, length_push old o))
 
-all_step : {X : Type 0} (P Q : X → Type 0) (xs : List X) → ((x : X) → P x → Q x) → AllByRecursion P xs → AllByRecursion Q xs
-all_step P Q [] step all = tt
-all_step P Q (x ∷ xs) step all = (step x all.0, all_step P Q xs step all.1)
-
-pub held_more : (old new : BTreeMap ℕ (List ℕ)) (slots : List ℕ) (i slot : ℕ) → i < length slots → slot ≡ get_or slots i 0
-    → ((other : ℕ) → IsHeld old other → IsHeld new other) → IsHeld new slot
-    → AllByRecursion (IsHeld old) (take i slots) → AllByRecursion (IsHeld new) (take (i + 1) slots)
-held_more old new slots i slot within is others here all =
-    let more : take (i + 1) slots ≡ take i slots ++ slot ∷ [] = rw add-one (take-suc slots i 0 within) ∙ ap (λ (x : ℕ). take i slots ++ x ∷ [])
-    (sym is) in
-    subst (λ (xs : List ℕ). AllByRecursion (IsHeld new) xs) (sym more)
-    (all_push (IsHeld new) (take i slots) slot (all_step (IsHeld old) (IsHeld new) (take i slots) others all) here)
-
-pub all_held : (blocks : BTreeMap ℕ (List ℕ)) (slots : List ℕ) (i : ℕ) → length slots ≤ i → AllByRecursion (IsHeld blocks) (take i slots)
-    → AllByRecursion (IsHeld blocks) slots
-all_held blocks slots i past all = subst (λ (xs : List ℕ). AllByRecursion (IsHeld blocks) xs) (take_all i slots past) all
-
--- what holds of each slot holds of one of them
-pub slot_at : (P : ℕ → Type 0) (slots : List ℕ) (i slot : ℕ) → i < length slots → slot ≡ get_or slots i 0 → AllByRecursion P slots → P slot
-slot_at P slots i slot within is all = subst P (sym is) (at slots i within all)
+pub held_push : (used : List ℕ) (old : SlotBlocks) (o : Option (List ℕ)) → (Contains used (length old) → IsSome o)
+    → ((slot : ℕ) → slot < length old → Contains used slot → IsHeld old slot)
+    → (slot : ℕ) → slot < length old + 1 → Contains used slot → IsHeld (old ++ o ∷ []) slot
+held_push used old o here before slot within there =
+    ⊎_elim (λ below. still (before slot below there) below) (λ past. last (omega (arith, within, past))) (cases_lt slot (length old))
   where
-    at : (xs : List ℕ) (k : ℕ) → k < length xs → AllByRecursion P xs → P (get_or xs k 0)
-    at [] k lt a = absurd (omega arith)
-    at (x ∷ xs) zero lt a = a.0
-    at (x ∷ xs) (suc k) lt a = at xs k (omega arith) a.1
+    still : IsHeld old slot → slot < length old → IsHeld (old ++ o ∷ []) slot
+    still (inl zero_block) below = inl zero_block
+    still (inr some) below = inr (subst (λ (x : Option (List ℕ)). IsSome x) (sym (get_or-append old (o ∷ []) None slot below)) some)
+
+    last : slot ≡ length old → IsHeld (old ++ o ∷ []) slot
+    last is = inr (subst (λ (x : Option (List ℕ)). IsSome x)
+        (sym (ap (λ (n : ℕ). get_or (old ++ o ∷ []) n None) is ∙ get_or-append_seam old o [] None))
+        (here (subst (λ (n : ℕ). Contains used n) is there)))
+
+-- ---- slots that versions name
+
+all_each : (P Q : ℕ → Type 0) (xs : List ℕ) → ((x : ℕ) → Contains xs x → Q x → P x) → AllByRecursion Q xs → AllByRecursion P xs
+all_each P Q [] each all = tt
+all_each P Q (x ∷ xs) each all = (each x (0, omega arith, refl) all.0, all_each P Q xs (λ y there. each y (later y there)) all.1)
+  where
+    later : (y : ℕ) → Contains xs y → Contains (x ∷ xs) y
+    later y (k, lt, e) = (suc k, omega (arith, lt), e)
+
+-- each of them is held, if those are that lie before the end
+pub all_held : (limits : Limits) (used : List ℕ) (blocks : SlotBlocks) (end : ℕ) → AllByRecursion (λ slot. is_slot limits slot ≡ true) used
+    → ((slot : ℕ) → slot < limits.slots → Contains used slot → slot < end)
+    → ((slot : ℕ) → slot < end → Contains used slot → IsHeld blocks slot) → AllByRecursion (IsHeld blocks) used
+all_held limits used blocks end are ends held = all_each (IsHeld blocks) (λ slot. is_slot limits slot ≡ true) used
+    (λ slot there is. by slot there (or_cases (eqb slot 4294967295) (ltb slot limits.slots) is)) are
+  where
+    by : (slot : ℕ) → Contains used slot → (eqb slot 4294967295 ≡ true) ⊎ (ltb slot limits.slots ≡ true) → IsHeld blocks slot
+    by slot there (inl zero_block) = inl zero_block
+    by slot there (inr lt) = held slot (ends slot (ltb-true slot limits.slots lt) there) there
+
+contained : (P : ℕ → Type 0) (xs : List ℕ) (x : ℕ) → AllByRecursion P xs → Contains xs x → P x
+contained P [] x all (k, lt, e) = absurd (omega (arith, lt))
+contained P (y ∷ ys) x all (zero, lt, e) = subst P e all.0
+contained P (y ∷ ys) x all (suc k, lt, e) = contained P ys x all.1 (k, omega (arith, lt), e)
+
+-- a slot that is named lies in the file, if all do
+pub named_inside : (shape : Shape) (size : ℕ) (used : List ℕ) (slot : ℕ) → slot < 4294967295 → Contains used slot
+    → AllByRecursion (IsInside shape size) used → HasSlot shape size slot
+named_inside shape size used slot small there all = by (contained (IsInside shape size) used slot all there)
+  where
+    by : IsInside shape size slot → HasSlot shape size slot
+    by (inl zero_block) = absurd (omega (arith, small, eqb-true slot 4294967295 zero_block))
+    by (inr has) = has
 
 -- ---- calls that read alone
 
@@ -97,12 +112,11 @@ same_both a b c first second = record {
   size = second.size ∙ first.size;
 }
 
--- what was read from this file was read from that one, where they are the same
-pub read_moved : (tells : Type 0) (shape shape_then : Shape) (size size_then : ℕ) (content content_then : List ℕ) (old new : BTreeMap ℕ (List ℕ))
-    → shape ≡ shape_then → size ≡ size_then → content ≡ content_then
-    → (AreRead tells shape size content old → AreRead tells shape size content new) → AreRead tells shape_then size_then content_then old
-    → AreRead tells shape_then size_then content_then new
-read_moved tells shape shape_then size size_then content content_then old new p q r step =
-    subst (λ (c : List ℕ). AreRead tells shape_then size_then c old → AreRead tells shape_then size_then c new) r
-    (subst (λ (n : ℕ). AreRead tells shape_then n content old → AreRead tells shape_then n content new) q
-    (subst (λ (s : Shape). AreRead tells s size content old → AreRead tells s size content new) p step))
+-- what was read of a later disk was read of the first one, where they are the same
+pub read_at_first : (tells : Type 0) (shape shape_then : Shape) (size size_then : ℕ) (content content_then : List ℕ) (slot : ℕ) (o : Option (List ℕ))
+    → shape ≡ shape_then → size ≡ size_then → content ≡ content_then → IfSome o (λ bytes. IsReadFrom tells shape size content slot bytes)
+    → IfSome o (λ bytes. IsReadFrom tells shape_then size_then content_then slot bytes)
+read_at_first tells shape shape_then size size_then content content_then slot o p q r here =
+    subst (λ (c : List ℕ). IfSome o (λ bytes. IsReadFrom tells shape_then size_then c slot bytes)) r
+    (subst (λ (n : ℕ). IfSome o (λ bytes. IsReadFrom tells shape_then n content slot bytes)) q
+    (subst (λ (s : Shape). IfSome o (λ bytes. IsReadFrom tells s size content slot bytes)) p here))
