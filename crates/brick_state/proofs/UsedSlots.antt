@@ -1,17 +1,12 @@
 -- The slots that versions name, stripe by stripe.
-use Rattle.std.proofs.Common.{◌≡◌, ℕ, Option, Some, Bool, true, false, cond, not, List, [], ◌∷◌, ◌++◌, map, refl, sym, ap, ◌∙◌, append_assoc}
-use Rattle.std.specs.List.{AllByRecursion, filter}
+use Rattle.std.proofs.Common.{◌≡◌, ℕ, Option, Some, true, List, [], ◌∷◌, ◌++◌, map}
+use Rattle.std.specs.List.{AllByRecursion}
 use Rattle.brick_state.specs.Entries.{Entry}
-use Rattle.brick_state.specs.declared.stripes.Stripe.{Stripe}
-use Rattle.brick_state.specs.States.{Place, StripeOf, StateOf, is_first, stripe_of}
+use Rattle.brick_state.specs.States.{Place, StripeOf, StateOf}
 use Rattle.brick_state.specs.Folds.{Limits, is_slot}
 use Rattle.brick_state.specs.Rewrites.{start_of}
 use Rattle.brick_state.specs.KeptStates.{Rises, IsKeptStripe, IsKeptState}
-use Rattle.brick_state.specs.Maps.{ViewKey, placed, flat, listed, is_listed, seen_entry}
-use Rattle.brick_state.specs.declared.view_tables.ViewTable.{ViewTable}
 use Rattle.brick_state.specs.Slots.{slot_of, slots_in, slots_of}
-use Rattle.brick_state.proofs.StripeMaps.{is_first-true}
-use Rattle.brick_state.proofs.ViewMaps.{listed-append}
 
 -- what holds of the slots holds of the slot of each version
 entries_each : (P : ℕ → Type 0) (entries : List Entry) (more : List ℕ) → AllByRecursion P (map slot_of entries ++ more)

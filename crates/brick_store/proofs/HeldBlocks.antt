@@ -1,12 +1,9 @@
 -- The blocks that are held in memory.
-use Rattle.std.proofs.Common.{◌≡◌, ◌⊎◌, inl, inr, ⊎_elim, ℕ, zero, suc, ◌+◌, ◌<◌, ◌≤◌, true, eqb, ltb, Option, Some, None, List, [], ◌∷◌, ◌++◌, length, get_or, refl, sym, ap, subst, ◌∙◌, arith}
+use Rattle.std.proofs.Common.{◌≡◌, ◌≢◌, ◌⊎◌, inl, inr, ⊎_elim, ℕ, zero, suc, ◌+◌, ◌<◌, ◌≤◌, true, eqb, ltb, Option, Some, List, [], ◌∷◌, refl, sym, ap, subst, ◌∙◌, arith}
 use Rattle.std.specs.List.{AllByRecursion, Contains}
-use Rattle.std.specs.Option.{IsSome, IfSome}
-use Rattle.std.proofs.lemmas.Bool.{or_cases, ltb-true, eqb-true, cases_lt}
-use Rattle.std.proofs.lemmas.Option.{same_Some, none-some}
-use Rattle.std.proofs.lemmas.List.{length_push}
-use Rattle.std.proofs.Math.ListN.{get_or-eq_default, get_or-append}
-use Rattle.std.proofs.Math.Seq.{get_or-append_seam}
+use Rattle.std.specs.Option.{IsSome}
+use Rattle.std.proofs.lemmas.Bool.{or_cases, ltb-true, eqb-true, cases_eq, cases_lt}
+use Rattle.std.proofs.lemmas.Option.{same_Some}
 use Rattle.fab_disk.specs.Disk.{IsUntouched}
 use Rattle.frame_store.specs.declared.shapes.Shape.{Shape}
 use Rattle.frame_store.specs.Images.{HasSlot}
@@ -15,45 +12,41 @@ use Rattle.brick_state.specs.Folds.{Limits, is_slot}
 use Rattle.brick_store.specs.BlockTables.{SlotBlocks, block_under}
 use Rattle.brick_store.specs.Openings.{IsHeld, IsReadFrom, AreRead, IsInside}
 
--- none is held yet
-pub none_read : (tells : Type 0) (shape : Shape) (size : ℕ) (content : List ℕ) → AreRead tells shape size content []
-none_read tells shape size content slot bytes found = absurd (none-some bytes (sym (get_or-eq_default {A = Option (List ℕ)} [] None {n = slot} (omega arith)) ∙ found))
+-- what is held after one block more: that one, and what was held before
+module _ (old new : SlotBlocks) (k : ℕ) (v : List ℕ) (there : block_under new k ≡ Some v)
+    (others : (other : ℕ) → other ≢ k → block_under new other ≡ block_under old other) where
+  cases : (slot : ℕ) → (slot ≡ k) ⊎ (slot ≢ k)
+  cases slot = cases_eq slot k
 
--- one slot more
-pub read_push : (tells : Type 0) (shape : Shape) (size : ℕ) (content : List ℕ) (old : SlotBlocks) (o : Option (List ℕ))
-    → IfSome o (λ bytes. IsReadFrom tells shape size content (length old) bytes) → AreRead tells shape size content old
-    → AreRead tells shape size content (old ++ o ∷ [])
-read_push tells shape size content old o here all slot bytes found =
-    ⊎_elim (λ below. all slot bytes (sym (get_or-append old (o ∷ []) None slot below) ∙ found))
-    (λ past. ⊎_elim (λ lt. last (omega (arith, past, lt))) (λ end. absurd (none-some bytes (sym (beyond end) ∙ found))) (cases_lt slot (length old + 1)))
-    (cases_lt slot (length old))
-  where
-    at_last : (o : Option (List ℕ)) → IfSome o (λ b. IsReadFrom tells shape size content (length old) b) → o ≡ Some bytes
-        → IsReadFrom tells shape size content (length old) bytes
-    at_last None h is = absurd cc
-    at_last (Some b) h is = subst (λ (x : List ℕ). IsReadFrom tells shape size content (length old) x) (same_Some _ _ is) h
+  pub read_more : (tells : Type 0) (shape : Shape) (size : ℕ) (content : List ℕ) → IsReadFrom tells shape size content k v
+      → AreRead tells shape size content old → AreRead tells shape size content new
+  read_more tells shape size content here all slot bytes found = ⊎_elim at away (cases slot)
+    where
+      at : slot ≡ k → IsReadFrom tells shape size content slot bytes
+      at is = subst (λ (b : List ℕ). IsReadFrom tells shape size content slot b)
+          (same_Some _ _ (sym there ∙ ap (λ (n : ℕ). block_under new n) (sym is) ∙ found))
+          (subst (λ (n : ℕ). IsReadFrom tells shape size content n v) (sym is) here)
 
-    last : slot ≡ length old → IsReadFrom tells shape size content slot bytes
-    last is = subst (λ (n : ℕ). IsReadFrom tells shape size content n bytes) (sym is)
-        (at_last o here (sym (get_or-append_seam old o [] None) ∙ ap (λ (n : ℕ). get_or (old ++ o ∷ []) n None) (sym is) ∙ found))
+      away : slot ≢ k → IsReadFrom tells shape size content slot bytes
+      away other = all slot bytes (sym (others slot other) ∙ found)
 
-    beyond : length old + 1 ≤ slot → get_or (old ++ o ∷ []) slot None ≡ None
-    beyond end = get_or-eq_default (old ++ o ∷ []) None {n = slot} (omega (arith, end, length_push old o))
+  pub held_still : (other : ℕ) → IsHeld old other → IsHeld new other
+  held_still other (inl zero_block) = inl zero_block
+  held_still other (inr some) = ⊎_elim at away (cases other)
+    where
+      at : other ≡ k → IsHeld new other
+      at is = inr (subst (λ (o : Option (List ℕ)). IsSome o) (sym (ap (λ (n : ℕ). block_under new n) is ∙ there)) refl)
 
-pub held_push : (used : List ℕ) (old : SlotBlocks) (o : Option (List ℕ)) → (Contains used (length old) → IsSome o)
-    → ((slot : ℕ) → slot < length old → Contains used slot → IsHeld old slot)
-    → (slot : ℕ) → slot < length old + 1 → Contains used slot → IsHeld (old ++ o ∷ []) slot
-held_push used old o here before slot within there =
-    ⊎_elim (λ below. still (before slot below there) below) (λ past. last (omega (arith, within, past))) (cases_lt slot (length old))
-  where
-    still : IsHeld old slot → slot < length old → IsHeld (old ++ o ∷ []) slot
-    still (inl zero_block) below = inl zero_block
-    still (inr some) below = inr (subst (λ (x : Option (List ℕ)). IsSome x) (sym (get_or-append old (o ∷ []) None slot below)) some)
+      away : other ≢ k → IsHeld new other
+      away apart = inr (subst (λ (o : Option (List ℕ)). IsSome o) (sym (others other apart)) some)
 
-    last : slot ≡ length old → IsHeld (old ++ o ∷ []) slot
-    last is = inr (subst (λ (x : Option (List ℕ)). IsSome x)
-        (sym (ap (λ (n : ℕ). get_or (old ++ o ∷ []) n None) is ∙ get_or-append_seam old o [] None))
-        (here (subst (λ (n : ℕ). Contains used n) is there)))
+-- one slot more was looked at
+pub held_more : (used : List ℕ) (old new : SlotBlocks) (k : ℕ) → ((other : ℕ) → IsHeld old other → IsHeld new other)
+    → (Contains used k → IsHeld new k) → ((slot : ℕ) → slot < k → Contains used slot → IsHeld old slot)
+    → (slot : ℕ) → slot < k + 1 → Contains used slot → IsHeld new slot
+held_more used old new k others here before slot within there =
+    ⊎_elim (λ below. others slot (before slot below there))
+    (λ past. subst (λ (n : ℕ). Contains used n → IsHeld new n) (omega (arith, within, past)) here there) (cases_lt slot k)
 
 -- ---- slots that versions name
 
@@ -112,11 +105,12 @@ same_both a b c first second = record {
   size = second.size ∙ first.size;
 }
 
--- what was read of a later disk was read of the first one, where they are the same
-pub read_at_first : (tells : Type 0) (shape shape_then : Shape) (size size_then : ℕ) (content content_then : List ℕ) (slot : ℕ) (o : Option (List ℕ))
-    → shape ≡ shape_then → size ≡ size_then → content ≡ content_then → IfSome o (λ bytes. IsReadFrom tells shape size content slot bytes)
-    → IfSome o (λ bytes. IsReadFrom tells shape_then size_then content_then slot bytes)
-read_at_first tells shape shape_then size size_then content content_then slot o p q r here =
-    subst (λ (c : List ℕ). IfSome o (λ bytes. IsReadFrom tells shape_then size_then c slot bytes)) r
-    (subst (λ (n : ℕ). IfSome o (λ bytes. IsReadFrom tells shape_then n content slot bytes)) q
-    (subst (λ (s : Shape). IfSome o (λ bytes. IsReadFrom tells s size content slot bytes)) p here))
+-- what was read from this file was read from that one, where they are the same
+pub read_moved : (tells : Type 0) (shape shape_then : Shape) (size size_then : ℕ) (content content_then : List ℕ) (old new : SlotBlocks)
+    → shape ≡ shape_then → size ≡ size_then → content ≡ content_then
+    → (AreRead tells shape size content old → AreRead tells shape size content new) → AreRead tells shape_then size_then content_then old
+    → AreRead tells shape_then size_then content_then new
+read_moved tells shape shape_then size size_then content content_then old new p q r step =
+    subst (λ (c : List ℕ). AreRead tells shape_then size_then c old → AreRead tells shape_then size_then c new) r
+    (subst (λ (n : ℕ). AreRead tells shape_then n content old → AreRead tells shape_then n content new) q
+    (subst (λ (s : Shape). AreRead tells s size content old → AreRead tells s size content new) p step))

@@ -1,6 +1,6 @@
 //! The blocks that are held in memory, by their slots.
 
-ghost use Rattle.std.specs.Prelude.{◌≡◌, ◌≢◌, ◌≤◌, ◌<◌, ◌++◌, ◌∷◌, ℕ, [], Some, IfOk, OnOk, length, option_copied, slice_set};
+ghost use Rattle.std.specs.Prelude.{◌≡◌, ◌≢◌, ◌≤◌, ◌<◌, ℕ, [], Some, IfOk, OnOk, length, option_copied, slice_set};
 ghost use Rattle.brick_store.specs.BlockTables.{block_under};
 
 use fab_base::{Bytes, NoMem};
@@ -42,14 +42,6 @@ impl BlockTable {
         }
     }
 
-    /// Adds the next slot, with its block if it has one.
-    pub fn push(&mut self, block: Option<Bytes>) -> Result<(), NoMem>
-        ensures { OnOk result (self.new ≡ self.old ++ block ∷ []) }
-    {
-        self.blocks.push(block)?;
-        Ok(())
-    }
-
     /// Holds a block under a slot, in the place of what was held there.
     pub fn hold(&mut self, slot: u32, block: Bytes) -> Result<(), NoMem>
         ensures held { OnOk result (block_under self.new slot ≡ Some block) }
@@ -72,6 +64,7 @@ impl BlockTable {
     }
 
     // Makes it a table of so many slots at least: none is held under those that are new.
+    #[tactic(auto, using(crate::proofs::BlockTables::under_push))]
     fn lengthen(&mut self, slots: usize) -> Result<(), NoMem>
         ensures same { (slot : ℕ) → block_under self.new slot ≡ block_under self.old slot }
         ensures long { OnOk result (slots ≤ length self.new) }

@@ -1,6 +1,6 @@
 //! Reading the blocks of versions into memory.
 
-ghost use Rattle.std.specs.Prelude.{◌≡◌, ◌≢◌, ◌<◌, false, Err, IfOk, IfSome, IsOk, IsSome, length};
+ghost use Rattle.std.specs.Prelude.{◌≡◌, ◌≢◌, ◌<◌, ℕ, false, Err, IfOk, OnOk, IsOk, length};
 ghost use Rattle.std.specs.List.{AllByRecursion, Contains};
 ghost use Rattle.fab_disk.specs.Disk.{IsUntouched, Kept};
 ghost use Rattle.fab_disk.specs.Plan.{KeepsPlan};
@@ -9,7 +9,7 @@ ghost use Rattle.frame_store.specs.Stores.{IsRead, IsSame};
 ghost use Rattle.brick_state.specs.Indexes.{state_of, limits_of};
 ghost use Rattle.brick_state.specs.KeptStates.{IsKeptState};
 ghost use Rattle.brick_state.specs.Slots.{slots_of};
-ghost use Rattle.brick_store.specs.Openings.{IsHeld, IsReadFrom, AreRead, IsInside};
+ghost use Rattle.brick_store.specs.Openings.{IsHeld, AreRead, IsInside};
 
 use crate::block_tables::BlockTable;
 use crate::faults::OpenFault;
@@ -49,20 +49,22 @@ fn read_block<D: Disk>(
     Ok(Bytes::from_vec(bytes))
 }
 
-// Reads the block in a slot that a version names. None where none names it.
-fn read_named<D: Disk>(
+// Reads the block in a slot into memory, where a version names it.
+fn hold_block<D: Disk>(
     alloc: Global,
     frames: &mut FrameStore<D>,
     index: &Index,
+    blocks: &mut BlockTable,
     block: u16,
     slot: u32,
-) -> Result<Option<Bytes>, OpenFault>
+) -> Result<(), OpenFault>
     requires block { block ≡ frames.old.shape.block }
     requires runs { frames.old.halted ≡ false }
     requires slot { (slot < (limits_of index.now).slots) × (slot < 4294967295) }
-    ensures held { IfOk result (λ read. Contains (slots_of (state_of index.now)) slot → IsSome read) }
-    ensures read { IfOk result (λ read. IfSome read (λ bytes.
-        IsReadFrom D.tells frames.old.shape frames.old.size (D.seen frames.old.disk) slot bytes)) }
+    ensures held { OnOk result (Contains (slots_of (state_of index.now)) slot → IsHeld blocks.new slot) }
+    ensures others { OnOk result ((other : ℕ) → IsHeld blocks.old other → IsHeld blocks.new other) }
+    ensures read { OnOk result (AreRead D.tells frames.old.shape frames.old.size (D.seen frames.old.disk) blocks.old
+        → AreRead D.tells frames.old.shape frames.old.size (D.seen frames.old.disk) blocks.new) }
     ensures same { IsSame frames.old frames.new }
     ensures untouched { IsUntouched D.seen D.may_leave D.moment D.left_since frames.old.disk frames.new.disk }
     ensures certain { D.certain frames.new.disk ≡ D.certain frames.old.disk }
@@ -74,10 +76,11 @@ fn read_named<D: Disk>(
         (result ≡ Err OpenFault.Disk) }
 {
     if !index.is_named(slot) {
-        return Ok(None);
+        return Ok(());
     }
     let bytes = read_block(alloc, frames, block, slot)?;
-    Ok(Some(bytes))
+    blocks.hold(slot, bytes)?;
+    Ok(())
 }
 
 /// Reads the blocks that versions name into memory, in the order of their slots.
@@ -102,11 +105,9 @@ pub(crate) fn read_blocks<D: Disk>(
     ensures cause { Kept (D.faults frames.old.disk) (D.faults frames.new.disk) (D.sound frames.old.disk) (D.sound frames.new.disk)
         (result ≡ Err OpenFault.Disk) }
 {
-    let slots = index.named_end();
-    let mut blocks = BlockTable::with_room(alloc, slots as usize)?;
-    for slot in 0..slots {
-        let read = read_named(alloc, frames, index, block, slot)?;
-        blocks.push(read)?;
+    let mut blocks = BlockTable::with_room(alloc, index.live() as usize)?;
+    for slot in 0..index.named_end() {
+        hold_block(alloc, frames, index, &mut blocks, block, slot)?;
     }
     Ok(blocks)
 }

@@ -1,11 +1,11 @@
 -- A version that is added in its view is added among all stripes.
-use Rattle.std.proofs.Common.{◌≡◌, Some, sym, ap, subst, ◌∙◌, rules, arith}
+use Rattle.std.proofs.Common.{◌≡◌, sym, ap, subst, ◌∙◌, rules, arith}
 use Rattle.std.proofs.lemmas.Option.{same_Some}
 use Rattle.std.specs.Ordering.{nat_cmp}
 use Rattle.std.specs.Map.{lookup}
 use Rattle.std.specs.BTreeMap.{is_at}
 use Rattle.brick_state.specs.declared.view_tables.ViewTable.{ViewTable}
-use Rattle.brick_state.specs.States.{StripeOf, newest_entry, stripe_of, with_added}
+use Rattle.brick_state.specs.States.{StripeOf, newest_entry, with_added}
 use Rattle.brick_state.specs.Entries.{Entry}
 use Rattle.brick_state.specs.Folds.{is_above}
 use Rattle.std.proofs.Common.{true}

@@ -1,4 +1,4 @@
-use Rattle.std.proofs.Common.{◌≡◌, ◌<◌, ℕ, false, length}
+use Rattle.std.proofs.Common.{◌≡◌, ◌<◌, ℕ, false}
 use Rattle.std.specs.List.{Contains}
 use Rattle.fab_disk.specs.Disk.{IsUntouched, Kept}
 use Rattle.fab_disk.specs.Plan.{KeepsPlan}
@@ -10,8 +10,7 @@ use Rattle.brick_store.proofs.caches.read_blocks.Given as goal
 
 abbrev pub invariant-loop-slot : goal.invariant-loop-slot
 invariant-loop-slot g l = record {
-  long : length l.blocks ≡ l.slot;
-  held : (slot : ℕ) → slot < length l.blocks → Contains (slots_of (state_of l.index)) slot → IsHeld l.blocks slot;
+  held : (slot : ℕ) → slot < l.slot → Contains (slots_of (state_of l.index)) slot → IsHeld l.blocks slot;
   read : AreRead g.D.Disk.tells l.fn.frames.shape l.fn.frames.size (g.D.Disk.seen l.fn.frames.disk) l.blocks;
   same : IsSame l.fn.frames l.frames;
   untouched : IsUntouched g.D.Disk.seen g.D.Disk.may_leave g.D.Disk.moment g.D.Disk.left_since l.fn.frames.disk l.frames.disk;

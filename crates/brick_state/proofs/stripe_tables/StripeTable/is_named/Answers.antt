@@ -1,5 +1,5 @@
 -- A slot is named where its count is not 0.
-use Rattle.std.proofs.Common.{◌≡◌, true, ltb, sym, ◌∙◌}
+use Rattle.std.proofs.Common.{sym, ◌∙◌}
 use Rattle.std.proofs.lemmas.Bool.{lt-ltb, ltb-true}
 use Rattle.brick_state.specs.Maps.{listed_in}
 use Rattle.brick_state.proofs.Tallies.{taken_named, named_taken}

@@ -4,6 +4,6 @@ use Rattle.brick_store.proofs.block_tables.BlockTable.lengthen.Given as goal
 
 abbrev pub invariant-loop : goal.invariant-loop
 invariant-loop l = record {
-  same : (slot : ℕ) → block_under l.self.blocks.items slot ≡ block_under l.fn.self.blocks.items slot;
-  long : l.counter ≤ length l.self.blocks.items;
+  same : (slot : ℕ) → block_under l.self-inside.blocks.items slot ≡ block_under l.fn.self slot;
+  long : l.counter ≤ length l.self-inside.blocks.items;
 }
