@@ -143,13 +143,13 @@ module _ {D : Type 0} (tells : Type 0) (seen : D → List ℕ) (held : Held D) (
       → (tells → Shows seen held) → st.boot < 2 ^ 32 - 1
       → IsLoaded tells held.shape held.frames (seen held.disk) limits st whole blocks
   loaded_from limits blocks limits_are all read shows boots = record {
-        limits_are = limits_are;
-        fold = fold;
-        kept = kept_in_shape;
-        held = all_cached tells held.shape held.size (seen held.disk) blocks read st all;
-        stored = λ told. all_stored tells held.shape held.size (seen held.disk) blocks read told (shows told).size st all;
-        boots = boots;
-      }
+    limits_are = limits_are;
+    fold = fold;
+    kept = kept_in_shape;
+    held = all_cached tells held.shape held.size (seen held.disk) blocks read st all;
+    stored = λ told. all_stored tells held.shape held.size (seen held.disk) blocks read told (shows told).size st all;
+    boots = boots;
+  }
 
   -- the same of a reading of the blocks that may have failed
   pub loaded_if : (limits : Limits) (r : Result SlotBlocks OpenFault) → limits ≡ limits_of held.shape

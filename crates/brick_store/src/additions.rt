@@ -18,11 +18,7 @@ use fab_base::Bytes;
 ///
 /// # Errors
 /// [`StoreFault::NoMemory`].
-pub fn hold_new(
-    index: &Index,
-    blocks: &mut BlockTable,
-    block: Bytes,
-) -> Result<u32, StoreFault>
+pub fn hold_new(index: &Index, blocks: &mut BlockTable, block: Bytes) -> Result<u32, StoreFault>
     requires free { live (state_of index.now) < (limits_of index.now).slots }
     ensures slot { IfOk result (λ slot. slot < (limits_of index.now).slots) }
     ensures unnamed { IfOk result (λ slot. AllSlots (λ other. other ≢ slot) (state_of index.now)) }

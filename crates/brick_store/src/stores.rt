@@ -12,8 +12,8 @@ ghost use Rattle.brick_store.specs.Sizes.{ballots_size, body_size, view_size, kn
 ghost use Rattle.brick_store.specs.Changes.{Answers};
 ghost use Rattle.brick_store.specs.Ends.{end_of, BrickChange};
 
-use crate::block_tables::BlockTable;
 use crate::additions::{forget_refused, held_under, hold_new};
+use crate::block_tables::BlockTable;
 use crate::commits::{commit, ready};
 use crate::faults::StoreFault;
 use crate::index_steps::{accepted_of, adds_stamp, learnt_view};
