@@ -8,7 +8,7 @@ use Rattle.brick_state.specs.Indexes.{state_of, limits_of}
 use Rattle.brick_state.specs.Maps.{listed_in, AnswersAt}
 use Rattle.brick_state.proofs.Applying.{log_changed-slots, placed_answer, tested, with_stripes}
 use Rattle.brick_state.proofs.Tallies.{full_fits}
-use Rattle.brick_state.proofs.indexes.Index.change_log.Goals as goal
+use Rattle.brick_state.proofs.indexes.Index.change_any_log.Goals as goal
 
 pub returns-clause-answer : goal.returns-clause-answer
 returns-clause-answer c =
