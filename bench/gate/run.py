@@ -7,7 +7,8 @@ Runs `rt ci` in this repository, which proves all from nothing, whatever earlier
 FILE (bench/gate/printed, if it isn't given), and then prints the processor seconds (user and system) of each crate's proof with its programs' builds,
 of the tools that those started (LLVM and linkers), and of its wrong bodies, and the sum that the system counts for the whole run.
 It looks at the running checks each half second, so that the last half second of each is missing: the sum of the crates is some hundredths less
-than the whole. Run it with nothing else on the machine. It ends with the status of `rt ci`.
+than the whole. Checks that others run beside it don't count, but they slow its processors: run it with nothing else on the machine, or compare by
+`layout`. It ends with the status of `rt ci`.
 """
 
 import collections
@@ -46,14 +47,22 @@ def is_check(words):
     return words[0].endswith("/rattle") and "--crate-name" in words
 
 
+def is_ours(found, name):
+    """Whether this process was started, maybe by others between, by this one."""
+    while name in found and name != str(os.getpid()):
+        name = found[name][0]
+    return name in found
+
+
 def running_checks():
-    """Each running check and each tool that one started: its process and when that began, its crate, what it counts for, and its seconds."""
+    """Each check that this run started, and each tool that one started: its process and when that began, its crate, what it counts for, and its
+    seconds."""
     found = running()
     for name, (_, begun, own, _, seconds) in found.items():
         above = name
         while above in found and not is_check(found[above][2]):
             above = found[above][0]
-        if above in found:
+        if above in found and is_ours(found, above):
             _, _, words, folder, _ = found[above]
             kind = "wrong bodies" if "rt-edit" in folder else "proof" if is_check(own) else "tools"
             yield (name, begun), words[words.index("--crate-name") + 1], kind, seconds

@@ -26,7 +26,7 @@ use Rattle.protocol_laws.proofs.Sorting.{ascending_permutation}
 use Rattle.reg_model.proofs.StripeLives.{life_filtered}
 use Rattle.world.specs.declared.histories.OperationRecord.{OperationRecord}
 use Rattle.world.specs.Shown.{TellsOperation}
-use Rattle.world.specs.Walks.{KeepsAll, BeginsAgree, BeginAsMarked, op_that, operation_of, operations_of, begin_at}
+use Rattle.world.specs.Walks.{KeepsAll, BeginsAgree, BeginAsMarked, op_that, operation_of, operations_of, begin_at, placed, happenings_from}
 
 -- stands for an operation of which nothing is kept
 abbrev pub nothing_kept : OperationRecord
@@ -216,16 +216,6 @@ module _ (operations : List OperationRecord) (w : World) (are : KeepsAll operati
       λ k e lt. begin_same begins (get_or walk k e)
       (let near : IsUpTo w.begun (get_or walk k e) = upto k e lt in (near.0, (let begun = are.begun in omega (arith, near.1)))) (ours k e lt)
 
--- from the operations that a world keeps, and the entries of a stripe, comes the walk along its versions
-pub kept_walk : (operations : List OperationRecord) (w : World) (g s : ℕ) → KeepsAll operations w
-    → (effect_of (operations_of operations) (ascending (entries_to w.operations g s w.begun))).told ≡ walk_of w g s
-kept_walk operations w g s are = walk_same operations w are nothing_kept g s
-
--- and the operations of the walk begin where the marks of the stripe say
-pub kept_begins : (operations : List OperationRecord) (w : World) (g s : ℕ) → KeepsAll operations w → BeginsAgree w
-    → BeginAsMarked (operations_of operations) (stripe_marks g s w.marks) (walk_of w g s)
-kept_begins operations w g s are begins = walk_begins operations w are nothing_kept g s begins
-
 -- the entries of a world, from the operations that are kept
 pub kept_entries : (operations : List OperationRecord) (w : World) (g s : ℕ) → KeepsAll operations w
     → entries_to (operations_of operations) g s (length operations) ≡ entries_to w.operations g s w.begun
@@ -233,23 +223,39 @@ kept_entries operations w g s are =
     entries_same operations w are nothing_kept g s (length operations) (omega arith)
     ∙ ap (λ (m : ℕ). entries_to w.operations g s m) are.begun
 
--- the happenings of a stripe, along its walk
-pub happenings_are : (w : World) (g s : ℕ) → positioned (stripe_marks g s w.marks) 0 (walk_of w g s) ≡ happenings_of w g s
-unfolding happenings_of
-happenings_are w g s = refl
-
 -- one happening more, along a walk
-pub positioned_more : (marks : List Mark) (done : List Happening) (p q b : ℕ) (walk : List Entry) (i : ℕ) (e : Entry) → i < length walk
-    → b ≡ begin_of (life_of marks (get_or walk i e).operation) → q ≡ max p b
-    → (done ++ record { operation = (get_or walk i e).operation; position = q } ∷ []) ++ positioned marks q (drop (i + 1) walk)
-    ≡ done ++ positioned marks p (drop i walk)
-positioned_more marks done p q b walk i e within begins greatest =
+pub placed_more : (operations : ℕ → Option Operation) (done : List Happening) (p q b : ℕ) (walk : List Entry) (i : ℕ) (e : Entry) → i < length walk
+    → b ≡ begin_at (operations (get_or walk i e).operation) → q ≡ max p b
+    → (done ++ record { operation = (get_or walk i e).operation; position = q } ∷ []) ++ placed operations q (drop (i + 1) walk)
+    ≡ done ++ placed operations p (drop i walk)
+placed_more operations done p q b walk i e within begins greatest =
     let next : Entry = get_or walk i e in
-    let place : q ≡ max p (begin_of (life_of marks next.operation)) = greatest ∙ ap (λ (n : ℕ). max p n) begins in
+    let place : q ≡ max p (begin_at (operations next.operation)) = greatest ∙ ap (λ (n : ℕ). max p n) begins in
     append_assoc done _ _
-    ∙ ap (λ (n : ℕ). done ++ (record { operation = next.operation; position = n } ∷ positioned marks n (drop (i + 1) walk))) place
-    ∙ ap (λ (n : ℕ). done ++ (positioned marks p (next ∷ drop n walk))) (add-one i)
-    ∙ ap (λ (l : List Entry). done ++ positioned marks p l) (sym (drop-cons walk i e within))
+    ∙ ap (λ (n : ℕ). done ++ (record { operation = next.operation; position = n } ∷ placed operations n (drop (i + 1) walk))) place
+    ∙ ap (λ (n : ℕ). done ++ (placed operations p (next ∷ drop n walk))) (add-one i)
+    ∙ ap (λ (l : List Entry). done ++ placed operations p l) (sym (drop-cons walk i e within))
+
+-- where the operations begin as the marks say, the happenings are at the same positions
+placed_as_marked : (operations : ℕ → Option Operation) (marks : List Mark) (p : ℕ) (walk : List Entry) → BeginAsMarked operations marks walk
+    → placed operations p walk ≡ positioned marks p walk
+placed_as_marked operations marks p [] begin = refl
+placed_as_marked operations marks p (e ∷ walk) begin =
+    let IsAsMarked : Entry → Type 0 = λ x. begin_at (operations x.operation) ≡ begin_of (life_of marks x.operation) in
+    let position : ℕ = max p (begin_at (operations e.operation)) in
+    ap (λ (l : List Happening). record { operation = e.operation; position = position } ∷ l)
+    (placed_as_marked operations marks position walk (All-tail IsAsMarked e walk begin))
+    ∙ ap (λ (n : ℕ). record { operation = e.operation; position = max p n } ∷ positioned marks (max p n) walk)
+    (All-head IsAsMarked e walk begin)
+
+-- what the operations that a world keeps tell of a stripe is what the world tells
+pub kept_happenings : (operations : List OperationRecord) (w : World) (g s : ℕ) → KeepsAll operations w → BeginsAgree w
+    → happenings_from operations (entries_to w.operations g s w.begun) ≡ happenings_of w g s
+unfolding happenings_of
+kept_happenings operations w g s are begins =
+    let marks : List Mark = stripe_marks g s w.marks in
+    ap (λ (l : List Entry). placed (operations_of operations) 0 l) (walk_same operations w are nothing_kept g s)
+    ∙ placed_as_marked (operations_of operations) marks 0 (walk_of w g s) (walk_begins operations w are nothing_kept g s begins)
 
 -- where the books hold, operations begin where the marks of their stripes say
 pub begins_from_books : (setting : Setting) (w : World) → Books setting w → BeginsAgree w

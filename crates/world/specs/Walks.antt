@@ -1,6 +1,6 @@
 -- What the operations that a world keeps say of the machine's world: enough to tell the happenings of a
 -- stripe.
-use Rattle.std.specs.Prelude.{◌≡◌, ℕ, zero, suc, Bool, if◌then◌else◌, List, [], length, reverse, Option, Some, None, option_map, unwrap_or, slice_get}
+use Rattle.std.specs.Prelude.{◌≡◌, ℕ, zero, suc, Bool, if◌then◌else◌, max, List, [], ◌∷◌, length, reverse, Option, Some, None, option_map, unwrap_or, slice_get}
 use Rattle.std.specs.declared.cmp.Ordering.{Ordering}
 use Rattle.std.specs.Ordering.{nat_cmp, ordering_then}
 use Rattle.std.specs.BTreeMap.{get}
@@ -10,12 +10,13 @@ use Rattle.fab_base.specs.declared.asks.Op.{Op}
 use Rattle.fab_base.specs.declared.asks.Op.TheVariants.{ReadStripe, WriteStripe}
 use Rattle.fab_base.specs.Stamps.{first_stamp}
 use Rattle.reg_model.specs.declared.entries.Entry.{Entry}
+use Rattle.reg_model.specs.declared.marks.Happening.{Happening}
 use Rattle.reg_model.specs.declared.marks.Mark.{Mark}
 use Rattle.fab_base.specs.declared.stamps.Stamp.{Stamp}
 use Rattle.reg_model.specs.Marks.{life_of, stripe_marks}
 use Rattle.reg_model.specs.Walk.{begin_of}
 use Rattle.protocol.specs.Worlds.{World, Operation}
-use Rattle.protocol.specs.Happenings.{Effect, entries_to, is_among}
+use Rattle.protocol.specs.Happenings.{Effect, ascending, effect_of, entries_to, is_among}
 use Rattle.protocol_laws.specs.Marked.{OwnMarks}
 use Rattle.world.specs.declared.histories.OperationRecord.{OperationRecord}
 use Rattle.world.specs.declared.stripe_entries.StripeEntries.{StripeEntries}
@@ -70,6 +71,18 @@ begin_at (Some o) = o.begin
 abbrev pub BeginAsMarked : (ℕ → Option Operation) → List Mark → List Entry → Type 0
 BeginAsMarked operations marks entries =
     All (λ (e : Entry). begin_at (operations e.operation) ≡ begin_of (life_of marks e.operation)) entries
+
+-- each entry's operation happens at the greatest begin so far, p or one of those up to its own
+abbrev pub placed : (ℕ → Option Operation) → ℕ → List Entry → List Happening
+placed operations p [] = []
+placed operations p (e ∷ entries) =
+    let position = max p (begin_at (operations e.operation)) in
+    record { operation = e.operation; position = position } ∷ placed operations position entries
+
+-- the happenings that kept operations tell of the entries of a stripe
+abbrev pub happenings_from : List OperationRecord → List Entry → List Happening
+happenings_from operations entries =
+    placed (operations_of operations) 0 (effect_of (operations_of operations) (ascending entries)).told
 
 -- the entries of a stripe among those that were gathered
 abbrev pub entries_at : StripeEntries → ℕ → ℕ → List Entry

@@ -1,11 +1,8 @@
 //! The walk along a stripe's effective versions, and the happenings that it gives.
 
-ghost use Rattle.std.specs.Prelude.{◌≡◌, ℕ, List, IfOk, reverse, option_map, option_copied, option_to_list};
-ghost use Rattle.reg_model.specs.declared.marks.Mark.{Mark};
-ghost use Rattle.reg_model.specs.Walk.{positioned};
-ghost use Rattle.protocol.specs.Worlds.{World};
-ghost use Rattle.protocol.specs.Happenings.{entries_to, ascending, effect_of, was_answered, is_told, base_of, needs, happenings_of};
-ghost use Rattle.world.specs.Walks.{KeepsAll, BeginsAgree, BeginAsMarked, HasSwept, operation_of, operations_of, begin_at};
+ghost use Rattle.std.specs.Prelude.{◌≡◌, IfOk, reverse, option_map, option_copied, option_to_list};
+ghost use Rattle.protocol.specs.Happenings.{ascending, effect_of, was_answered, is_told, base_of, needs};
+ghost use Rattle.world.specs.Walks.{HasSwept, operation_of, operations_of, begin_at, placed, happenings_from};
 
 use crate::histories::OperationRecord;
 use fab_base::{NoMem, Stamp};
@@ -176,8 +173,7 @@ fn along(
     operations: &[OperationRecord],
     walk: &[Entry],
 ) -> Result<Vec<Happening>, NoMem>
-    ensures { IfOk result (λ happenings. (marks : List Mark) → BeginAsMarked (operations_of operations.now) marks walk.now
-        → happenings.items ≡ positioned marks 0 walk.now) }
+    ensures { IfOk result (λ happenings. happenings.items ≡ placed (operations_of operations.now) 0 walk.now) }
 {
     let mut happenings = Vec::new(alloc);
     let mut position = 0;
@@ -199,8 +195,7 @@ pub fn happenings(
     operations: &[OperationRecord],
     entries: &[Entry],
 ) -> Result<Vec<Happening>, NoMem>
-    ensures { IfOk result (λ happenings. (w : World) (g s : ℕ) → KeepsAll operations.now w → BeginsAgree w
-        → entries.now ≡ entries_to w.operations g s w.begun → happenings.items ≡ happenings_of w g s) }
+    ensures { IfOk result (λ happenings. happenings.items ≡ happenings_from operations.now entries.now) }
 {
     let walk = walk(alloc, operations, entries)?;
     along(alloc, operations, &walk)

@@ -2,16 +2,16 @@
 use Rattle.std.proofs.Common.{◌≡◌, ◌+◌, ◌<◌, ◌++◌, List, length, drop, ap, ◌∙◌, max, arith}
 use Rattle.std.proofs.lemmas.Bool.Decides.{nat_tests}
 use Rattle.reg_model.specs.declared.marks.Happening.{Happening}
-use Rattle.reg_model.specs.Walk.{positioned}
-use Rattle.world.proofs.KeptOperations.{positioned_more}
+use Rattle.world.specs.Walks.{operations_of, placed}
+use Rattle.world.proofs.KeptOperations.{placed_more}
 use Rattle.world.proofs.walks.along.Goals as goal
 
 pub loop-entry-preserved : goal.loop-entry-preserved
-loop-entry-preserved c marks begin =
+loop-entry-preserved c =
     let within : c.loop-entry.entry-index < length c.args.walk.now = omega arith in
     let greatest : c.max-position.result ≡ max c.loop-entry.position c.begin_of.result = grind (arith, nat_tests, c.max-position.ensures) in
-    ap (λ (l : List Happening). l ++ positioned marks c.max-position.result (drop (c.loop-entry.entry-index + 1) c.args.walk.now))
+    ap (λ (l : List Happening). l ++ placed (operations_of c.args.operations.now) c.max-position.result (drop (c.loop-entry.entry-index + 1) c.args.walk.now))
     c.in_ok-push.ensures.items
-    ∙ positioned_more marks c.loop-entry.happenings.items c.loop-entry.position c.max-position.result c.begin_of.result c.args.walk.now
-    c.loop-entry.entry-index _ within (c.begin_of.ensures ∙ begin c.loop-entry.entry-index _ within) greatest
-    ∙ c.loop-entry.invariant marks begin
+    ∙ placed_more (operations_of c.args.operations.now) c.loop-entry.happenings.items c.loop-entry.position c.max-position.result c.begin_of.result
+    c.args.walk.now c.loop-entry.entry-index _ within c.begin_of.ensures greatest
+    ∙ c.loop-entry.invariant
