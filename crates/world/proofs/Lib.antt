@@ -5,6 +5,8 @@ pub mod DiskLemmas
 pub mod EntryMaps
 pub mod StripeRanges
 pub mod HistoryLemmas
+pub mod KeptNumbers
+pub mod HearingLemmas
 pub mod KeptOperations
 pub mod MachineBegins
 pub mod MachineSteps

@@ -12,7 +12,7 @@ ghost use Rattle.brick_store.specs.Images.{IsListed};
 ghost use Rattle.node.specs.Running.{shape_at, state_of};
 ghost use Rattle.world.specs.Faults.{LeftBy, plan_of};
 ghost use Rattle.world.specs.Disks.{ShowsDisk, AreFreshDisks, KeepsOthers};
-ghost use Rattle.world.specs.Shown.{Rests, IsRunning, IsFreshBrick, ShowsBricks, Takes, TurnsOn, FindsUp, IsUp, AreNodesOf, HandsOver, RefusesBrick, BeginsBrick, RefusesProposal, ProposesBrick, BricksStay, StopsBrick, StartsBrick, most_sent, disk_in, disks_of, running_at, unopened};
+ghost use Rattle.world.specs.Shown.{Rests, IsRunning, IsFreshBrick, ShowsBricks, Takes, TurnsOn, FindsUp, IsUp, AreNodesOf, HandsOver, RefusesBrick, BeginsBrick, RefusesProposal, ProposesBrick, RefusesSync, SyncsBrick, BricksStay, StopsBrick, StartsBrick, most_sent, disk_in, disks_of, running_at, unopened};
 
 use brick_store::OpenFault;
 use fab_base::{Ask, BrickId, GroupId, IoFault, NoMem, ViewNo};
@@ -298,6 +298,28 @@ pub fn ask_to_propose(
     let brick = &mut bricks[number.0 as usize];
     match &mut brick.power {
         Power::Up(node) => node.propose(group, members),
+        Power::Down(_) => unreachable!(),
+    }
+}
+
+/// A brick that is up is asked to synchronise the view that it has learnt of a group. After a refusal of any kind no brick has changed.
+pub fn ask_to_sync(
+    bricks: &mut Vec<Brick>,
+    number: BrickId,
+    group: GroupId,
+) -> Result<Outs, NodeFault>
+    requires { IsUp bricks.old.items number }
+    ensures refused { RefusesSync bricks.old.items number group result }
+    ensures synced { IfOk result (SyncsBrick bricks.old.items bricks.new.items number group) }
+    ensures few { IfOk result (λ outs. length outs.messages ≤ most_sent) }
+    ensures err { OnErr result ((layout : _) → BricksStay layout bricks.old.items bricks.new.items) }
+    ensures disks { disks_of bricks.new.items ≡ disks_of bricks.old.items }
+    ensures not_halted { result ≢ Err NodeFault.Halted }
+    ensures not_disk { result ≢ Err NodeFault.Disk }
+{
+    let brick = &mut bricks[number.0 as usize];
+    match &mut brick.power {
+        Power::Up(node) => node.sync(brick.clock, group),
         Power::Down(_) => unreachable!(),
     }
 }

@@ -1,0 +1,40 @@
+-- The brick of the number synchronises as the machine's does.
+use Rattle.std.proofs.Common.{◌≡◌, true, false, ap, ◌∙◌, sym}
+use Rattle.fab_disk.specs.declared.mem_disk.MemDisk.{MemDisk}
+use Rattle.brick_store.specs.Bricks.{Brick as Store}
+use Rattle.world.specs.Shown.{disk_in}
+use Rattle.world.proofs.DiskLemmas.{disks_same}
+use Rattle.world.proofs.BrickListLemmas.{on_at, syncing_refused, syncing_begun, asked_same}
+use Rattle.world.proofs.bricks.ask_to_sync.Goals as goal
+
+pub unreachable-requires : goal.unreachable-requires
+unreachable-requires c =
+    on_at c.args.bricks.now.items c.args.number c.index_mut-brick.result.now _ c.index_mut-brick.ensures.value c.in-Down.is c.requires
+
+pub returns-clause-refused : goal.returns-clause-refused
+returns-clause-refused c layout =
+    syncing_refused layout c.args.bricks.now.items c.args.number.0 c.index_mut-brick.result.now c.in-Up.node c.args.group c.sync.result
+    c.requires.within c.index_mut-brick.ensures.value c.in-Up.is c.sync.ensures.refused
+
+pub returns-clause-synced : goal.returns-clause-synced
+returns-clause-synced c =
+    syncing_begun c.args.bricks.now.items c.args.number.0 c.index_mut-brick.result.now c.in-Up.node c.sync.new.self c.args.group c.sync.result
+    c.requires.within c.index_mut-brick.ensures.value c.in-Up.is c.sync.ensures.same c.sync.ensures.brick c.sync.ensures.step
+
+pub returns-clause-err : goal.returns-clause-err
+returns-clause-err c =
+    asked_same c.args.bricks.now.items c.args.number.0 c.index_mut-brick.result.now c.in-Up.node c.sync.new.self c.sync.result
+    c.requires.within c.index_mut-brick.ensures.value c.in-Up.is c.sync.ensures.same c.sync.ensures.brick c.sync.ensures.err
+
+pub returns-clause-disks : goal.returns-clause-disks
+returns-clause-disks c =
+    disks_same c.args.bricks.now.items c.args.number.0 c.index_mut-brick.result.now _ c.index_mut-brick.ensures.value
+    (ap (λ (x : Store MemDisk). x.disk) c.sync.ensures.brick ∙ sym (ap disk_in c.in-Up.is))
+
+pub returns-clause-not_halted : goal.returns-clause-not_halted
+returns-clause-not_halted c = λ halted.
+    let on =
+    on_at c.args.bricks.now.items c.args.number c.index_mut-brick.result.now _ c.index_mut-brick.ensures.value c.in-Up.is c.requires
+    in
+    let never : true ≡ false = sym (c.sync.ensures.only_halted halted) ∙ on.0 in
+    cc
