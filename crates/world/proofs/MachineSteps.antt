@@ -262,6 +262,79 @@ pub received_opens_reads : (setting : Setting) (me : BrickId) (now : ℕ) (node 
 received_opens_reads setting me now node packet numbered =
     received_as_opens_reads setting me now packet.from packet.to node packet.message numbered
 
+-- a step begins one read at most, of any brick
+abbrev FewReads : NodeStep → Type 0
+FewReads step = reads_begun step.told ≤ 1
+
+seen_few : (seq : ℕ) (seen : Option Stamp) → reads_begun (seen_told seq seen) ≤ 1
+seen_few seq seen = let none = seen_reads seq seen in omega (arith, none)
+
+carried_few : (setting : Setting) (me : BrickId) (node : Node) (known : ℕ) (c : Coordinator) (next : Next) → FewReads (carried_out setting me node known c next)
+carried_few setting me node known c Ignores = omega arith
+carried_few setting me node known c (Waits d) = omega arith
+carried_few setting me node known c (Sends d) = omega arith
+carried_few setting me node known c (Makes d) = omega arith
+carried_few setting me node known c (Ends answer seen stored) = seen_few c.call.seq seen
+
+job_few : (setting : Setting) (me : BrickId) (now : ℕ) (node : Node) (job : Job) (next : JobNext) → FewReads (job_goes setting me now node job next)
+job_few setting me now node job next = (job_opens_reads setting me now node job next).few
+
+read_few : (setting : Setting) (me : BrickId) (now : ℕ) (node : Node) (known : ℕ) (job : Job) (c : Coordinator) (next : Next)
+    → FewReads (carried_read setting me now node known job c next)
+read_few setting me now node known job c Ignores = omega arith
+read_few setting me now node known job c (Waits d) = omega arith
+read_few setting me now node known job c (Sends d) = omega arith
+read_few setting me now node known job c (Makes d) = omega arith
+read_few setting me now node known job c (Ends answer seen stored) =
+    let closed : NodeStep = read_closed me node known c answer seen stored in
+    let goes : NodeStep = job_goes setting me now closed.node job (job_after c.group.stripes job.attempt (abort_cause answer)) in
+    let first = seen_reads c.call.seq seen in
+    let closing = reads_more (seen_told c.call.seq seen) (Closed c.call.seq (abort_cause answer) ∷ []) in
+    let all = reads_more closed.told goes.told in
+    let few = job_few setting me now closed.node job (job_after c.group.stripes job.attempt (abort_cause answer)) in
+    omega (arith, first, closing, all, few)
+
+carried_for_few : (setting : Setting) (me : BrickId) (now : ℕ) (node : Node) (known : ℕ) (c : Coordinator) (next : Next) (job : Option Job)
+    → FewReads (carried_for setting me now node known c next job)
+carried_for_few setting me now node known c next None = carried_few setting me node known c next
+carried_for_few setting me now node known c next (Some job) = read_few setting me now node known job c next
+
+ballot_few : (layout : Layout) (me : BrickId) (node : Node) (p : Proposal) (next : Voting) → FewReads (carried_ballot layout me node p next)
+ballot_few layout me node p Ignored = omega arith
+ballot_few layout me node p (Waited q) = omega arith
+ballot_few layout me node p (Asks q) = omega arith
+ballot_few layout me node p (Ended call ended) = omega arith
+
+replied_few : (setting : Setting) (me : BrickId) (now : ℕ) (from : BrickId) (node : Node) (call : Call) (reply : Reply) (found : Option Coordinator)
+    → FewReads (replied_at setting me now from node call reply found)
+replied_few setting me now from node call reply (Some c) = carried_for_few setting me now node _ c _ (job_reading node.job c.call.seq)
+replied_few setting me now from node call reply None = by_proposal node.proposal
+  where
+    known : Node
+    known = with_known node (known_after node.known reply)
+
+    by_proposal : (proposal : Option Proposal) → FewReads (replied_ballot setting.layout me from known call reply proposal)
+    by_proposal None = omega arith
+    by_proposal (Some p) = ballot_few setting.layout me known p (voted setting.layout.bricks p from call reply)
+
+heard_few : (setting : Setting) (me : BrickId) (now : ℕ) (from : BrickId) (node : Node) (call : Call) (reply : Reply)
+    → FewReads (heard setting me now from node call reply)
+unfolding replied
+heard_few setting me now from node call reply =
+    cond_both (lists_fit setting.layout call reply) (replied setting me now from node call reply)
+    (no_step (with_known (with_round node reply) (known_after node.known reply))) FewReads
+    (λ fit. replied_few setting me now from (with_round node reply) call reply (node.calls call.seq)) (λ isnt. omega arith)
+
+received_as_few : (setting : Setting) (me : BrickId) (now : ℕ) (from to : BrickId) (node : Node) (message : Message)
+    → FewReads (received setting me now node (record { from = from; to = to; message = message }))
+unfolding received
+received_as_few setting me now from to node (Message.Request call request) = (requested_opens_reads setting me from node call request).few
+received_as_few setting me now from to node (Message.Reply call reply) = heard_few setting me now from node call reply
+received_as_few setting me now from to node message = omega arith
+
+pub received_few : (setting : Setting) (me : BrickId) (now : ℕ) (node : Node) (packet : Packet) → reads_begun (received setting me now node packet).told ≤ 1
+received_few setting me now node packet = received_as_few setting me now packet.from packet.to node packet.message
+
 -- a request has its receiver report nothing
 pub request_quiet : (setting : Setting) (me from : BrickId) (node : Node) (call : Call) (request : Request)
     → (requested setting me from node call request).reports ≡ []

@@ -1,8 +1,14 @@
 -- The brick of the number synchronises as the machine's does.
-use Rattle.std.proofs.Common.{◌≡◌, true, false, ap, ◌∙◌, sym}
+use Rattle.std.proofs.Common.{◌≡◌, ◌≤◌, true, false, List, ap, ◌∙◌, sym, subst}
+use Rattle.std.proofs.lemmas.Result.{IfOk-weaker}
 use Rattle.fab_disk.specs.declared.mem_disk.MemDisk.{MemDisk}
 use Rattle.brick_store.specs.Bricks.{Brick as Store}
-use Rattle.world.specs.Shown.{disk_in}
+use Rattle.node.specs.Outcomes.{Outcome}
+use Rattle.node.specs.Running.{state_of}
+use Rattle.protocol.specs.declared.tellings.Told.{Told}
+use Rattle.stripe_code.specs.Codes.{coding}
+use Rattle.world.specs.Shown.{disk_in, reads_begun}
+use Rattle.world.proofs.MachineSteps.{synced_opens_reads}
 use Rattle.world.proofs.DiskLemmas.{disks_same}
 use Rattle.world.proofs.BrickListLemmas.{on_at, syncing_refused, syncing_begun, asked_same}
 use Rattle.world.proofs.bricks.ask_to_sync.Goals as goal
@@ -38,3 +44,10 @@ returns-clause-not_halted c = λ halted.
     in
     let never : true ≡ false = sym (c.sync.ensures.only_halted halted) ∙ on.0 in
     cc
+
+pub returns-clause-reads : goal.returns-clause-reads
+returns-clause-reads c =
+    IfOk-weaker c.sync.result _ (λ (outs : Outcome). reads_begun outs.told ≤ 1)
+    (λ outs steps. subst (λ (l : List Told). reads_begun l ≤ 1) (sym steps.told)
+    (synced_opens_reads (coding c.in-Up.node.layout) c.in-Up.node.me c.index_mut-brick.result.now.clock (state_of c.in-Up.node) c.args.group).few)
+    c.sync.ensures.step
