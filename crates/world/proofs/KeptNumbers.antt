@@ -101,6 +101,14 @@ pub told_of : (known : OperationRecord) (found : Option Operation) → TellsOne 
 told_of known None is = absurd is
 told_of known (Some o) is = (o, refl, is)
 
+-- there is none of number 0
+pub none_told : {kept : List OperationRecord} (operations : ℕ → Option Operation) → TellsOperations kept operations → operations 0 ≡ None
+none_told operations tells = by (operations 0) (tells 0)
+  where
+    by : (found : Option Operation) → TellsOne None found → found ≡ None
+    by None is = refl
+    by (Some o) is = absurd is
+
 -- the number of an operation's marks is the machine's
 pub mark_told : (kept : List OperationRecord) (operations : ℕ → Option Operation) (n : ℕ) → TellsOperations kept operations
     → mark_kept kept n ≡ own_mark n (operations n)

@@ -7,6 +7,7 @@ pub mod StripeRanges
 pub mod HistoryLemmas
 pub mod KeptNumbers
 pub mod HearingLemmas
+pub mod HavingMarks
 pub mod KeptOperations
 pub mod MachineBegins
 pub mod MachineSteps

@@ -335,14 +335,7 @@ received_as_few setting me now from to node message = omega arith
 pub received_few : (setting : Setting) (me : BrickId) (now : ℕ) (node : Node) (packet : Packet) → reads_begun (received setting me now node packet).told ≤ 1
 received_few setting me now node packet = received_as_few setting me now packet.from packet.to node packet.message
 
--- a request has its receiver report nothing
-pub request_quiet : (setting : Setting) (me from : BrickId) (node : Node) (call : Call) (request : Request)
-    → (requested setting me from node call request).reports ≡ []
-request_quiet setting me from node call request =
-    request_each (λ (step : NodeStep). step.reports ≡ []) setting me from node call request refl (λ moved is. refl)
-    (λ group seat here served. refl) (λ group ballot asked here. refl)
-
--- nor does a reply to an open operation
+-- a reply to an open operation has its receiver report nothing, and begin no read, unless it is to a read of a synchronisation
 carried_quiet : (setting : Setting) (me : BrickId) (node : Node) (known : ℕ) (c : Coordinator) (next : Next)
     → (carried_out setting me node known c next).reports ≡ []
 carried_quiet setting me node known c Ignores = refl
@@ -351,22 +344,45 @@ carried_quiet setting me node known c (Sends d) = refl
 carried_quiet setting me node known c (Makes d) = refl
 carried_quiet setting me node known c (Ends answer seen stored) = refl
 
+pub record IsQuiet (step : NodeStep) : Type 0 where
+  pub reports : step.reports ≡ []
+  pub reads : reads_begun step.told ≡ 0
+
+carried_unread : (setting : Setting) (me : BrickId) (node : Node) (known : ℕ) (c : Coordinator) (next : Next)
+    → reads_begun (carried_out setting me node known c next).told ≡ 0
+carried_unread setting me node known c Ignores = refl
+carried_unread setting me node known c (Waits d) = refl
+carried_unread setting me node known c (Sends d) = refl
+carried_unread setting me node known c (Makes d) = refl
+carried_unread setting me node known c (Ends answer seen stored) = seen_reads c.call.seq seen
+
 replied_quiet : (setting : Setting) (me : BrickId) (now : ℕ) (from : BrickId) (node : Node) (call : Call) (reply : Reply) (c : Coordinator)
-    → job_reading node.job c.call.seq ≡ None → (replied_at setting me now from node call reply (Some c)).reports ≡ []
+    → job_reading node.job c.call.seq ≡ None → IsQuiet (replied_at setting me now from node call reply (Some c))
 replied_quiet setting me now from node call reply c other =
     let known : ℕ = known_after node.known reply in
     let next : Next = on_reply setting.layout.block setting.code (fresh_stamp me c.stamp.view now node.boot known) c from call reply in
-    subst (λ (job : Option Job). (carried_for setting me now node known c next job).reports ≡ []) (sym other) (carried_quiet setting me node known c next)
+    subst (λ (job : Option Job). IsQuiet (carried_for setting me now node known c next job)) (sym other)
+    (record { reports = carried_quiet setting me node known c next; reads = carried_unread setting me node known c next })
 
 pub reply_quiet : (setting : Setting) (me : BrickId) (now : ℕ) (from : BrickId) (node : Node) (call : Call) (reply : Reply) (c : Coordinator)
-    → node.calls call.seq ≡ Some c → job_reading node.job c.call.seq ≡ None → (heard setting me now from node call reply).reports ≡ []
+    → node.calls call.seq ≡ Some c → job_reading node.job c.call.seq ≡ None → IsQuiet (heard setting me now from node call reply)
 unfolding replied
 reply_quiet setting me now from node call reply c is other =
     cond_both (lists_fit setting.layout call reply) (replied setting me now from node call reply)
-    (no_step (with_known (with_round node reply) (known_after node.known reply))) (λ (step : NodeStep). step.reports ≡ [])
-    (λ fit. subst (λ (found : Option Coordinator). (replied_at setting me now from (with_round node reply) call reply found).reports ≡ []) (sym is)
-    (replied_quiet setting me now from (with_round node reply) call reply c other))
-    (λ isnt. refl)
+    (no_step (with_known (with_round node reply) (known_after node.known reply))) IsQuiet
+    (λ fit.
+    let quiet : IsQuiet (replied_at setting me now from (with_round node reply) call reply (node.calls call.seq)) =
+    subst (λ (found : Option Coordinator). IsQuiet (replied_at setting me now from (with_round node reply) call reply found)) (sym is)
+    (replied_quiet setting me now from (with_round node reply) call reply c other) in
+    record { reports = quiet.reports; reads = quiet.reads })
+    (λ isnt. record { reports = refl; reads = refl })
+
+-- nor does a request
+pub request_quiet : (setting : Setting) (me from : BrickId) (node : Node) (call : Call) (request : Request)
+    → IsQuiet (requested setting me from node call request)
+request_quiet setting me from node call request =
+    request_each IsQuiet setting me from node call request (record { reports = refl; reads = refl }) (λ moved is. record { reports = refl; reads = refl })
+    (λ group seat here served. record { reports = refl; reads = refl }) (λ group ballot asked here. record { reports = refl; reads = refl })
 
 -- what a handling would have kept is of the same boot
 absorbed_as_boot : (setting : Setting) (me from to : BrickId) (node : Node) (message : Message)

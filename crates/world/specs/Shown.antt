@@ -29,7 +29,7 @@ use Rattle.protocol.specs.declared.tellings.Report.{Report}
 use Rattle.protocol.specs.declared.tellings.Told.{Told}
 use Rattle.protocol.specs.declared.tellings.Told.TheVariants as told
 use Rattle.protocol.specs.Worlds.{World, Operation, is_up, number_of, world_tells, first_world, happens, run}
-use Rattle.protocol.specs.Happenings.{writes}
+use Rattle.protocol.specs.Happenings.{is_marked, writes}
 use Rattle.protocol.specs.Settings.{Setting}
 use Rattle.protocol.specs.Worlds.{Event}
 use Rattle.world.specs.Runs.{Step, brick_of}
@@ -667,11 +667,17 @@ abbrev pub DecidesCalm : Layout → Simulation → ℕ → List ℕ → Bool →
 DecidesCalm layout state n bricks may =
     (w : World) → IsReachedBy layout w → Shows layout state w → Decides may (IsCalm (coding layout) w n (map brick_of bricks))
 
--- one that may did, from one state to another; or it began to
+-- the operation of a number has marks, if there is one
+abbrev pub HasMarks : World → ℕ → Type 0
+HasMarks w n = (o : Operation) → w.operations n ≡ Some o → is_marked o ≡ true
+
+-- one that may and has marks did, from one state to another; or it began to
 abbrev pub RunsAloneTo : Layout → Simulation → Simulation → ℕ → List ℕ → Bool → Type 0
 RunsAloneTo layout old new n bricks some = (w : World) → IsReachedBy layout w → Shows layout old w → IsCalm (coding layout) w n (map brick_of bricks)
+    → HasMarks w n
     → HasRun layout w n (map brick_of bricks) (disks_of old.bricks.items) new some
 
 abbrev pub BeginsAloneTo : Layout → Simulation → Simulation → ℕ → List ℕ → Type 0
 BeginsAloneTo layout old new n bricks = (w : World) → IsReachedBy layout w → Shows layout old w → IsCalm (coding layout) w n (map brick_of bricks)
+    → HasMarks w n
     → HasBegun layout w n (map brick_of bricks) (disks_of old.bricks.items) new

@@ -51,10 +51,13 @@ fn serves(node: &Node<MemDisk>, group: GroupId, view: ViewNo) -> bool
     ensures { Decides result (Serves (state_of node.now) group.0 view.0) }
 {
     let store = node.store();
-    if store.learnt(group) != view {
+    if store.learnt(group).0 != view.0 {
         return false;
     }
-    view.0 == u32::MAX || store.accepted(group).is_none()
+    if view.0 == u32::MAX {
+        return true;
+    }
+    store.accepted(group).is_none()
 }
 
 /// Whether a brick has room for two records more.
