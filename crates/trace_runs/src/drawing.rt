@@ -90,7 +90,7 @@ fn quorum_in(world: &World, coordinator: BrickId, call: &Call) -> u8 {
     };
     if let Some(view) = world.learnt(coordinator, call.group) {
         if view.number == call.view {
-            if let Some(kept) = Group::new(view.members, group.m(), group.stripes()) {
+            if let Some(kept) = Group::new(view.members.copy(), group.m(), group.stripes()) {
                 return kept.quorum();
             }
         }
