@@ -6,8 +6,8 @@ ghost use Rattle.protocol.specs.Nodes.{refusal_of, proposal_refusal, sync_refusa
 ghost use Rattle.world.specs.Runs.{ask_of, block_no, group_no, member_no, op_of};
 
 use crate::bricks::{
-    Brick, ask_brick, ask_to_propose, ask_to_sync, boot_of, find_up, fresh_bricks, hand_over, start_brick,
-    stop_brick, tick_brick, view_of,
+    Brick, ask_brick, ask_to_propose, ask_to_sync, boot_of, find_up, fresh_bricks, hand_over,
+    start_brick, stop_brick, tick_brick, view_of,
 };
 use crate::histories::{History, packet_at};
 use fab_base::{Ask, BrickId, GroupId, NoMem, Op, Refusal, StripeNo};

@@ -39,8 +39,7 @@ fn was_answered(operations: &[OperationRecord], number: u64) -> bool
 fn is_told(operations: &[OperationRecord], number: u64) -> bool
     ensures { result ≡ is_told (operations_of operations.now number) }
 {
-    kept_of(operations, number)
-        .is_some_and(|kept| kept.mark > 0 && (kept.answered || kept.writes))
+    kept_of(operations, number).is_some_and(|kept| kept.mark > 0 && (kept.answered || kept.writes))
 }
 
 /// The version that the version of the operation of a number was made on.

@@ -68,4 +68,3 @@ returns-in_default-group c w reached shows =
     let here = here_of c.args.layout.now w c.args.self.now c.args.operation c.in-Some.record reached shows c.in-Some.ensures in
     let group = group_is c.args.layout.now w c.args.operation c.in-Some.record here c.bricks.ensures.limits reached in
     absurd (let never : None ≡ Some group.0 = c.in_default-group.ensures.found ∙ group.1 in cc)
-
