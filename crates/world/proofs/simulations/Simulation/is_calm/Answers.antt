@@ -1,23 +1,25 @@
 -- All that is asked holds, or something does not.
-use Rattle.std.proofs.Common.{◌≡◌, ℕ, ◌≤◌, Bool, true, false, List, Some, None, refl, sym, ap, ◌∙◌, subst, arith, length, filter, nat_eq}
+use Rattle.std.proofs.Common.{◌≡◌, ℕ, ◌≤◌, Bool, true, false, List, length, Option, Some, None, refl, sym, ap, ◌∙◌, subst}
 use Rattle.std.specs.Bool.{Decides}
+use Rattle.std.specs.Option.{option_map}
 use Rattle.std.proofs.lemmas.Option.{same_Some}
 use Rattle.fab_base.specs.declared.identities.BrickId.{BrickId}
-use Rattle.fab_base.specs.declared.identities.GroupId.{GroupId}
-use Rattle.fab_base.specs.Layouts.{Layout, Group}
-use Rattle.protocol.specs.Worlds.{World}
-use Rattle.messages.specs.declared.packets.Packet.{Packet}
-use Rattle.world.specs.Deliveries.{IsUntouchedAt}
-use Rattle.world.specs.Shown.{ShowsBricks, Shows, IsReachedBy, OpensAs, IsAble, IsInTime, open_record}
-use Rattle.world.specs.declared.bricks.Brick.{Brick}
+use Rattle.fab_base.specs.declared.member_lists.View.{View}
+use Rattle.fab_base.specs.Layouts.{Layout, Group, group_of}
+use Rattle.fab_disk.specs.declared.mem_disk.MemDisk.{MemDisk}
+use Rattle.layout.specs.Limits.{IsLayout}
+use Rattle.node.specs.Running.{Running}
+use Rattle.protocol.specs.Nodes.{Node, view_in}
+use Rattle.protocol.specs.Worlds.{World, is_up}
+use Rattle.quorum.specs.Quorums.{q_of, quorum_of}
+use Rattle.world.specs.Runs.{brick_of}
+use Rattle.world.specs.Shown.{Shows, IsReachedBy, OpensAs, open_record, open_view, node_view, running_at}
 use Rattle.world.specs.declared.histories.OperationRecord.{OperationRecord}
 use Rattle.world.specs.declared.simulations.Simulation.{Simulation}
-use Rattle.quorum.specs.Quorums.{quorum_of}
-use Rattle.std.specs.List.{list_any}
-use Rattle.world.proofs.CalmLemmas.{Here, calm_of, parts_of, open_here, group_is, able_shown, in_time_shown}
-use Rattle.world.proofs.CalmRuns.{untouched_as, touched_as}
+use Rattle.world.proofs.BrickListLemmas.{running_shown, running_not}
+use Rattle.world.proofs.CalmLemmas.{Here, among_numbers, parts_of, open_here, group_is}
 use Rattle.world.proofs.OpenRecords.{opens_as}
-use Rattle.world.proofs.RunLaws.{reached_books, reached_bricks, reached_knows, reached_numbers}
+use Rattle.world.proofs.RunLaws.{reached_books, reached_bricks}
 use Rattle.world.proofs.simulations.Simulation.is_calm.Goals as goal
 
 -- what does not hold of an operation that may run alone decides against it
@@ -68,3 +70,30 @@ returns-in_default-group c w reached shows =
     let here = here_of c.args.layout.now w c.args.self.now c.args.operation c.in-Some.record reached shows c.in-Some.ensures in
     let group = group_is c.args.layout.now w c.args.operation c.in-Some.record here c.bricks.ensures.limits reached in
     absurd (let never : None ≡ Some group.0 = c.in_default-group.ensures.found ∙ group.1 in cc)
+
+pub returns-then-not-are_distinct : goal.returns-then-not-are_distinct
+returns-then-not-are_distinct c w reached shows =
+    let here = here_of c.args.layout.now w c.args.self.now c.args.operation c.in-Some.record reached shows c.in-Some.ensures in
+    against _ c.are_distinct.result c.if-not-are_distinct.true
+    (λ calm. c.are_distinct.ensures.1 (parts_of c.args.layout.now w c.args.operation c.args.bricks.now here.coordinator here.opens here.at here.up calm).distinct)
+
+-- a quorum of the operation's view is one by the group of the layout, and of the view that was found
+quorum_here : (layout : Layout) (w : World) (state : Simulation) (n : ℕ) (kept : OperationRecord) (numbers : List ℕ) (here : Here layout w n kept) → IsLayout layout
+    → IsReachedBy layout w → Shows layout state w → (view : View) → Some view ≡ open_view state kept → (group : Group) → Some group ≡ group_of layout kept.group.0
+    → (m : ℕ) → m ≡ group.m → quorum_of here.coordinator.group ≤ among_numbers here.coordinator.group.members numbers
+    → q_of m (length view.members) ≤ among_numbers view.members numbers
+quorum_here layout w state n kept numbers here is reached shows view found group own m m_is enough =
+    let known = group_is layout w n kept here is reached in
+    let same : group ≡ known.0 = same_Some group known.0 (own ∙ known.1) in
+    let count : here.coordinator.group.m ≡ m = known.2 ∙ sym (ap (λ (g : Group). g.m) same) ∙ sym m_is in
+    let viewed : view ≡ view_in here.coordinator = same_Some view (view_in here.coordinator) (view_here layout w state n kept (Some view) here shows found) in
+    subst (λ (v : View). q_of m (length v.members) ≤ among_numbers v.members numbers) (sym viewed)
+    (subst (λ (k : ℕ). q_of k (length here.coordinator.group.members) ≤ among_numbers here.coordinator.group.members numbers) count enough)
+
+pub returns-then-not-has_quorum : goal.returns-then-not-has_quorum
+returns-then-not-has_quorum c w reached shows =
+    let here = here_of c.args.layout.now w c.args.self.now c.args.operation c.in-Some.record reached shows c.in-Some.ensures in
+    against _ c.has_quorum.result c.if-not-has_quorum.true
+    (λ calm. c.has_quorum.ensures.1 (quorum_here c.args.layout.now w c.args.self.now c.args.operation c.in-Some.record c.args.bricks.now here
+    c.bricks.ensures.limits reached shows c.in-Some-view.view c.in-Some-view.ensures c.in-Some-group.group.now c.in-Some-group.ensures.found c.m.result c.m.ensures.value
+    (parts_of c.args.layout.now w c.args.operation c.args.bricks.now here.coordinator here.opens here.at here.up calm).members))
