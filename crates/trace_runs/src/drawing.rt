@@ -11,8 +11,8 @@ use crate::pictures::Picture;
 use crate::stripe_histories::StripeHistory;
 use crate::texts::Text;
 use fab_base::{BrickId, GroupId, NoMem};
-use layout::Layout;
-use messages::{Message, Packet, Request};
+use layout::{Group, Layout};
+use messages::{Call, Message, Packet, Request};
 use reg_model::{Happening, Mark};
 use std::alloc::Global;
 use world::World;
@@ -83,20 +83,32 @@ fn leads_to(delivered: &Packet, packet: &Packet) -> bool {
         }
 }
 
+/// How many members of a group's view make a quorum, where its coordinator goes by that view, and else by the layout.
+fn quorum_in(world: &World, coordinator: BrickId, call: &Call) -> u8 {
+    let Some(group) = world.layout().group(call.group) else {
+        return 1;
+    };
+    if let Some(view) = world.learnt(coordinator, call.group) {
+        if view.number == call.view {
+            if let Some(kept) = Group::new(view.members.copy(), group.m(), group.stripes()) {
+                return kept.quorum();
+            }
+        }
+    }
+    group.quorum()
+}
+
 /// How many messages have to be delivered that lead to a message: one request, or a quorum of replies.
-fn leaders_of(layout: &Layout, packet: &Packet) -> u8 {
+fn leaders_of(world: &World, packet: &Packet) -> u8 {
     match &packet.message {
-        Message::Request(call, _) => match layout.group(call.group) {
-            Some(group) => group.quorum(),
-            None => 1,
-        },
+        Message::Request(call, _) => quorum_in(world, packet.from, call),
         _ => 1,
     }
 }
 
 /// Which delivery of a line, from this one on, sent a message.
 fn sender_of(world: &World, effects: &LineEffects, first: usize, packet: &Packet) -> usize {
-    let mut missing = leaders_of(world.layout(), packet);
+    let mut missing = leaders_of(world, packet);
     for (place, (number, _)) in effects.deliveries.iter().enumerate() {
         if let Some(delivered) = packet_at(world.sent(), *number) {
             if leads_to(delivered, packet) {

@@ -135,7 +135,12 @@ pub(crate) fn draw_learnt(picture: &mut Picture, row: usize, learnt: &LearntView
     let y = upper(row).saturating_add(6);
     picture.dot("view", line_of(learnt.brick), y);
     let numbers = [learnt.view.number.0.into(), learnt.group.0.into()];
-    picture.name.fill("view % of %", &numbers);
+    let name = if learnt.is_synced {
+        "view % of % synced"
+    } else {
+        "view % of %"
+    };
+    picture.name.fill(name, &numbers);
     picture.label(beside(learnt.brick), lower(row), NARROW);
 }
 

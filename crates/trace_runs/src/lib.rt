@@ -16,7 +16,7 @@ mod stripe_histories;
 mod texts;
 
 pub use drawing::Drawing;
-pub use journals::{Journal, Operation, number_at};
+pub use journals::{Journal, Operation, Owner, number_at};
 pub use line_effects::{DeliveryOutcome, FaultOutcome, LearntView, LineEffects, packet_at};
 pub use line_runs::{LineRun, take_line};
 pub use operation_texts::{answer_of, op_of, put_answer, put_op};
