@@ -1,7 +1,9 @@
 -- A calm operation, of whose world this is known, is answered alone.
+use Rattle.fab_base.specs.declared.identities.ViewNo.{ViewNo}
+use Rattle.protocol.specs.declared.phases.Phase.{Phase}
 use Rattle.calm_laws.proofs.Plays.{Finishes}
 use Rattle.std.proofs.Common.{List, None, Option, Some, [], ap, ap₂, arith, drop, false, inl, le_of_lt, le_trans, length, map, refl, subst, suc, sym, take, true, zero-add, ℕ, ⊎_elim, ◌++◌, ◌+◌, ◌<◌, ◌∙◌, ◌∷◌, ◌≡◌, ◌≤◌, is_some, take_all}
-use Rattle.std.proofs.lemmas.Bool.{and_from, and_parts, cond_both, eqb-true, false≢true, ltb-true}
+use Rattle.std.proofs.lemmas.Bool.{and_from, and_parts, cond_both, eqb-true, false≢true, ltb-true, ne_eqb}
 use Rattle.std.proofs.lemmas.Bool.Decides.{nat_tests}
 use Rattle.std.proofs.lemmas.List.{append_assoc, length-take-le, take-append-drop}
 use Rattle.std.specs.Prelude.{filter, nat_eq, nat_lt, slice_get, ◌*◌}
@@ -13,14 +15,14 @@ use Rattle.calm_laws.proofs.Finds.{total_below}
 use Rattle.calm_laws.proofs.Finishing.{plays, runs_once}
 use Rattle.calm_laws.proofs.FirstRounds.{IsFirst, IsLow}
 use Rattle.calm_laws.proofs.Floors.{greatest_low, low_most, low_one, quorum_passes}
-use Rattle.calm_laws.proofs.Known.{Known, repeated}
+use Rattle.calm_laws.proofs.Known.{Known, repeated, StandsIn}
 use Rattle.protocol_laws.proofs.Logs.{LogAscends, newest_stands}
 use Rattle.calm_laws.proofs.Looking.{look_first, looks_at_looking, looks_looking}
 use Rattle.calm_laws.proofs.OrderRuns.{IsUnheld}
 use Rattle.calm_laws.proofs.PhaseRuns.{Cast, IsOpen}
 use Rattle.calm_laws.proofs.Queues.{waiting}
 use Rattle.calm_laws.proofs.Rooms.{Room}
-use Rattle.calm_laws.proofs.Scenes.{Closes, Each, IsSeated, Part, Scene, Seated, Stage, asking, sends}
+use Rattle.calm_laws.proofs.Scenes.{Closes, Each, IsSeated, Part, Scene, Seated, Stage, asking, sends, IsInView, asks_own, first_ahead}
 use Rattle.calm_laws.proofs.Shows.{IsMember, Shows}
 use Rattle.calm_laws.proofs.Starts.{AreFew, block_first, write_first}
 use Rattle.calm_laws.proofs.StorePhases.{each_so}
@@ -38,7 +40,7 @@ use Rattle.messages.specs.declared.packets.Packet.{Packet}
 use Rattle.messages.specs.declared.requests.Version.{Version}
 use Rattle.messages.specs.declared.requests.Want.{Want}
 use Rattle.protocol.specs.Calms.{IsCalm, IsReady, early, goes_among, is_one_of}
-use Rattle.protocol.specs.Coordinators.{Coordinator, block_written}
+use Rattle.protocol.specs.Coordinators.{Coordinator, block_written, asked_group, looks_back}
 use Rattle.protocol.specs.Nodes.{first_phase, group_at, has_block, has_length, phase_packets, replica_at, view_at}
 use Rattle.protocol.specs.Replicas.{Replica, below, is_held, newest_of, top_of}
 use Rattle.protocol.specs.Settings.{IsSound, Setting, are_bytes}
@@ -96,7 +98,17 @@ module _ (setting : Setting) (sound : IsSound setting) (lengths : EncodesBlocks 
   }
 
   limits : IsWithinLimits c.group.m (length c.group.members)
-  limits = sound.limits c.ask.group.0 c.group known.call.group_is
+  limits = known.call.limits
+
+  -- its first phase asks the members of its view
+  ahead : looks_back c.phase ≡ false
+  ahead = ap (λ (p : Phase). looks_back p) known.call.phase ∙ first_ahead c.ask.op
+
+  in_view : IsInView c.group c
+  in_view = record { group_is = refl; ahead = ahead; own = known.call.view }
+
+  view_number : c.call.view.0 ≡ c.stamp.view.0
+  view_number = ap (λ (e : ViewNo). e.0) known.call.view
 
   -- the members among the bricks
   abbrev all : List Seated
@@ -109,7 +121,7 @@ module _ (setting : Setting) (sound : IsSound setting) (lengths : EncodesBlocks 
   all_seated =
       each_chosen (IsSeated stage) bricks 0 c.group.members
       (λ k member at one. (
-        seat_of_member c.group.members k member (sound.distinct c.ask.group.0 c.group known.call.group_is) at
+        seat_of_member c.group.members k member known.call.distinct at
             ∙ ap (λ (j : ℕ). Some j) (sym (zero-add k)),
         one,
       ))
@@ -117,10 +129,10 @@ module _ (setting : Setting) (sound : IsSound setting) (lengths : EncodesBlocks 
   all_many : q ≤ length all
   all_many = le_trans calm.members (chosen_many bricks 0 c.group.members calm.distinct)
 
-  sends_all : (d : Coordinator) → d.group ≡ c.group → sends stage d ≡ map (asking stage d) all
-  sends_all d group =
-      sends_chosen stage d 0 d.group.members
-      ∙ ap (λ (g : Group). map (asking stage d) (chosen bricks 0 g.members)) group
+  sends_all : (d : Coordinator) → IsInView c.group d → sends stage d ≡ map (asking stage d) all
+  sends_all d own =
+      sends_chosen stage d 0 (asked_group d).members
+      ∙ ap (λ (g : Group). map (asking stage d) (chosen bricks 0 g.members)) (asks_own c.group d own)
 
   abbrev cast : Cast stage
   cast = record {
@@ -133,8 +145,8 @@ module _ (setting : Setting) (sound : IsSound setting) (lengths : EncodesBlocks 
     some = let long : length (take q all) ≡ q = length-take-le q all all_many in
         let low = limits.some_block in let enough = limits.enough_seats in omega (arith, long, low, enough);
     quorum = length-take-le q all all_many;
-    sends = λ d group.
-        sends_all d group ∙ ap (map (asking stage d)) (sym (take-append-drop q all))
+    sends = λ d own.
+        sends_all d own ∙ ap (map (asking stage d)) (sym (take-append-drop q all))
         ∙ map_append (asking stage d) (take q all) (drop q all);
   }
 
@@ -162,7 +174,7 @@ module _ (setting : Setting) (sound : IsSound setting) (lengths : EncodesBlocks 
       let next : suc k ≡ 1 + k = omega arith in
       subst (λ (j : ℕ). w.reached j ≡ false) next (calm.untouched (suc k) packet at own))
       ∙ ap (λ (l : List Packet). filter (goes_among bricks) l) known.messages.sent
-      ∙ repeated_sends stage c (suc known.messages.copies) (phase_packets setting o.brick c) all (sends_all c refl)
+      ∙ repeated_sends stage c (suc known.messages.copies) (phase_packets setting o.brick c) all (sends_all c in_view)
       ∙ ap (λ (l : List Seated). map (asking stage c) (l ++ repeated known.messages.copies all)) (sym (take-append-drop q all))
       ∙ ap (map (asking stage c)) (append_assoc (take q all) (drop q all) (repeated known.messages.copies all))
       ∙ map_append (asking stage c) (take q all) (drop q all ++ repeated known.messages.copies all)
@@ -170,7 +182,7 @@ module _ (setting : Setting) (sound : IsSound setting) (lengths : EncodesBlocks 
   -- so the first phase is open
   abbrev begins_open : IsOpen stage cast scene
   begins_open = record {
-    group = refl;
+    in_view = in_view;
     counted = known.call.counted;
     stale = [];
     old = tt;
@@ -182,37 +194,25 @@ module _ (setting : Setting) (sound : IsSound setting) (lengths : EncodesBlocks 
 
   -- the floor of the quorum's logs
   abbrev floor : Stamp
-  floor = greatest_low known.logs.lowest (take q all)
+  floor = greatest_low known.logs.base (λ i. (known.logs.keeps i).from) (take q all)
 
-  floor_stands : q ≤ count (length c.group.members) (λ seat. w.held (brick_at c.group seat) c.call.group.0 c.call.stripe.0 floor)
+  floor_stands : StandsIn w c floor
   floor_stands =
-      low_one (λ (t : Stamp). q ≤ count (length c.group.members) (λ seat. w.held (brick_at c.group seat) c.call.group.0 c.call.stripe.0 t))
-      known.logs.lowest (take q all) first
-      (λ i. ⊎_elim
-      (λ (is : known.logs.lowest i ≡ first_stamp).
-      subst (λ (t : Stamp). q ≤ count (length c.group.members) (λ seat. w.held (brick_at c.group seat) c.call.group.0 c.call.stripe.0 t)) (sym is) first)
-      (λ (stands : q ≤ count (length c.group.members)
-      (λ seat. w.held (brick_at c.group seat) c.call.group.0 c.call.stripe.0 (known.logs.lowest i))). stands)
-      (known.logs.stands i))
-    where
-      first : q ≤ count (length c.group.members) (λ seat. w.held (brick_at c.group seat) c.call.group.0 c.call.stripe.0 first_stamp)
-      first =
-          let full = count_full (length c.group.members) (λ seat. w.held (brick_at c.group seat) c.call.group.0 c.call.stripe.0 first_stamp)
-          (λ k less. known.logs.first_held (brick_at c.group k)) in
-          omega (arith, full)
+      low_one (StandsIn w c) known.logs.base (λ i. (known.logs.keeps i).from) (take q all) known.logs.stands (λ i. (known.logs.keeps i).stands)
 
   -- a member that has held the floor has it in its log
   floor_kept : Each (λ x. w.held (brick_at c.group x.seat) c.call.group.0 c.call.stripe.0 floor ≡ true → is_held floor (logs x.brick.0) ≡ true) (take q all)
-  floor_kept = both (take q all) (each_take (IsSeated stage) q all all_seated) (low_most known.logs.lowest (take q all))
+  floor_kept =
+      both (take q all) (each_take (IsSeated stage) q all all_seated) (low_most known.logs.base (λ i. (known.logs.keeps i).from) (take q all))
     where
-      both : (ys : List Seated) → Each (IsSeated stage) ys → Each (λ x. stamp_below floor (known.logs.lowest x.brick.0) ≡ false) ys
+      both : (ys : List Seated) → Each (IsSeated stage) ys → Each (λ x. stamp_below floor (known.logs.keeps x.brick.0).from ≡ false) ys
           → Each (λ x. w.held (brick_at c.group x.seat) c.call.group.0 c.call.stripe.0 floor ≡ true → is_held floor (logs x.brick.0) ≡ true) ys
       both [] seated most = tt
       both (y ∷ ys) seated most = (
         (λ held. ⊎_elim
             (λ (kept : is_held floor (logs y.brick.0) ≡ true). kept)
-            (λ (lower : stamp_below floor (known.logs.lowest y.brick.0) ≡ true). absurd (false≢true (sym most.0 ∙ lower)))
-            (known.logs.logged y.brick.0 floor ((ready y.brick seated.0.1).view ∙ known.call.view)
+            (λ (lower : stamp_below floor (known.logs.keeps y.brick.0).from ≡ true). absurd (false≢true (sym most.0 ∙ lower)))
+            ((known.logs.keeps y.brick.0).logged (ready y.brick seated.0.1).view floor floor_stands.of
             (subst (λ (i : ℕ). w.held i c.call.group.0 c.call.stripe.0 floor ≡ true) (brick_at_seat c.group y.brick.0 y.seat seated.0.0) held))),
         both ys seated.1 most.1,
       )
@@ -227,7 +227,7 @@ module _ (setting : Setting) (sound : IsSound setting) (lengths : EncodesBlocks 
         (apart_take q all (apart_chosen bricks 0 c.group.members))
         (each_then (IsSeated stage) (λ (x : Seated). x.seat < length c.group.members) (take q all)
         (λ x seated. seat_within c.group x.brick.0 x.seat seated.0) (each_take (IsSeated stage) q all all_seated))
-        (length-take-le q all all_many) floor_stands floor_kept;
+        (length-take-le q all all_many) floor_stands.held floor_kept;
     some_block = limits.some_block;
     blocks = each_then (IsSeated stage) (λ (x : Seated). (k : ℕ) (version : Version) → slice_get (logs x.brick.0) k ≡ Some version
         → length version.block ≡ setting.layout.block) (take q all)
@@ -249,22 +249,21 @@ module _ (setting : Setting) (sound : IsSound setting) (lengths : EncodesBlocks 
     open_is = begins_open;
     quiet = refl;
     round = known.call.round;
-    view = known.call.stamp_view ∙ sym known.call.view;
-    from_one = let one = known.call.stamp_view in omega (arith, one);
+    from_one = known.call.from_one;
     stamp_known = known.call.stamp_known;
     known_early = let low = calm.times.known in omega (arith, low);
     starts = each_then (IsSeated stage) (λ (x : Seated). ((parts x.brick.0).replica.log ≡ logs x.brick.0) × Room stage (parts x.brick.0)
-        × IsLow c.call.view.0 early (top_of (parts x.brick.0).replica)) (take q all)
+        × IsLow c.stamp.view.0 early (top_of (parts x.brick.0).replica)) (take q all)
         (λ x seated. (refl, inl (ready x.brick seated.1).room, low x seated))
         (each_take (IsSeated stage) q all all_seated);
     ascends = each_so (λ (x : Seated). LogAscends (logs x.brick.0)) (λ x. known.logs.ascends x.brick.0) (take q all);
   }
     where
-      low : (x : Seated) → IsSeated stage x → IsLow c.call.view.0 early (top_of (parts x.brick.0).replica)
+      low : (x : Seated) → IsSeated stage x → IsLow c.stamp.view.0 early (top_of (parts x.brick.0).replica)
       low x seated =
           let times = (ready x.brick seated.1).times in
           record {
-            view = let most = known.logs.top_view x.brick.0 in let one = known.call.view in omega (arith, most, one);
+            view = known.logs.top_view x.brick.0;
             time = top_early early (replica_at (w.nodes x.brick.0) c.call)
                 (le_of_lt (times.orders c.call.group.0 c.call.view.0 c.call.stripe.0))
                 (λ k version at. le_of_lt (times.logs c.call.group.0 c.call.view.0 c.call.stripe.0 k version at));
@@ -302,12 +301,10 @@ module _ (setting : Setting) (sound : IsSound setting) (lengths : EncodesBlocks 
       let is = ready brick one in
       record {
         up = is.up;
-        group = ap (λ (g : GroupId). group_at setting.layout (w.nodes brick.0) g.0) known.call.of_group
-            ∙ known.call.groups brick.0
-            (ap (λ (g : GroupId). view_at (w.nodes brick.0) g.0) (sym known.call.of_group) ∙ is.view ∙ known.call.view);
+        group = known.call.groups brick.0 is.view;
         stripe = ap (λ (z : StripeNo). nat_lt z.0 c.group.stripes) known.call.stripe ∙ lt_so c.ask.stripe.0 c.group.stripes known.call.within;
-        from_one = ap (λ (e : ℕ). nat_eq e 0) known.call.view;
-        view = is.view;
+        from_one = let some = known.call.from_one in let same = view_number in ne_eqb c.call.view.0 0 (λ none. omega (arith, some, same, none));
+        view = is.view ∙ sym view_number;
         free = is.serves;
       }
     where
@@ -349,7 +346,7 @@ module _ (setting : Setting) (sound : IsSound setting) (lengths : EncodesBlocks 
     where
       most : length all ≤ q
       most =
-          let few = chosen_few bricks 0 c.group.members (sound.distinct c.ask.group.0 c.group known.call.group_is) in
+          let few = chosen_few bricks 0 c.group.members known.call.distinct in
           omega (arith, few, exactly)
 
   -- the operation comes to its end alone, and is answered

@@ -1,6 +1,6 @@
 -- A recovery alone: it finds a version of which it has enough blocks, below ever lower bounds, and stores it.
 use Rattle.std.proofs.Common.{Bool, List, None, Option, Some, [], ap, arith, cond, false, inl, inr, length, map, refl, set, subst, suc, sym, true, zero, ℕ, ⊎_elim, ◌+◌, ◌<◌, ◌∙◌, ◌∷◌, ◌≡◌, ◌≤◌}
-use Rattle.std.proofs.lemmas.Bool.{and_from, cases_Bool, cond_both, eq-eqb, ltb-true}
+use Rattle.std.proofs.lemmas.Bool.{and_from, cases_Bool, cond_both, eq-eqb, ltb-true, false≢true}
 use Rattle.std.specs.Prelude.{filter, nat_eq, nat_lt, slice_get, ◌-◌, ◌^◌}
 use Rattle.calm_laws.proofs.Asking.{Holds, each_then, told_all}
 use Rattle.calm_laws.proofs.Counts.{Carries, counted_of, fresh_at}
@@ -9,7 +9,7 @@ use Rattle.calm_laws.proofs.Finds.{Has, IsMost, filter_more, finding, greatest_h
 use Rattle.protocol_laws.proofs.Logs.{IsWithin, LogAscends, newest_among}
 use Rattle.calm_laws.proofs.Ordering.{TameWith, descends_ask, looking, orders_keep, orders_reply, read_fits, reads_so, told_below, told_facts, told_then}
 use Rattle.calm_laws.proofs.PhaseRuns.{Cast, IsOpen, known_then, next_open, open_run}
-use Rattle.calm_laws.proofs.Scenes.{Closes, Each, Part, Scene, Seated, Stage, made, sent}
+use Rattle.calm_laws.proofs.Scenes.{Closes, Each, Part, Scene, Seated, Stage, made, sent, IsInView}
 use Rattle.calm_laws.proofs.StorePhases.{AreTaking, store_phase}
 use Rattle.fab_base.proofs.StampOrder.{stamp_neither_below, stamp_not_below_trans, stamp_same_refl}
 use Rattle.fab_base.specs.Layouts.{Group}
@@ -20,11 +20,11 @@ use Rattle.messages.specs.declared.requests.Look.TheVariants.{Below}
 use Rattle.messages.specs.declared.requests.Version.{Version}
 use Rattle.messages.specs.declared.requests.Want.{Want}
 use Rattle.protocol.specs.Calms.{early}
-use Rattle.protocol.specs.Coordinators.{Coordinator, Makes, Next, Sends, answers_phase, finds, greatest_found, in_phase, may_be_found, pieces_at, read_back, restoring}
+use Rattle.protocol.specs.Coordinators.{Coordinator, Makes, Next, Sends, answers_phase, finds, greatest_found, in_phase, may_be_found, pieces_at, read_back, restoring, lower_phase, looks_back}
 use Rattle.protocol.specs.Replicas.{below, is_held, is_wanted, newest_of, told_version}
 use Rattle.protocol.specs.declared.phases.Counted.{Counted}
 use Rattle.protocol.specs.declared.phases.Phase.{Phase}
-use Rattle.protocol.specs.declared.phases.Phase.TheVariants.{Descends}
+use Rattle.protocol.specs.declared.phases.Phase.TheVariants.{Descends, LooksBack}
 use Rattle.reg_model.specs.Registers.{after_op}
 
 -- What is known of the logs of the quorum's members: they ascend; enough of them hold one version, the floor; and their blocks have the length of one,
@@ -86,7 +86,12 @@ after_replies stage s known parts others before = record s { known = known; part
 abbrev pub having : Coordinator → List Counted → Coordinator
 having c counted = record c { counted = counted }
 
-module _ (stage : Stage) (cast : Cast stage) (logs : ℕ → List Version) (lore : Lore stage cast logs) (s : Scene) (group : s.c.group ≡ stage.group)
+-- in its own view a recovery looks lower
+lower_ahead : (phase : Phase) (v : Stamp) → looks_back phase ≡ false → lower_phase phase v ≡ Descends v
+lower_ahead (LooksBack bound) v ahead = absurd (false≢true (sym ahead))
+lower_ahead phase v ahead = refl
+
+module _ (stage : Stage) (cast : Cast stage) (logs : ℕ → List Version) (lore : Lore stage cast logs) (s : Scene) (in_view : IsInView stage.group s.c)
     (bound : Stamp) (want : Want) (above : stamp_below lore.floor bound ≡ true) where
   -- what they find, and what counts then
   abbrev g : Seated → Option Version
@@ -223,16 +228,20 @@ module _ (stage : Stage) (cast : Cast stage) (logs : ℕ → List Version) (lore
           (read_back stage.setting.layout.block stage.setting.code (having s.c counted) z)
       go None is = absurd (found_some is)
       go (Some v) is =
-          cond_both (nat_lt (length (pieces_at v counted)) s.c.group.m) (Sends (in_phase (having s.c counted) (Descends v)))
+          subst (λ (p : Phase). Carries stage (after_replies stage s known parts others before)
+          (cond (nat_lt (length (pieces_at v counted)) s.c.group.m) (Sends (in_phase (having s.c counted) p))
+          (Makes (restoring stage.setting.layout.block (having s.c counted) v (stage.setting.code.decode s.c.group.m (pieces_at v counted))))))
+          (sym (lower_ahead s.c.phase v in_view.ahead))
+          (cond_both (nat_lt (length (pieces_at v counted)) s.c.group.m) (Sends (in_phase (having s.c counted) (Descends v)))
           (Makes (restoring stage.setting.layout.block (having s.c counted) v (stage.setting.code.decode s.c.group.m (pieces_at v counted))))
           (λ (z : Next). Carries stage (after_replies stage s known parts others before) z)
           (λ few.
-          let same : s.c.group.m ≡ stage.group.m = ap (λ (y : Group). y.m) group in
+          let same : s.c.group.m ≡ stage.group.m = ap (λ (y : Group). y.m) in_view.group_is in
           let less : length (pieces_at v counted) < s.c.group.m = ltb-true (length (pieces_at v counted)) s.c.group.m few in
           let falls = found_falls v is (omega (arith, less, same)) in
-          (record { group = refl; boot = refl; seq = refl; of_group = refl; view = refl; stripe = refl }, lower v falls.0 falls.1))
+          (record { group = refl; boot = refl; seq = refl; of_group = refl; view = sym in_view.own; stripe = refl }, lower v falls.0 falls.1))
           (λ enough. (
-            record { group = refl; boot = refl; seq = refl; of_group = refl; view = refl; stripe = refl },
+            record { group = refl; boot = refl; seq = refl; of_group = refl; view = sym in_view.own; stripe = refl },
             store_phase stage cast
                 (made stage (after_replies stage s known parts others before)
                 (restoring stage.setting.layout.block (having s.c counted) v (stage.setting.code.decode s.c.group.m (pieces_at v counted))))
@@ -241,9 +250,11 @@ module _ (stage : Stage) (cast : Cast stage) (logs : ℕ → List Version) (lore
                 others before
                 (made stage (after_replies stage s known parts others before)
                 (restoring stage.setting.layout.block (having s.c counted) v (stage.setting.code.decode s.c.group.m (pieces_at v counted))))
-                group
+                in_view
                 (record {
-                  same = record { group = refl; boot = refl; seq = refl; of_group = refl; view = refl; stripe = refl };
+                  same = record { group = refl; boot = refl; seq = refl; of_group = refl; view = sym in_view.own; stripe = refl };
+                  ahead = refl;
+                  own = refl;
                   later = refl;
                   counted = refl;
                 })
@@ -251,7 +262,7 @@ module _ (stage : Stage) (cast : Cast stage) (logs : ℕ → List Version) (lore
                 refl early (λ x seated. lore.encodes s.c.group.m
                 (after_op stage.setting.layout.block s.c.ask.op (stage.setting.code.decode s.c.group.m (pieces_at v counted))) x.seat)
                 (are_taking stage s.c.stamp logs parts cast.xs lore.ascends tame),
-          ))
+          )))
 
 -- a phase that looks below this bound closes, whose versions below are this many at most
 abbrev pub DownCloses : (stage : Stage) (cast : Cast stage) (logs : ℕ → List Version) → Lore stage cast logs → ℕ → Type 0
@@ -282,15 +293,17 @@ down_step stage cast logs lore n s bound set phase above early lower =
     let known : ℕ = known_then stage s (finding found) cast.xs set.open_is.stale in
     subst (λ (z : Next). Carries stage (after_replies stage s known parts set.open_is.others before) z)
     (sym (descend_decides stage.setting.layout.block stage.setting.code (fresh_at stage s.c known) (having s.c all)
-    (none_stops (finding found) (λ x. refl) (λ x. refl) cast.xs) bound phase (none_refuses (finding found) (λ x. refl) cast.xs)))
-    (read_back_goes stage cast logs lore s set.open_is.group bound Want.All above set.open_is.others before parts known tame (omega (arith, early))
+    (none_stops (finding found) (record { unmoved = λ x. refl; undropped = λ x. refl; unfull = λ x. refl }) cast.xs) bound phase (none_refuses (finding found) (λ x. refl) cast.xs)))
+    (read_back_goes stage cast logs lore s set.open_is.in_view bound Want.All above set.open_is.others before parts known tame (omega (arith, early))
     (λ v over falls.
     lower (sent stage (after_replies stage s known parts set.open_is.others before) (in_phase (having s.c all) (Descends v))) v
     (record {
       open_is = next_open stage cast s.c (in_phase (having s.c all) (Descends v)) set.open_is.others before
-          (sent stage (after_replies stage s known parts set.open_is.others before) (in_phase (having s.c all) (Descends v))) set.open_is.group
+          (sent stage (after_replies stage s known parts set.open_is.others before) (in_phase (having s.c all) (Descends v))) set.open_is.in_view
           (record {
-            same = record { group = refl; boot = refl; seq = refl; of_group = refl; view = refl; stripe = refl };
+            same = record { group = refl; boot = refl; seq = refl; of_group = refl; view = sym set.open_is.in_view.own; stripe = refl };
+            ahead = refl;
+            own = refl;
             later = refl;
             counted = refl;
           })

@@ -19,7 +19,7 @@ use Rattle.messages.specs.declared.packets.Packet.{Packet}
 use Rattle.messages.specs.declared.replies.Reply.{Reply}
 use Rattle.messages.specs.declared.requests.Request.{Request}
 use Rattle.protocol.specs.Calms.{goes_among, is_left, open_at, operation_of}
-use Rattle.protocol.specs.Coordinators.{Coordinator, Ends, Ignores, Makes, Next, Sends, Waits, on_reply, request_of}
+use Rattle.protocol.specs.Coordinators.{Coordinator, Ends, Ignores, Makes, Next, Sends, Waits, on_reply, request_of, asked_group}
 use Rattle.protocol.specs.Nodes.{Node, carried_out, fresh_stamp, known_after, phase_packets, put, received, replica_at, replied, replied_at, to_members, with_call, with_known, with_round, may_teach, no_step, then_taught, counts_here, collect_packets}
 use Rattle.protocol.specs.Replicas.{Replica}
 use Rattle.protocol.specs.Worlds.{Operation, World, is_answer, number_of, with_answer, with_made, with_seen}
@@ -41,13 +41,13 @@ heard_step stage n w s from call reply rest shows next =
     (ap (λ (k : ℕ). (w.nodes stage.me.0).calls k) next.seq.1 ∙ shows.call)
     ∙ ap (λ (k : ℕ). carried_out stage.setting stage.me node (known_after k reply) s.c
     (on_reply stage.setting.layout.block stage.setting.code
-    (fresh_stamp stage.me s.c.call.view (w.clocks stage.me.0) (w.nodes stage.me.0).boot (known_after k reply)) s.c from call reply)) shows.known
+    (fresh_stamp stage.me s.c.stamp.view (w.clocks stage.me.0) (w.nodes stage.me.0).boot (known_after k reply)) s.c from call reply)) shows.known
     ∙ ap (λ (b : ℕ). carried_out stage.setting stage.me node (known_after s.known reply) s.c
     (on_reply stage.setting.layout.block stage.setting.code
-    (fresh_stamp stage.me s.c.call.view (w.clocks stage.me.0) b (known_after s.known reply)) s.c from call reply)) shows.node_boot
+    (fresh_stamp stage.me s.c.stamp.view (w.clocks stage.me.0) b (known_after s.known reply)) s.c from call reply)) shows.node_boot
     ∙ ap (λ (t : ℕ). carried_out stage.setting stage.me node (known_after s.known reply) s.c
     (on_reply stage.setting.layout.block stage.setting.code
-    (fresh_stamp stage.me s.c.call.view t s.c.call.boot (known_after s.known reply)) s.c from call reply)) shows.clock
+    (fresh_stamp stage.me s.c.stamp.view t s.c.call.boot (known_after s.known reply)) s.c from call reply)) shows.clock
   where
     node : Node
     node = with_round (w.nodes stage.me.0) reply
@@ -268,7 +268,7 @@ module _ (stage : Stage) (n : ℕ) (w : World) (s : Scene) (from : BrickId) (cal
         numbers = refl;
         reached = refl;
         packets = refl;
-        own = phase_own stage w n d.call (request_of stage.setting.code d) 0 d.group.members (next_number stage n w s d shows same);
+        own = phase_own stage w n d.call (request_of stage.setting.code d) 0 (asked_group d).members (next_number stage n w s d shows same);
       })
       same)))
 
@@ -311,7 +311,7 @@ module _ (stage : Stage) (n : ℕ) (w : World) (s : Scene) (from : BrickId) (cal
         numbers = refl;
         reached = refl;
         packets = refl;
-        own = phase_own stage w n d.call (request_of stage.setting.code d) 0 d.group.members (next_number stage n w s d shows same);
+        own = phase_own stage w n d.call (request_of stage.setting.code d) 0 (asked_group d).members (next_number stage n w s d shows same);
       })
       same)))
 

@@ -38,7 +38,7 @@ use Rattle.protocol.proofs.Events.{run-append}
 use Rattle.calm_laws.proofs.Scenes.{Each, EndsAt, IsNewest, Part, Stage}
 use Rattle.calm_laws.proofs.Shows.{IsMember, call_same_but}
 use Rattle.calm_laws.proofs.Storing.{held_newest}
-use Rattle.calm_laws.specs.Laws.{AreCollects, AreJustQuorum, CollectsLeaveOne, EncodesBlocks, HasOnly, IsCollect, IsMemberAmong, LeavesOne, RunsInFirst, most_records}
+use Rattle.calm_laws.specs.Laws.{AreCollects, AreJustQuorum, CollectsLeaveOne, EncodesBlocks, HasOnly, IsCollect, IsMemberAmong, LeavesOne, AsksNoPrior, most_records}
 use Rattle.calm_laws.specs.Logs.{is_stripe, log_in}
 use Rattle.quorum.specs.Quorums.{quorum_of}
 
@@ -109,7 +109,7 @@ ends_stored stage c o parts t None (Some u) its made version ends =
 
 module _ (setting : Setting) (events : List Event) (n : ℕ) (bricks : List BrickId) (sound : IsSound setting) (encodes : EncodesBlocks setting)
     (small : setting.layout.records ≤ most_records) (calm : IsCalm setting (run setting events (first_world setting.layout)) n bricks)
-    (first : RunsInFirst calm.coordinator) (exactly : AreJustQuorum calm.coordinator bricks) (t : Stamp) where
+    (near : AsksNoPrior (run setting events (first_world setting.layout)) calm.coordinator bricks) (exactly : AreJustQuorum calm.coordinator bricks) (t : Stamp) where
   abbrev w : World
   w = run setting events (first_world setting.layout)
 
@@ -117,7 +117,7 @@ module _ (setting : Setting) (events : List Event) (n : ℕ) (bricks : List Bric
   c = calm.coordinator
 
   known : Known setting w n calm.operation c
-  known = known_of setting events n bricks sound encodes small calm first
+  known = known_of setting events n bricks sound encodes small calm near
 
   abbrev stage : Stage
   stage = record {
@@ -213,10 +213,11 @@ module _ (setting : Setting) (events : List Event) (n : ℕ) (bricks : List Bric
             packets = λ number packet is. is;
           })) in (
             newest.0.block,
-            shown_log setting.layout (run setting (map (λ number. Delivers number) numbers) last) brick c.group c.call calm.operation.ask.group.0
-                calm.operation.ask.stripe.0 (ap (λ (a : Ask). group_of setting.layout a.group.0) (sym known.call.ask) ∙ known.call.group_is)
+            shown_log setting.layout (run setting (map (λ number. Delivers number) numbers) last) brick known.call.base c.call calm.operation.ask.group.0
+                calm.operation.ask.stripe.0 (ap (λ (a : Ask). group_of setting.layout a.group.0) (sym known.call.ask) ∙ known.call.base_is)
                 (ap (λ g. g.0) known.call.of_group ∙ ap (λ (a : Ask). a.group.0) known.call.ask)
-                (ap (λ s. s.0) known.call.stripe ∙ ap (λ (a : Ask). a.stripe.0) known.call.ask) keeps.member.up keeps.member.stripe keeps.member.view
+                (ap (λ s. s.0) known.call.stripe ∙ ap (λ (a : Ask). a.stripe.0) known.call.ask) keeps.member.up
+                (ap (λ (k : ℕ). nat_lt c.call.stripe.0 k) known.call.stripes ∙ keeps.member.stripe) keeps.member.view
                 ∙ ap (λ (l : List Version). Some l) keeps.log_is
                 ∙ ap (λ (s : Stamp). Some ((let x : Version = record { stamp = s; block = newest.0.block } in x) ∷ [])) newest.2,
           )
@@ -245,12 +246,12 @@ module _ (setting : Setting) (events : List Event) (n : ℕ) (bricks : List Bric
 
 -- after every schedule
 pub collects_leave : CollectsLeaveOne
-collects_leave setting events n bricks sound encodes small calm first alone last runs exactly operation t is made version =
+collects_leave setting events n bricks sound encodes small calm near alone last runs exactly operation t is made version =
     let w : World = run setting events (first_world setting.layout) in
-    let finish = finishes setting sound encodes w n bricks calm (known_of setting events n bricks sound encodes small calm first) in
+    let finish = finishes setting sound encodes w n bricks calm (known_of setting events n bricks sound encodes small calm near) in
     let same : finish.last ≡ last = (runs_once setting n bricks w finish.events finish.last finish.alone alone last runs).1 in
     let its : finish.end.operation ≡ operation
     = same_Some finish.end.operation operation (sym finish.end.is ∙ ap (λ (z : World). z.operations n) same ∙ is) in
     subst (λ (z : World). LeavesOne setting z calm.operation calm.coordinator t bricks) same
-    (leaves_one setting events n bricks sound encodes small calm first exactly t finish
+    (leaves_one setting events n bricks sound encodes small calm near exactly t finish
     (ap (λ (o : Operation). o.made) its ∙ made) (ap (λ (o : Operation). o.version) its ∙ version))

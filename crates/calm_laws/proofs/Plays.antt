@@ -3,7 +3,7 @@ use Rattle.messages.specs.declared.requests.Request.{Request}
 use Rattle.fab_base.specs.declared.stamps.Stamp.{Stamp}
 use Rattle.protocol_laws.proofs.Books.{version_after}
 use Rattle.std.proofs.Common.{Bool, arith, false, not, ◌&&◌, List, None, Option, Some, [], ap, cond, refl, subst, sym, true, ℕ, ⊎_elim, ◌++◌, ◌+◌, ◌∙◌, ◌∷◌, ◌≡◌, ◌≢◌}
-use Rattle.std.proofs.lemmas.Bool.{and_parts, cases_eq, eq-eqb, or_from}
+use Rattle.std.proofs.lemmas.Bool.{and_parts, cases_eq, eq-eqb, or_from, false≢true}
 use Rattle.std.proofs.lemmas.Bool.Decides.{nat_tests}
 use Rattle.std.specs.Prelude.{filter, is_some, nat_eq, nat_lt, ◌-◌}
 use Rattle.calm_laws.proofs.Queues.{IsHead, head_of}
@@ -17,13 +17,13 @@ use Rattle.messages.specs.declared.calls.Call.{Call}
 use Rattle.messages.specs.declared.packets.Packet.{Packet}
 use Rattle.messages.specs.declared.replies.Reply.{Reply}
 use Rattle.protocol.specs.Calms.{RunsAlone, goes_among, is_left, is_one_of, open_at, open_call, operation_of, Ended}
-use Rattle.protocol.specs.Coordinators.{Coordinator}
+use Rattle.protocol.specs.Coordinators.{Coordinator, looks_back}
 use Rattle.protocol.specs.Nodes.{Node, NodeStep, fits, full_at, has_accepted, is_now, is_void, moved_at, no_step, put, reacted, received, replica_at, reply_packets, requested, requested_as, requested_at, requested_in, seat_now, served_unless, view_at, with_replica, collect_packets}
 use Rattle.protocol.specs.Ballots.{moved_to}
 use Rattle.protocol.specs.Settings.{Setting}
 use Rattle.protocol.specs.Coordinators.{request_of}
 use Rattle.protocol.specs.declared.phases.Phase.{Phase}
-use Rattle.protocol.specs.declared.phases.Phase.TheVariants.{Looks, LooksAt, Orders, OrdersAt, Recovers, Descends, Modifies, Bases, Stores}
+use Rattle.protocol.specs.declared.phases.Phase.TheVariants.{Looks, LooksAt, Orders, OrdersAt, Recovers, Descends, Modifies, Bases, Stores, LooksBack}
 use Rattle.messages.specs.declared.replies.Reply.TheVariants.{Moved}
 use Rattle.protocol.specs.Replicas.{Reaction, Replica, handle}
 use Rattle.protocol.specs.Worlds.{Delivers, Event, Operation, World, happens, is_up, number_of, run}
@@ -226,30 +226,31 @@ member_step stage w from call x request member seat handled fitting =
         (ap (λ (b : Bool). b && not (is_some (seat_now x.brick node call stage.group))) now ∙ ap (λ (z : Option ℕ). not (is_some z)) seated)
         (ap (λ (z : Option ℕ). not (fits stage.setting.layout stage.group.m call request z)) seated ∙ ap (λ (b : Bool). not b) fitting))))
 
--- what a coordinator asks is a request of a stripe
-asks_of_stripe : (stage : Stage) (c : Coordinator) (x : Seated) → IsHandled (asked_of stage c x)
+-- what a coordinator asks in its own view is a request of a stripe
+asks_of_stripe : (stage : Stage) (c : Coordinator) (x : Seated) → looks_back c.phase ≡ false → IsHandled (asked_of stage c x)
 unfolding request_of
 asks_of_stripe stage c x = by c.phase
   where
-    by : (phase : Phase) → IsHandled (asked_of stage (record c { phase = phase }) x)
-    by Looks = tt
-    by (LooksAt j) = tt
-    by Orders = tt
-    by (OrdersAt j) = tt
-    by Recovers = tt
-    by (Descends bound) = tt
-    by (Modifies base j) = tt
-    by (Bases base) = tt
-    by Stores = tt
+    by : (phase : Phase) → looks_back phase ≡ false → IsHandled (asked_of stage (record c { phase = phase }) x)
+    by Looks ahead = tt
+    by (LooksAt j) ahead = tt
+    by Orders ahead = tt
+    by (OrdersAt j) ahead = tt
+    by Recovers ahead = tt
+    by (Descends bound) ahead = tt
+    by (LooksBack bound) ahead = absurd (false≢true (sym ahead))
+    by (Modifies base j) ahead = tt
+    by (Bases base) ahead = tt
+    by Stores ahead = tt
 
 -- and so what the coordinator asks of it
 pub asked_step : (stage : Stage) (n : ℕ) (w : World) (s : Scene) (x : Seated) → Shows stage n w s → IsSeated stage x → Fits stage s.c x
-    → received stage.setting x.brick (w.clocks x.brick.0) (w.nodes x.brick.0) (asking stage s.c x)
+    → looks_back s.c.phase ≡ false → received stage.setting x.brick (w.clocks x.brick.0) (w.nodes x.brick.0) (asking stage s.c x)
     ≡ reacted x.brick stage.me (w.nodes x.brick.0) s.c.call (reaction stage s.c (s.parts x.brick.0) x)
 unfolding received
-asked_step stage n w s x shows seated fitting =
+asked_step stage n w s x shows seated fitting ahead =
     let part = shows.parts x.brick seated.1 in
-    member_step stage w stage.me s.c.call x (asked_of stage s.c x) (shows.members x.brick seated.1) seated.0 (asks_of_stripe stage s.c x) fitting
+    member_step stage w stage.me s.c.call x (asked_of stage s.c x) (shows.members x.brick seated.1) seated.0 (asks_of_stripe stage s.c x ahead) fitting
     ∙ ap (λ (l : ℕ). reacted x.brick stage.me (w.nodes x.brick.0) s.c.call (handle stage.setting.code stage.group.m
     (full_at stage.setting.layout.records l) x.seat (replica_at (w.nodes x.brick.0) s.c.call) (asked_of stage s.c x))) part.live
     ∙ ap (λ (r : Replica). reacted x.brick stage.me (w.nodes x.brick.0) s.c.call (handle stage.setting.code stage.group.m

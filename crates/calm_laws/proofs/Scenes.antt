@@ -1,6 +1,8 @@
 -- An operation alone, seen from its coordinator: a small machine of the coordinator, what its members keep of its stripe, and the queue of its
 -- messages. What it does, the disk does with the operation's messages alone.
-use Rattle.std.proofs.Common.{List, None, Option, Some, [], false, refl, subst, sym, true, ℕ, ◌++◌, ◌+◌, ◌∷◌, ◌≡◌}
+use Rattle.fab_base.specs.declared.asks.Op.TheVariants.{ReadBlock, ReadStripe, WriteBlock, WriteStripe}
+use Rattle.fab_base.specs.declared.asks.Op.{Op}
+use Rattle.std.proofs.Common.{List, None, Option, Some, [], false, refl, subst, sym, true, ℕ, ◌++◌, ◌+◌, ◌∷◌, ◌≡◌, Bool, ap, cond, ◌∙◌}
 use Rattle.std.specs.Prelude.{filter, max, nat_eq, ◌-◌}
 use Rattle.fab_base.specs.Layouts.{Group, seat_in}
 use Rattle.fab_base.specs.declared.answers.Answer.{Answer}
@@ -13,9 +15,9 @@ use Rattle.messages.specs.declared.replies.Reply.{Reply}
 use Rattle.messages.specs.declared.requests.Request.{Request}
 use Rattle.messages.specs.declared.requests.Version.{Version}
 use Rattle.protocol.specs.Calms.{goes_among, is_one_of}
-use Rattle.protocol.specs.Coordinators.{Coordinator, Ends, Ignores, Makes, Next, Sends, Waits, on_reply, request_of}
-use Rattle.protocol.specs.Views.{view_told}
-use Rattle.protocol.specs.Nodes.{fits, fresh_stamp, full_at, known_after, phase_packets, put, reply_packets}
+use Rattle.protocol.specs.Coordinators.{Coordinator, Ends, Ignores, Makes, Next, Sends, Waits, on_reply, request_of, asked_group, asked_view, looks_back}
+use Rattle.protocol.specs.Views.{view_told, kept_by}
+use Rattle.protocol.specs.Nodes.{fits, fresh_stamp, full_at, known_after, phase_packets, put, reply_packets, first_phase}
 use Rattle.protocol.specs.Replicas.{Reaction, Replica, handle, newest_of}
 use Rattle.protocol.specs.Settings.{Setting}
 use Rattle.protocol.specs.declared.phases.Phase.{Phase}
@@ -118,11 +120,32 @@ heard s reply rest = record s { known = known_after s.known reply; queue = rest 
 abbrev pub decision : Stage → Scene → BrickId → Call → Reply → Next
 decision stage s from call reply =
     on_reply stage.setting.layout.block stage.setting.code
-    (fresh_stamp stage.me s.c.call.view stage.now s.c.call.boot (known_after s.known reply)) s.c from call reply
+    (fresh_stamp stage.me s.c.stamp.view stage.now s.c.call.boot (known_after s.known reply)) s.c from call reply
 
 -- the messages of a phase that are delivered
 abbrev pub sends : Stage → Coordinator → List Packet
 sends stage d = filter (goes_among stage.bricks) (phase_packets stage.setting stage.me d)
+
+-- A coordinator is in a phase that asks the members of its operation's view: the group is this one, and its call is of the view of its stamp.
+pub record IsInView (group : Group) (c : Coordinator) : Type 0 where
+  pub group_is : c.group ≡ group
+  pub ahead : looks_back c.phase ≡ false
+  pub own : c.call.view ≡ c.stamp.view
+
+-- such a phase asks the group's members
+pub asks_own : (group : Group) (c : Coordinator) → IsInView group c → asked_group c ≡ group
+asks_own group c is = ap (λ (b : Bool). cond b (kept_by c.prior c.group) c.group) is.ahead ∙ is.group_is
+
+-- a phase that does not look back is of the operation's view
+pub view_ahead : (t : Stamp) (phase : Phase) → looks_back phase ≡ false → asked_view t phase ≡ t.view
+view_ahead t phase ahead = ap (λ (b : Bool). cond b (record { 0 = t.view.0 - 1 }) t.view) ahead
+
+-- a first phase looks at the operation's own view
+pub first_ahead : (op : Op) → looks_back (first_phase op) ≡ false
+first_ahead (ReadBlock j) = refl
+first_ahead (WriteBlock j bytes) = refl
+first_ahead ReadStripe = refl
+first_ahead (WriteStripe bytes) = refl
 
 -- the coordinators are of one operation
 pub record SameCall (c d : Coordinator) : Type 0 where
@@ -152,7 +175,7 @@ pub record IsNext (stage : Stage) (s : Scene) (from : BrickId) (call : Call) (re
 -- From a scene the operation comes to an answer that is no abort: its messages are delivered in order.
 pub data Closes (stage : Stage) : Scene → Type 0 where
   Asks : (s : Scene) (x : Seated) (rest : List Packet) → s.queue ≡ asking stage s.c x ∷ rest → IsSeated stage x → Fits stage s.c x
-      → Closes stage (asked stage s x rest) → Closes stage s
+      → looks_back s.c.phase ≡ false → Closes stage (asked stage s x rest) → Closes stage s
   Skips : (s : Scene) (from : BrickId) (call : Call) (reply : Reply) (rest : List Packet) → IsNext stage s from call reply rest
       → decision stage s from call reply ≡ Ignores → Closes stage (heard s reply rest) → Closes stage s
   Counts : (s : Scene) (from : BrickId) (call : Call) (reply : Reply) (rest : List Packet) (d : Coordinator) → IsNext stage s from call reply rest

@@ -32,7 +32,7 @@ module _ (stage : Stage) (cast : Cast stage) (logs : ℕ → List Version) (lore
       ordering_tame stage cast logs s (looking (Below s.c.stamp) Want.All) (recover_goes stage cast logs lore s)
       (recover_ordering stage cast logs lore s phase) set.open_is (omega (arith, early)) set.later set.tame
       (λ before parts known tame.
-      recover_accepted stage cast logs lore s set.open_is.group set.later (omega (arith, early, low))
+      recover_accepted stage cast logs lore s set.open_is.in_view set.later (omega (arith, early, low))
       (floor_below stage cast logs lore s.c.stamp parts tame unheld) set.open_is.others before parts known tame)
 
   -- a recovery in its first round
@@ -43,7 +43,7 @@ module _ (stage : Stage) (cast : Cast stage) (logs : ℕ → List Version) (lore
       ordering_first stage cast logs s (looking (Below s.c.stamp) Want.All) (recover_goes stage cast logs lore s)
       (recover_ordering stage cast logs lore s phase) first (omega (arith, early)) (λ y log. refl)
       (λ before parts known tame.
-      recover_accepted stage cast logs lore s first.open_is.group (not_first s.c.stamp first.from_one) (omega (arith, early, low))
+      recover_accepted stage cast logs lore s first.open_is.in_view (not_first s.c.stamp first.from_one) (omega (arith, early, low))
       (floor_below stage cast logs lore s.c.stamp parts tame unheld) first.open_is.others before parts known tame)
       (λ before parts known counted grows set free.
       recover_tame (sent stage (after_replies stage s known parts first.open_is.others before) (reordering (having s.c counted) (second_stamp stage s.c known)))
@@ -55,7 +55,7 @@ module _ (stage : Stage) (cast : Cast stage) (logs : ℕ → List Version) (lore
       ordering_tame stage cast logs s (λ x log. Ordered) (write_goes stage cast logs lore s)
       (write_ordering stage cast logs lore s phase) set.open_is (omega (arith, early)) set.later set.tame
       (λ before parts known tame.
-      write_accepted stage cast logs lore s set.open_is.group (omega (arith, early)) set.open_is.others before parts known tame)
+      write_accepted stage cast logs lore s set.open_is.in_view (omega (arith, early)) set.open_is.others before parts known tame)
 
   -- a stripe write
   pub write_first : (s : Scene) → IsFirst stage cast logs s → s.c.phase ≡ Orders → s.c.call.phase ≤ 3 → Closes stage s
@@ -63,7 +63,7 @@ module _ (stage : Stage) (cast : Cast stage) (logs : ℕ → List Version) (lore
       ordering_first stage cast logs s (λ x log. Ordered) (write_goes stage cast logs lore s)
       (write_ordering stage cast logs lore s phase) first (omega (arith, early)) (λ y log. refl)
       (λ before parts known tame.
-      write_accepted stage cast logs lore s first.open_is.group (omega (arith, early)) first.open_is.others before parts known tame)
+      write_accepted stage cast logs lore s first.open_is.in_view (omega (arith, early)) first.open_is.others before parts known tame)
       (λ before parts known counted grows set free.
       write_tame (sent stage (after_replies stage s known parts first.open_is.others before) (reordering (having s.c counted) (second_stamp stage s.c known)))
       set phase (omega (arith, early)))
@@ -78,7 +78,7 @@ module _ (stage : Stage) (cast : Cast stage) (logs : ℕ → List Version) (lore
         ordering_tame stage cast logs s (looking (Below s.c.stamp) (Want.Seat j)) (block_goes stage cast logs lore s j)
         (block_ordering stage cast logs lore s j phase) set.open_is (omega (arith, early)) set.later set.tame
         (λ before parts known tame.
-        block_accepted stage cast logs lore s j set.open_is.group set.later (omega (arith, early, low))
+        block_accepted stage cast logs lore s j set.open_is.in_view set.later (omega (arith, early, low))
         (floor_below stage cast logs lore s.c.stamp parts tame unheld) unheld below_m written deltas set.open_is.others before parts known tame)
 
     -- a block write
@@ -89,7 +89,7 @@ module _ (stage : Stage) (cast : Cast stage) (logs : ℕ → List Version) (lore
         ordering_first stage cast logs s (looking (Below s.c.stamp) (Want.Seat j)) (block_goes stage cast logs lore s j)
         (block_ordering stage cast logs lore s j phase) first (omega (arith, early)) (λ y log. refl)
         (λ before parts known tame.
-        block_accepted stage cast logs lore s j first.open_is.group (not_first s.c.stamp first.from_one) (omega (arith, early, low))
+        block_accepted stage cast logs lore s j first.open_is.in_view (not_first s.c.stamp first.from_one) (omega (arith, early, low))
         (floor_below stage cast logs lore s.c.stamp parts tame unheld) unheld below_m written deltas first.open_is.others before parts known tame)
         (λ before parts known counted grows set free.
         block_tame (sent stage (after_replies stage s known parts first.open_is.others before) (reordering (having s.c counted) (second_stamp stage s.c known))) j
