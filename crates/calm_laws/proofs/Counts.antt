@@ -61,7 +61,7 @@ Carries stage s (Ends answer seen stored) = (is_answer answer ≡ true) × EndsA
 
 same_counted : (c d : Coordinator) (counted : List Counted) → SameCall c d → SameCall (record c { counted = counted }) d
 same_counted c d counted same =
-    record { group = same.group; boot = same.boot; seq = same.seq; of_group = same.of_group; view = same.view; stripe = same.stripe }
+    record { group = same.group; prior = same.prior; boot = same.boot; seq = same.seq; of_group = same.of_group; view = same.view; stripe = same.stripe }
 
 -- it is the same for a coordinator that counted other replies
 carries_counted : (stage : Stage) (s : Scene) (counted : List Counted) (next : Next) → Carries stage s next
@@ -107,17 +107,17 @@ counts block c from seat reply early seated answers new =
     ∙ ap (λ (b : Bool). cond b None (Some seat)) new
 
 -- what the reply of this member decides, as it counts
-counts_so : (stage : Stage) (s : Scene) (f : Seated → Reply) (x : Seated) → s.c.call.phase < 2 ^ 32 - 1 → asked_group s.c ≡ stage.group
-    → IsSeated stage x → answers_phase stage.setting.layout.block s.c.stamp x.seat s.c.phase (f x) ≡ true → has_seat x.seat s.c.counted ≡ false
+counts_so : (stage : Stage) (group : Group) (s : Scene) (f : Seated → Reply) (x : Seated) → s.c.call.phase < 2 ^ 32 - 1 → asked_group s.c ≡ group
+    → seat_in group.members x.brick.0 ≡ Some x.seat → answers_phase stage.setting.layout.block s.c.stamp x.seat s.c.phase (f x) ≡ true → has_seat x.seat s.c.counted ≡ false
     → decision stage s x.brick s.c.call (f x)
     ≡ once_full stage.setting.layout.block stage.setting.code (fresh_at stage s.c (known_after s.known (f x)))
     (record s.c { counted = s.c.counted ++ (counted_of f x ∷ []) })
 unfolding on_reply
-counts_so stage s f x early group seated answers new =
+counts_so stage group s f x early is seated answers new =
     ap (λ (z : Option ℕ). counted_at stage.setting.layout.block stage.setting.code
     (fresh_at stage s.c (known_after s.known (f x))) s.c x.brick (f x) z)
     (counts stage.setting.layout.block s.c x.brick.0 x.seat (f x) early
-    (subst (λ (g : Group). seat_in g.members x.brick.0 ≡ Some x.seat) (sym group) seated.0) answers new)
+    (subst (λ (g : Group). seat_in g.members x.brick.0 ≡ Some x.seat) (sym is) seated) answers new)
 
 -- with fewer than a quorum it waits, and with a quorum it decides
 waits_for : (block : ℕ) (code : Code) (fresh : Option Stamp) (c : Coordinator) → length c.counted < quorum_of (asked_group c)
@@ -141,35 +141,35 @@ abbrev pub told : Stage → Call → (Seated → Reply) → List Seated → List
 told stage call f xs = map (λ x. replying stage x.brick call (f x)) xs
 
 -- the replies of a quorum's members are heard in order, and decide
-pub replies_pass : (stage : Stage) (f : Seated → Reply) (xs : List Seated) (s : Scene) (rest : List Packet)
-    → s.queue ≡ told stage s.c.call f xs ++ rest → s.c.call.phase < 2 ^ 32 - 1 → asked_group s.c ≡ stage.group → Each (IsSeated stage) xs
+pub replies_pass : (stage : Stage) (group : Group) (f : Seated → Reply) (xs : List Seated) (s : Scene) (rest : List Packet)
+    → s.queue ≡ told stage s.c.call f xs ++ rest → s.c.call.phase < 2 ^ 32 - 1 → asked_group s.c ≡ group → Each (λ x. seat_in group.members x.brick.0 ≡ Some x.seat) xs
     → Each (λ x. answers_phase stage.setting.layout.block s.c.stamp x.seat s.c.phase (f x) ≡ true) xs → Each (λ x. view_told (f x) ≡ None) xs
     → AreNew f s.c.counted xs
-    → 1 ≤ length xs → length s.c.counted + length xs ≡ quorum_of stage.group
+    → 1 ≤ length xs → length s.c.counted + length xs ≡ quorum_of group
     → Carries stage (record s { known = known_through (told stage s.c.call f xs) s.known; queue = rest })
     (decides stage s.c (known_through (told stage s.c.call f xs) s.known) (s.c.counted ++ map (counted_of f) xs))
     → Closes stage s
-replies_pass stage f [] s rest is early group seated answers plain new some many then = absurd (omega arith)
-replies_pass stage f (x ∷ []) s rest is early group seated answers plain new some many then =
+replies_pass stage group f [] s rest is early asks seated answers plain new some many then = absurd (omega arith)
+replies_pass stage group f (x ∷ []) s rest is early asks seated answers plain new some many then =
     let quorum : length (s.c.counted ++ (counted_of f x ∷ [])) ≡ quorum_of (asked_group s.c)
-    = length_more s.c.counted (counted_of f x) ∙ many ∙ ap (λ (g : Group). quorum_of g) (sym group) in
+    = length_more s.c.counted (counted_of f x) ∙ many ∙ ap (λ (g : Group). quorum_of g) (sym asks) in
     hears stage s x.brick s.c.call (f x) rest (record { queue = is; seq = (refl, refl); plain = plain.0 })
     (carries_outcome stage (heard s (f x) rest) (decision stage s x.brick s.c.call (f x))
     (subst (λ (z : Next). Carries stage (heard s (f x) rest) z)
-    (sym (counts_so stage s f x early group seated.0 answers.0 new.0
+    (sym (counts_so stage group s f x early asks seated.0 answers.0 new.0
     ∙ decides_at stage.setting.layout.block stage.setting.code (fresh_at stage s.c (known_after s.known (f x)))
     (record s.c { counted = s.c.counted ++ (counted_of f x ∷ []) }) quorum)) then))
-replies_pass stage f (x ∷ (y ∷ ys)) s rest is early group seated answers plain new some many then =
+replies_pass stage group f (x ∷ (y ∷ ys)) s rest is early asks seated answers plain new some many then =
     let now : Coordinator = record s.c { counted = s.c.counted ++ (counted_of f x ∷ []) } in
     let long : length (s.c.counted ++ (counted_of f x ∷ [])) ≡ length s.c.counted + 1 = length_more s.c.counted (counted_of f x) in
-    let same : quorum_of (asked_group s.c) ≡ quorum_of stage.group = ap (λ (g : Group). quorum_of g) group in
+    let same : quorum_of (asked_group s.c) ≡ quorum_of group = ap (λ (g : Group). quorum_of g) asks in
     let few : length now.counted < quorum_of (asked_group now) = omega (arith, long, many, same) in
     hears stage s x.brick s.c.call (f x) (told stage s.c.call f (y ∷ ys) ++ rest) (record { queue = is; seq = (refl, refl); plain = plain.0 })
     (subst (λ (z : Next). Outcome stage (heard s (f x) (told stage s.c.call f (y ∷ ys) ++ rest)) z)
-    (sym (counts_so stage s f x early group seated.0 answers.0 new.0
+    (sym (counts_so stage group s f x early asks seated.0 answers.0 new.0
     ∙ waits_for stage.setting.layout.block stage.setting.code (fresh_at stage s.c (known_after s.known (f x))) now few)) (
-      record { group = refl; boot = refl; seq = refl; of_group = refl; view = refl; stripe = refl },
-      replies_pass stage f (y ∷ ys) (waits (heard s (f x) (told stage s.c.call f (y ∷ ys) ++ rest)) now) rest refl early group seated.1 answers.1 plain.1 new.1
+      record { group = refl; prior = refl; boot = refl; seq = refl; of_group = refl; view = refl; stripe = refl },
+      replies_pass stage group f (y ∷ ys) (waits (heard s (f x) (told stage s.c.call f (y ∷ ys) ++ rest)) now) rest refl early asks seated.1 answers.1 plain.1 new.1
           (omega arith) (omega (arith, long, many))
           (carries_counted stage
           (record s { known = known_through (told stage s.c.call f (x ∷ (y ∷ ys))) s.known; queue = rest })

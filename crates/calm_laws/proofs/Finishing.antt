@@ -19,11 +19,11 @@ use Rattle.protocol.specs.Calms.{Next as Goes_on, Stuck}
 
 -- each step of the scene is a delivery
 pub plays : (stage : Stage) (n : ℕ) (s : Scene) → Closes stage s → (w : World) → Shows stage n w s → Finishes stage n s.c w
-plays stage n _ (Asks s x rest queue seated fits ahead closes) w shows =
+plays stage n _ (Asks s x rest queue seated fits in_view closes) w shows =
     finishes_by stage n w s s.c (asking stage s.c x) rest shows
-    (record { group = refl; boot = refl; seq = refl; of_group = refl; view = refl; stripe = refl }) queue (shows.members x.brick seated.1).up
+    (record { group = refl; prior = refl; boot = refl; seq = refl; of_group = refl; view = refl; stripe = refl }) queue (shows.members x.brick seated.1).up
     (reacted x.brick stage.me (w.nodes x.brick.0) s.c.call (reaction stage s.c (s.parts x.brick.0) x))
-    (asked_step stage n w s x shows seated fits ahead)
+    (asked_step stage n w s x shows seated fits in_view)
     (λ head.
     plays stage n (asked stage s x rest) closes
     (world_by stage w (1 + head.place) (asking stage s.c x)
@@ -32,7 +32,7 @@ plays stage n _ (Asks s x rest queue seated fits ahead closes) w shows =
     (world_by stage w (1 + head.place) (asking stage s.c x)
     (reacted x.brick stage.me (w.nodes x.brick.0) s.c.call (reaction stage s.c (s.parts x.brick.0) x)))
     s (asked stage s x rest) (asking stage s.c x) rest (replies_from stage s.c (s.parts x.brick.0) x) shows head
-    (asked_move stage n w s x rest (1 + head.place) shows seated)))
+    (asked_move stage n w s x rest (1 + head.place) shows seated in_view)))
 plays stage n _ (Skips s from call reply rest next is closes) w shows =
     skip_plays stage n w s from call reply rest shows next is (λ later shows_later. plays stage n (heard s reply rest) closes later shows_later)
 plays stage n _ (Counts s from call reply rest d next is same closes) w shows =

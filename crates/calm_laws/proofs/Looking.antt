@@ -15,7 +15,7 @@ use Rattle.calm_laws.proofs.Ordering.{told_from}
 use Rattle.calm_laws.proofs.PhaseRuns.{Cast, known_then, open_run, stale_then}
 use Rattle.calm_laws.proofs.Rooms.{Room}
 use Rattle.calm_laws.proofs.Rounds.{stays_room}
-use Rattle.calm_laws.proofs.Scenes.{Closes, Each, Fits, Part, Scene, Seated, Stage, asked_of, part_after, reaction, sent}
+use Rattle.calm_laws.proofs.Scenes.{Closes, Each, Fits, Part, Scene, Seated, Stage, asked_of, part_after, reaction, sent, of_same}
 use Rattle.calm_laws.proofs.Starts.{AreFew, recover_first}
 use Rattle.calm_laws.proofs.StorePhases.{fits_in_phase}
 use Rattle.calm_laws.proofs.Storing.{with_reaction}
@@ -137,7 +137,7 @@ looks_at_looking stage s j phase = record {
     go counted None fresh is = inl is
     go counted (Some v) fresh is = inr (bytes_at j counted, Some v, is)
 
-module _ (stage : Stage) (cast : Cast stage) (logs : ℕ → List Version) (lore : Lore stage cast logs) (few : AreFew stage cast logs) (s : Scene)
+module _ (stage : Stage) (cast : Cast stage) (logs : ℕ → List Version) (lore : Lore stage cast logs) (few : AreFew stage cast logs lore) (s : Scene)
     (first : IsFirst stage cast logs s) (want : Want) (looking_is : IsLooking stage s want) where
   abbrev replicas : ℕ → Replica
   replicas i = (s.parts i).replica
@@ -185,15 +185,15 @@ module _ (stage : Stage) (cast : Cast stage) (logs : ℕ → List Version) (lore
       let own = first.stamp_known in
       record {
         open_is = record {
-          in_view = record { group_is = first.open_is.in_view.group_is; ahead = refl; own = refl };
+          in_view = record { of = of_same stage s.c (in_phase (having s.c counted) Recovers) (record { group = refl; prior = refl; boot = refl; seq = refl; of_group = refl; view = refl; stripe = refl }) first.open_is.in_view.of; ahead = refl; own = refl };
           counted = refl;
           stale = told_all stage s.c first.open_is.others before;
-          old = stale_then stage s.c (in_phase (having s.c counted) Recovers) (after_in_phase stage.group s.c first.open_is.in_view counted Recovers refl)
+          old = stale_then stage s.c (in_phase (having s.c counted) Recovers) (record { group = refl; prior = refl; boot = refl; seq = refl; of_group = refl; view = refl; stripe = refl }) refl
               (told_all stage s.c first.open_is.others before) (told_replies stage s.c first.open_is.others before);
           others = cast.rest;
           others_seated = cast.rest_seated;
           waiting = ap (λ (q : List Packet). told_all stage s.c first.open_is.others before ++ q)
-              (cast.sends (in_phase (having s.c counted) Recovers) (record { group_is = first.open_is.in_view.group_is; ahead = refl; own = refl }));
+              (cast.sends (in_phase (having s.c counted) Recovers) (record { of = of_same stage s.c (in_phase (having s.c counted) Recovers) (record { group = refl; prior = refl; boot = refl; seq = refl; of_group = refl; view = refl; stripe = refl }) first.open_is.in_view.of; ahead = refl; own = refl }));
         };
         quiet = looks_quiet stage s.c want looking_is.asks first.open_is.others before (max known s.c.stamp.time);
         round = first.round;
@@ -249,7 +249,7 @@ module _ (stage : Stage) (cast : Cast stage) (logs : ℕ → List Version) (lore
           → Carries stage (after_replies stage s known parts first.open_is.others before) (decides stage s.c known counted)
       go before parts still (inl is) =
           subst (λ (z : Next). Carries stage (after_replies stage s known parts first.open_is.others before) z) (sym is) (
-            record { group = refl; boot = refl; seq = refl; of_group = refl; view = sym first.open_is.in_view.own; stripe = refl },
+            record { group = refl; prior = refl; boot = refl; seq = refl; of_group = refl; view = refl; stripe = refl },
             recover_first stage cast logs lore few
                 (sent stage (after_replies stage s known parts first.open_is.others before) (in_phase (having s.c counted) Recovers))
                 (recovery_first counted before parts known known_is still) refl (omega (arith, early)) unheld,

@@ -5,7 +5,7 @@ use Rattle.std.specs.Prelude.{◌-◌, ◌^◌}
 use Rattle.calm_laws.proofs.Asking.{Holds, each_then}
 use Rattle.calm_laws.proofs.Counts.{Carries, counted_of}
 use Rattle.calm_laws.proofs.Decided.{order_decides, recover_decides}
-use Rattle.calm_laws.proofs.Descending.{are_taking, IsSet, Lore, after_replies, down_phase, having, read_back_goes, told_fits}
+use Rattle.calm_laws.proofs.Descending.{are_taking, IsSet, Lore, after_replies, down_phase, having, read_back_goes, told_fits, Ground, IsAbove}
 use Rattle.calm_laws.proofs.Finds.{Has, finding, some_of, total_below}
 use Rattle.protocol_laws.proofs.Logs.{LogAscends}
 use Rattle.calm_laws.proofs.OrderRuns.{IsOrdering, IsUnheld, held_below}
@@ -27,10 +27,10 @@ use Rattle.protocol.specs.declared.phases.Phase.{Phase}
 use Rattle.protocol.specs.declared.phases.Phase.TheVariants.{Descends, Orders, Recovers, Stores}
 
 -- a coordinator goes on to its next phase
-pub after_in_phase : (group : Group) (c : Coordinator) → IsInView group c → (counted : List Counted) (phase : Phase) → looks_back phase ≡ false
+pub after_in_phase : (c : Coordinator) → (counted : List Counted) (phase : Phase) → looks_back phase ≡ false
     → IsAfter c (in_phase (having c counted) phase)
-after_in_phase group c in_view counted phase ahead = record {
-  same = record { group = refl; boot = refl; seq = refl; of_group = refl; view = view_ahead c.stamp phase ahead ∙ sym in_view.own; stripe = refl };
+after_in_phase c counted phase ahead = record {
+  same = record { group = refl; prior = refl; boot = refl; seq = refl; of_group = refl; view = refl; stripe = refl };
   ahead = ahead;
   own = view_ahead c.stamp phase ahead;
   later = refl;
@@ -39,17 +39,21 @@ after_in_phase group c in_view counted phase ahead = record {
 
 -- the floor is below a stamp that tame parts do not hold
 pub floor_below : (stage : Stage) (cast : Cast stage) (logs : ℕ → List Version) (lore : Lore stage cast logs) (t : Stamp) (parts : ℕ → Part)
-    → Holds (TameWith stage t logs) parts cast.xs → IsUnheld logs t cast.xs → stamp_below lore.floor t ≡ true
-floor_below stage cast logs lore t parts tame unheld =
-    go cast.xs (let many = lore.holders in let one = lore.some_block in some_of (λ x. is_held lore.floor (logs x.brick.0)) cast.xs (omega (arith, many, one)))
-    tame unheld lore.ascends
+    → Holds (TameWith stage t logs) parts cast.xs → IsUnheld logs t cast.xs → IsAbove stage cast logs lore.phases lore.ground t
+floor_below stage cast logs lore t parts tame unheld = by lore.ground
   where
-    go : (ys : List Seated) → Has (λ x. is_held lore.floor (logs x.brick.0) ≡ true) ys → Holds (TameWith stage t logs) parts ys → IsUnheld logs t ys
-        → Each (λ x. LogAscends (logs x.brick.0)) ys → stamp_below lore.floor t ≡ true
-    go [] has tame unheld ascends = absurd has
-    go (y ∷ ys) (inl held) tame unheld ascends =
-        held_below stage t (logs y.brick.0) (parts y.brick.0) tame.0 ascends.0 unheld.0 lore.floor held
-    go (y ∷ ys) (inr there) tame unheld ascends = go ys there tame.1 unheld.1 ascends.1
+    by : (ground : Ground stage cast logs lore.phases) → IsAbove stage cast logs lore.phases ground t
+    by (inr back) = tt
+    by (inl at) =
+        go cast.xs (let many = at.holders in let one = lore.some_block in some_of (λ x. is_held at.floor (logs x.brick.0)) cast.xs (omega (arith, many, one)))
+        tame unheld lore.ascends
+      where
+        go : (ys : List Seated) → Has (λ x. is_held at.floor (logs x.brick.0) ≡ true) ys → Holds (TameWith stage t logs) parts ys → IsUnheld logs t ys
+            → Each (λ x. LogAscends (logs x.brick.0)) ys → stamp_below at.floor t ≡ true
+        go [] has tame unheld ascends = absurd has
+        go (y ∷ ys) (inl held) tame unheld ascends =
+            held_below stage t (logs y.brick.0) (parts y.brick.0) tame.0 ascends.0 unheld.0 at.floor held
+        go (y ∷ ys) (inr there) tame unheld ascends = go ys there tame.1 unheld.1 ascends.1
 
 -- A phase at tame parts, with a stamp that none of them holds; and phases enough are left.
 pub record IsReadyToGo (stage : Stage) (cast : Cast stage) (logs : ℕ → List Version) (s : Scene) : Type 0 where
@@ -77,16 +81,16 @@ module _ (stage : Stage) (cast : Cast stage) (logs : ℕ → List Version) (lore
         order_decides stage.setting.layout.block stage.setting.code fresh (having s.c counted) roomy phase;
   }
 
-  pub write_accepted : IsInView stage.group s.c → s.c.call.phase + 1 < 2 ^ 32 - 1 → (others : List Seated) (before parts : ℕ → Part) (known : ℕ)
+  pub write_accepted : IsInView stage s.c → s.c.call.phase + 1 < 2 ^ 32 - 1 → (others : List Seated) (before parts : ℕ → Part) (known : ℕ)
       → Holds (TameWith stage s.c.stamp logs) parts cast.xs
       → Carries stage (after_replies stage s known parts others before) (write_goes (map (counted_of (λ x. Ordered)) cast.xs))
   write_accepted in_view early others before parts known tame = (
-    record { group = refl; boot = refl; seq = refl; of_group = refl; view = sym in_view.own; stripe = refl },
+    record { group = refl; prior = refl; boot = refl; seq = refl; of_group = refl; view = refl; stripe = refl },
     store_phase stage cast
         (made stage (after_replies stage s known parts others before) (in_phase (having s.c (map (counted_of (λ x. Ordered)) cast.xs)) Stores))
         (next_open stage cast s.c (in_phase (having s.c (map (counted_of (λ x. Ordered)) cast.xs)) Stores) others before
         (made stage (after_replies stage s known parts others before) (in_phase (having s.c (map (counted_of (λ x. Ordered)) cast.xs)) Stores)) in_view
-        (after_in_phase stage.group s.c in_view (map (counted_of (λ x. Ordered)) cast.xs) Stores refl) refl refl)
+        (after_in_phase s.c (map (counted_of (λ x. Ordered)) cast.xs) Stores refl) refl refl)
         refl early (λ x seated. lore.encodes s.c.group.m s.c.content x.seat)
         (are_taking stage s.c.stamp logs parts cast.xs lore.ascends tame),
   )
@@ -105,7 +109,7 @@ module _ (stage : Stage) (cast : Cast stage) (logs : ℕ → List Version) (lore
         (finding (told_below logs s.c.stamp Want.All) x) ≡ true) cast.xs
         (λ x fits. ap (λ (p : Phase). answers_phase stage.setting.layout.block s.c.stamp x.seat p
         (finding (told_below logs s.c.stamp Want.All) x)) phase ∙ fits)
-        (told_fits stage cast logs lore s.c.stamp Want.All);
+        (told_fits stage.setting.layout.block logs cast.xs s.c.stamp Want.All lore.blocks);
     answers_later = λ x t. ap (λ (p : Phase). answers_phase stage.setting.layout.block s.c.stamp x.seat p (Later t)) phase;
     unfull = λ x log. refl;
     unmoved = λ x log. refl;
@@ -116,10 +120,10 @@ module _ (stage : Stage) (cast : Cast stage) (logs : ℕ → List Version) (lore
   }
 
   -- below the bound where it looks next it closes
-  pub lower_closes : IsInView stage.group s.c → stamp_same s.c.stamp first_stamp ≡ false
-      → s.c.call.phase + total_below logs s.c.stamp cast.xs + 3 ≤ 2 ^ 32 - 1
+  pub lower_closes : IsInView stage s.c → stamp_same s.c.stamp first_stamp ≡ false
+      → s.c.call.phase + total_below logs s.c.stamp cast.xs + lore.phases + 4 ≤ 2 ^ 32 - 1
       → (others : List Seated) (before parts : ℕ → Part) (known : ℕ) (counted : List Counted) (v : Stamp)
-      → Holds (TameWith stage s.c.stamp logs) parts cast.xs → stamp_below lore.floor v ≡ true
+      → Holds (TameWith stage s.c.stamp logs) parts cast.xs → IsAbove stage cast logs lore.phases lore.ground v
       → total_below logs v cast.xs ≤ total_below logs s.c.stamp cast.xs
       → Closes stage (sent stage (after_replies stage s known parts others before) (in_phase (having s.c counted) (Descends v)))
   lower_closes in_view later early others before parts known counted v tame above few =
@@ -128,18 +132,18 @@ module _ (stage : Stage) (cast : Cast stage) (logs : ℕ → List Version) (lore
       (record {
         open_is = next_open stage cast s.c (in_phase (having s.c counted) (Descends v)) others before
             (sent stage (after_replies stage s known parts others before) (in_phase (having s.c counted) (Descends v))) in_view
-            (after_in_phase stage.group s.c in_view counted (Descends v) refl) refl refl;
+            (after_in_phase s.c counted (Descends v) refl) refl refl;
         tame = tame;
         later = later;
       })
       refl above few (omega (arith, early))
 
-  pub recover_accepted : IsInView stage.group s.c → stamp_same s.c.stamp first_stamp ≡ false
-      → s.c.call.phase + total_below logs s.c.stamp cast.xs + 3 ≤ 2 ^ 32 - 1 → stamp_below lore.floor s.c.stamp ≡ true
+  pub recover_accepted : IsInView stage s.c → stamp_same s.c.stamp first_stamp ≡ false
+      → s.c.call.phase + total_below logs s.c.stamp cast.xs + lore.phases + 4 ≤ 2 ^ 32 - 1 → IsAbove stage cast logs lore.phases lore.ground s.c.stamp
       → (others : List Seated) (before parts : ℕ → Part) (known : ℕ) → Holds (TameWith stage s.c.stamp logs) parts cast.xs
       → Carries stage (after_replies stage s known parts others before)
       (recover_goes (map (counted_of (λ x. looking (Below s.c.stamp) Want.All x (logs x.brick.0))) cast.xs))
   recover_accepted in_view later early above others before parts known tame =
-      read_back_goes stage cast logs lore s in_view s.c.stamp Want.All above others before parts known tame (omega (arith, early))
+      read_back_goes stage cast logs lore s in_view s.c.stamp Want.All above others before parts known tame later (omega (arith, early))
       (λ v over falls. lower_closes in_view later early others before parts known
       (map (counted_of (finding (told_below logs s.c.stamp Want.All))) cast.xs) v tame over (omega (arith, falls)))

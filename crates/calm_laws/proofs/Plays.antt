@@ -7,7 +7,7 @@ use Rattle.std.proofs.lemmas.Bool.{and_parts, cases_eq, eq-eqb, or_from, false�
 use Rattle.std.proofs.lemmas.Bool.Decides.{nat_tests}
 use Rattle.std.specs.Prelude.{filter, is_some, nat_eq, nat_lt, ◌-◌}
 use Rattle.calm_laws.proofs.Queues.{IsHead, head_of}
-use Rattle.calm_laws.proofs.Scenes.{Each, Fits, IsSeated, Part, Scene, Seated, Stage, asked, asked_of, asking, part_after, reaction, replies_from, replying, EndsAt, SameCall}
+use Rattle.calm_laws.proofs.Scenes.{Each, Fits, IsSeated, Part, Scene, Seated, Stage, asked, asked_of, asking, part_after, reaction, replies_from, replying, EndsAt, SameCall, IsInView, call_of}
 use Rattle.calm_laws.proofs.Shows.{IsMove, IsPart, Shows, delivers_so, open_at_is, put_field, world_by, IsMember}
 use Rattle.protocol.proofs.Puts.{put_other}
 use Rattle.protocol.proofs.Tables.{put_same}
@@ -49,8 +49,8 @@ pub record HasEnded (stage : Stage) (n : ℕ) (c : Coordinator) (w last : World)
   pub version : operation.version ≡ version_after before.version seen
   pub parts : ℕ → Part
   pub ends : EndsAt stage coordinator.phase coordinator.stamp parts seen stored
-  pub members : (brick : BrickId) → is_one_of stage.bricks brick ≡ true → IsMember stage last coordinator.call brick
-  pub kept : (brick : BrickId) → is_one_of stage.bricks brick ≡ true → replica_at (last.nodes brick.0) coordinator.call ≡ (parts brick.0).replica
+  pub members : (brick : BrickId) → is_one_of stage.bricks brick ≡ true → IsMember stage last stage.call brick
+  pub kept : (brick : BrickId) → is_one_of stage.bricks brick ≡ true → replica_at (last.nodes brick.0) stage.call ≡ (parts brick.0).replica
   pub packets : last.packets ≡ (run stage.setting events w).packets ++ collect_packets stage.me coordinator stored
 
 -- The operation's deliveries come to their end, and it is answered.
@@ -64,6 +64,7 @@ pub record Finishes (stage : Stage) (n : ℕ) (c : Coordinator) (w : World) : Ty
 same_then : (c d e : Coordinator) → SameCall c d → SameCall d e → SameCall c e
 same_then c d e first second = record {
   group = second.group ∙ first.group;
+  prior = second.prior ∙ first.prior;
   boot = second.boot ∙ first.boot;
   seq = second.seq ∙ first.seq;
   of_group = second.of_group ∙ first.of_group;
@@ -243,18 +244,33 @@ asks_of_stripe stage c x = by c.phase
     by (Bases base) ahead = tt
     by Stores ahead = tt
 
+-- a member serves the operation's call in each phase
+pub member_in : (stage : Stage) (w : World) (c : Coordinator) (brick : BrickId) → c.call ≡ record stage.call { phase = c.call.phase }
+    → IsMember stage w stage.call brick → IsMember stage w c.call brick
+member_in stage w c brick is member =
+    subst (λ (call : Call). IsMember stage w call brick) (sym is) (record {
+      up = member.up;
+      group = member.group;
+      stripe = member.stripe;
+      from_one = member.from_one;
+      view = member.view;
+      free = member.free;
+    })
+
 -- and so what the coordinator asks of it
 pub asked_step : (stage : Stage) (n : ℕ) (w : World) (s : Scene) (x : Seated) → Shows stage n w s → IsSeated stage x → Fits stage s.c x
-    → looks_back s.c.phase ≡ false → received stage.setting x.brick (w.clocks x.brick.0) (w.nodes x.brick.0) (asking stage s.c x)
+    → IsInView stage s.c → received stage.setting x.brick (w.clocks x.brick.0) (w.nodes x.brick.0) (asking stage s.c x)
     ≡ reacted x.brick stage.me (w.nodes x.brick.0) s.c.call (reaction stage s.c (s.parts x.brick.0) x)
 unfolding received
-asked_step stage n w s x shows seated fitting ahead =
+asked_step stage n w s x shows seated fitting in_view =
     let part = shows.parts x.brick seated.1 in
-    member_step stage w stage.me s.c.call x (asked_of stage s.c x) (shows.members x.brick seated.1) seated.0 (asks_of_stripe stage s.c x ahead) fitting
+    member_step stage w stage.me s.c.call x (asked_of stage s.c x) (member_in stage w s.c x.brick (call_of stage s.c shows.of in_view.own) (shows.members x.brick seated.1))
+    seated.0 (asks_of_stripe stage s.c x in_view.ahead) fitting
     ∙ ap (λ (l : ℕ). reacted x.brick stage.me (w.nodes x.brick.0) s.c.call (handle stage.setting.code stage.group.m
     (full_at stage.setting.layout.records l) x.seat (replica_at (w.nodes x.brick.0) s.c.call) (asked_of stage s.c x))) part.live
     ∙ ap (λ (r : Replica). reacted x.brick stage.me (w.nodes x.brick.0) s.c.call (handle stage.setting.code stage.group.m
-    (full_at stage.setting.layout.records (s.parts x.brick.0).live) x.seat r (asked_of stage s.c x))) part.replica
+    (full_at stage.setting.layout.records (s.parts x.brick.0).live) x.seat r (asked_of stage s.c x)))
+    (ap (λ (call : Call). replica_at (w.nodes x.brick.0) call) (call_of stage s.c shows.of in_view.own) ∙ part.replica)
 
 -- the part that changed
 pub part_put : (node : Node) (call : Call) (r : Reaction) → replica_at (with_replica node call r) call ≡ r.replica
@@ -281,12 +297,12 @@ reply_own stage w n brick call (Some reply) number = (number, tt)
 
 -- a request is delivered
 pub asked_move : (stage : Stage) (n : ℕ) (w : World) (s : Scene) (x : Seated) (rest : List Packet) (number : ℕ) → (shows : Shows stage n w s)
-    → IsSeated stage x
+    → IsSeated stage x → IsInView stage s.c
     → IsMove stage n w
     (world_by stage w number (asking stage s.c x)
     (reacted x.brick stage.me (w.nodes x.brick.0) s.c.call (reaction stage s.c (s.parts x.brick.0) x)))
     s (asked stage s x rest) shows.operation number rest (replies_from stage s.c (s.parts x.brick.0) x)
-asked_move stage n w s x rest number shows seated = record {
+asked_move stage n w s x rest number shows seated in_view = record {
   operation_later = shows.operation;
   is = shows.is;
   brick = refl;
@@ -307,7 +323,7 @@ asked_move stage n w s x rest number shows seated = record {
     own = reply_own stage w n x.brick s.c.call change.reply shows.number;
   };
   queue = ap (λ (l : List Packet). rest ++ l) (sym (reply_goes stage x.brick s.c.call change.reply seated.1));
-  same = record { group = refl; boot = refl; seq = refl; of_group = refl; view = refl; stripe = refl };
+  same = record { group = refl; prior = refl; boot = refl; seq = refl; of_group = refl; view = refl; stripe = refl };
 }
   where
     change : Reaction
@@ -319,17 +335,17 @@ asked_move stage n w s x rest number shows seated = record {
     part : Part
     part = part_after stage s.c (s.parts x.brick.0) x
 
-    here : (brick : BrickId) → brick.0 ≡ x.brick.0 → IsPart (put w.nodes x.brick.0 node brick.0) s.c.call (put s.parts x.brick.0 part brick.0)
+    here : (brick : BrickId) → brick.0 ≡ x.brick.0 → IsPart (put w.nodes x.brick.0 node brick.0) stage.call (put s.parts x.brick.0 part brick.0)
     here brick same =
-        subst (λ (i : ℕ). IsPart (put w.nodes x.brick.0 node i) s.c.call (put s.parts x.brick.0 part i)) (sym same)
-        (subst (λ (z : Node). IsPart z s.c.call (put s.parts x.brick.0 part x.brick.0)) (sym (put_same w.nodes x.brick.0 node))
-        (subst (λ (p : Part). IsPart node s.c.call p) (sym (put_same s.parts x.brick.0 part)) (record {
-          replica = part_put (w.nodes x.brick.0) s.c.call change;
+        subst (λ (i : ℕ). IsPart (put w.nodes x.brick.0 node i) stage.call (put s.parts x.brick.0 part i)) (sym same)
+        (subst (λ (z : Node). IsPart z stage.call (put s.parts x.brick.0 part x.brick.0)) (sym (put_same w.nodes x.brick.0 node))
+        (subst (λ (p : Part). IsPart node stage.call p) (sym (put_same s.parts x.brick.0 part)) (record {
+          replica = ap (λ (call : Call). replica_at node call) (sym (call_of stage s.c shows.of in_view.own)) ∙ part_put (w.nodes x.brick.0) s.c.call change;
           live = ap (λ (l : ℕ). l + change.adds - change.drops) (shows.parts x.brick seated.1).live;
         })))
 
     elsewhere : (brick : BrickId) → is_one_of stage.bricks brick ≡ true → brick.0 ≢ x.brick.0
-        → IsPart (put w.nodes x.brick.0 node brick.0) s.c.call (put s.parts x.brick.0 part brick.0)
+        → IsPart (put w.nodes x.brick.0 node brick.0) stage.call (put s.parts x.brick.0 part brick.0)
     elsewhere brick one other =
-        subst (λ (z : Node). IsPart z s.c.call (put s.parts x.brick.0 part brick.0)) (sym (put_other w.nodes x.brick.0 node brick.0 other))
-        (subst (λ (p : Part). IsPart (w.nodes brick.0) s.c.call p) (sym (put_other s.parts x.brick.0 part brick.0 other)) (shows.parts brick one))
+        subst (λ (z : Node). IsPart z stage.call (put s.parts x.brick.0 part brick.0)) (sym (put_other w.nodes x.brick.0 node brick.0 other))
+        (subst (λ (p : Part). IsPart (w.nodes brick.0) stage.call p) (sym (put_other s.parts x.brick.0 part brick.0 other)) (shows.parts brick one))

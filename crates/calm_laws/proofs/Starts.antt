@@ -21,10 +21,10 @@ use Rattle.protocol.specs.Replicas.{written}
 use Rattle.protocol.specs.declared.phases.Phase.TheVariants.{Orders, OrdersAt, Recovers}
 
 -- there are fewer versions than phases that can be numbered
-abbrev pub AreFew : (stage : Stage) → Cast stage → (ℕ → List Version) → Type 0
-AreFew stage cast logs = (bound : Stamp) → total_below logs bound cast.xs + 16 ≤ 2 ^ 32 - 1
+abbrev pub AreFew : (stage : Stage) (cast : Cast stage) (logs : ℕ → List Version) → Lore stage cast logs → Type 0
+AreFew stage cast logs lore = (bound : Stamp) → total_below logs bound cast.xs + lore.phases + 16 ≤ 2 ^ 32 - 1
 
-module _ (stage : Stage) (cast : Cast stage) (logs : ℕ → List Version) (lore : Lore stage cast logs) (few : AreFew stage cast logs) where
+module _ (stage : Stage) (cast : Cast stage) (logs : ℕ → List Version) (lore : Lore stage cast logs) (few : AreFew stage cast logs lore) where
   -- a recovery at tame parts
   recover_tame : (s : Scene) → IsSet stage cast logs s → s.c.phase ≡ Recovers → s.c.call.phase ≤ 4 → IsUnheld logs s.c.stamp cast.xs → Closes stage s
   recover_tame s set phase early unheld =

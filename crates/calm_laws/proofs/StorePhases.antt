@@ -174,7 +174,7 @@ pub modify_phase : (stage : Stage) (cast : Cast stage) (s : Scene) (base : Stamp
     → AreOn stage s.c.stamp base s.parts cast.xs → Closes stage s
 modify_phase stage cast s base j open_is phase early below long on =
     storing_ends stage cast s (IsNewest base) open_is (modify_so stage s.c base j phase) early
-    (λ x seated. fits_in_phase stage s.c (Modifies base j) x phase (modify_fits stage s.c base j x open_is.in_view.group_is below long))
+    (λ x seated. fits_in_phase stage s.c (Modifies base j) x phase (modify_fits stage s.c base j x open_is.in_view.of.group below long))
     (each_then (λ (x : Seated). Takes stage s.c.stamp (IsNewest base) (s.parts x.brick.0))
     (λ (x : Seated). IsStorable stage s.c.stamp (IsNewest base) (s.parts x.brick.0)) cast.xs
     (λ x h. inl h) on)
