@@ -11,7 +11,7 @@ use Rattle.protocol.specs.declared.phases.FullMember.{FullMember}
 use Rattle.protocol.specs.declared.phases.Mover.{Mover}
 use Rattle.protocol.specs.declared.phases.Counted.{Counted}
 use Rattle.protocol.specs.declared.phases.Phase.{Phase}
-use Rattle.protocol.specs.declared.phases.Phase.TheVariants.{Descends, Looks, LooksAt, Modifies, Orders, OrdersAt, Recovers, Stores}
+use Rattle.protocol.specs.declared.phases.Phase.TheVariants.{Descends, Looks, LooksAt, Modifies, Orders, OrdersAt, Recovers, Stores, LooksBack}
 use Rattle.protocol.specs.declared.phases.Refuser.{Refuser}
 use Rattle.reg_model.specs.Registers.{read_of}
 
@@ -111,6 +111,14 @@ module _ (block : ℕ) (code : Code) (fresh : Option Stamp) (c : Coordinator) (r
       ∙ roomy_goes c.counted roomy (unless_refused (greatest_refuser c.counted)
       (read_back block code (in_this c (Descends bound)) (greatest_found c.counted)))
       ∙ ap (λ (z : Option Refuser). unless_refused z (read_back block code (in_this c (Descends bound)) (greatest_found c.counted))) unrefused
+      ∙ ap (λ (p : Phase). read_back block code (in_this c p) (greatest_found c.counted)) (sym phase)
+
+  pub back_decides : (bound : Option Stamp) → c.phase ≡ LooksBack bound
+      → decided block code fresh c ≡ read_back block code c (greatest_found c.counted)
+  unfolding decided
+  back_decides bound phase =
+      decided_in_phase block code fresh c (LooksBack bound) phase
+      ∙ roomy_goes c.counted roomy (read_back block code (in_this c (LooksBack bound)) (greatest_found c.counted))
       ∙ ap (λ (p : Phase). read_back block code (in_this c p) (greatest_found c.counted)) (sym phase)
 
   -- an order goes on, or is tried again

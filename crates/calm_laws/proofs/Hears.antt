@@ -101,6 +101,10 @@ heard_move stage n w later s node d known number rest sent shows nodes up clocks
     live = ap (λ (f : ℕ → Node). (f brick.0).live) nodes ∙ put_field (λ (z : Node). z.live) w.nodes stage.me.0 node heard.live brick.0
         ∙ (shows.parts brick one).live;
   };
+  olds = λ i.
+      ap (λ (f : ℕ → Node). (f i).replicas stage.call.group.0 (stage.call.view.0 - 1) stage.call.stripe.0) nodes
+      ∙ put_field (λ (z : Node). z.replicas stage.call.group.0 (stage.call.view.0 - 1) stage.call.stripe.0) w.nodes stage.me.0 node
+      (ap (λ (f : ℕ → ℕ → ℕ → Replica). f stage.call.group.0 (stage.call.view.0 - 1) stage.call.stripe.0) heard.replicas) i;
   delivery = delivery;
   queue = refl;
   same = same;

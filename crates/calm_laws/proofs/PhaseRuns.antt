@@ -35,7 +35,7 @@ abbrev pub known_then : Stage → Scene → (Seated → Reply) → List Seated �
 known_then stage s f xs stale = known_through (told stage s.c.call f xs) (known_through stale s.known)
 
 -- nothing counts yet
-none_new : (xs : List Seated) → Each (λ x. has_seat x.seat [] ≡ false) xs
+pub none_new : (xs : List Seated) → Each (λ x. has_seat x.seat [] ≡ false) xs
 none_new [] = tt
 none_new (x ∷ xs) = (refl, none_new xs)
 

@@ -5,7 +5,7 @@ use Rattle.protocol.specs.declared.phases.Phase.TheVariants.{LooksBack}
 use Rattle.fab_base.specs.declared.asks.Op.TheVariants.{ReadBlock, ReadStripe, WriteBlock, WriteStripe}
 use Rattle.fab_base.specs.declared.asks.Op.{Op}
 use Rattle.std.proofs.Common.{List, None, Option, Some, [], false, refl, subst, sym, true, ℕ, ◌++◌, ◌+◌, ◌∷◌, ◌≡◌, Bool, ap, cond, ◌∙◌}
-use Rattle.std.specs.Prelude.{filter, max, nat_eq, ◌-◌}
+use Rattle.std.specs.Prelude.{filter, max, nat_eq, ◌-◌, nat_lt}
 use Rattle.fab_base.specs.Layouts.{Group, seat_in}
 use Rattle.fab_base.specs.declared.answers.Answer.{Answer}
 use Rattle.fab_base.specs.declared.identities.BrickId.{BrickId}
@@ -236,7 +236,7 @@ pub data Closes (stage : Stage) : Scene → Type 0 where
   Asks : (s : Scene) (x : Seated) (rest : List Packet) → s.queue ≡ asking stage s.c x ∷ rest → IsSeated stage x → Fits stage s.c x
       → IsInView stage s.c → Closes stage (asked stage s x rest) → Closes stage s
   AsksBack : (s : Scene) (x : Seated) (rest : List Packet) (bound : Option Stamp) → s.queue ≡ asking stage s.c x ∷ rest → IsSeatedBack stage x
-      → IsBack stage s.c bound → stage.may_ask ≡ true
+      → IsBack stage s.c bound → stage.may_ask ≡ true → nat_lt 1 stage.call.view.0 ≡ true
       → Closes stage (record s { queue = rest ++ (replying stage x.brick s.c.call (Old (found_back stage bound x)) ∷ []) }) → Closes stage s
   Skips : (s : Scene) (from : BrickId) (call : Call) (reply : Reply) (rest : List Packet) → IsNext stage s from call reply rest
       → decision stage s from call reply ≡ Ignores → Closes stage (heard s reply rest) → Closes stage s

@@ -1,11 +1,12 @@
 -- A world shows a scene: its coordinator, what its brick knows, the members' parts, and the messages that wait. A delivery of the first of these
 -- leads to a world that shows the next scene.
+use Rattle.protocol.specs.Replicas.{Replica}
 use Rattle.synod_laws.specs.Synods.{Kept}
 use Rattle.std.proofs.Common.{false, Bool, List, None, Option, Some, ap, arith, cond, length, subst, suc, sym, true, ℕ, ⊎_elim, ◌&&◌, ◌++◌, ◌+◌, ◌<◌, ◌∙◌, ◌≡◌}
 use Rattle.std.proofs.lemmas.Bool.{eq-eqb, ne_eqb}
 use Rattle.std.proofs.lemmas.List.{length-append}
 use Rattle.std.proofs.lemmas.Option.{slice_get_within}
-use Rattle.std.specs.Prelude.{filter, nat_eq, nat_lt, slice_get}
+use Rattle.std.specs.Prelude.{filter, nat_eq, nat_lt, slice_get, ◌-◌}
 use Rattle.calm_laws.proofs.Asking.{put_cases}
 use Rattle.calm_laws.proofs.Queues.{IsDelivered, IsHead, IsUnsent, delivered_queue, waiting}
 use Rattle.calm_laws.proofs.Scenes.{Part, SameCall, Scene, Stage, sent, IsOf, of_same}
@@ -39,6 +40,11 @@ pub record IsPart (node : Node) (call : Call) (part : Part) : Type 0 where
   pub replica : replica_at node call ≡ part.replica
   pub live : node.live ≡ part.live
 
+-- What a brick keeps of the stripe in the view before the operation's, while it does not know all stripes to be kept in that: this log.
+pub record IsOld (stage : Stage) (w : World) (brick : BrickId) : Type 0 where
+  pub log : ((w.nodes brick.0).replicas stage.call.group.0 (stage.call.view.0 - 1) stage.call.stripe.0).log ≡ stage.old brick.0
+  pub unsynced : ((w.nodes brick.0).learnt stage.call.group.0).synced ≡ false
+
 pub record Shows (stage : Stage) (n : ℕ) (w : World) (s : Scene) : Type 0 where
   pub operation : Operation
   pub is : w.operations n ≡ Some operation
@@ -54,6 +60,7 @@ pub record Shows (stage : Stage) (n : ℕ) (w : World) (s : Scene) : Type 0 wher
   pub of : IsOf stage s.c
   pub members : (brick : BrickId) → is_one_of stage.bricks brick ≡ true → IsMember stage w stage.call brick
   pub parts : (brick : BrickId) → is_one_of stage.bricks brick ≡ true → IsPart (w.nodes brick.0) stage.call (s.parts brick.0)
+  pub olds : stage.may_ask ≡ true → (brick : BrickId) → is_one_of stage.bricks brick ≡ true → IsOld stage w brick
   pub queue : waiting w n stage.bricks ≡ s.queue
   pub unsent : IsUnsent w
 
@@ -72,6 +79,8 @@ pub record IsMove (stage : Stage) (n : ℕ) (w later : World) (s next : Scene) (
   pub learnt : (i : ℕ) → (later.nodes i).learnt ≡ (w.nodes i).learnt
   pub ballots : (i : ℕ) → (later.nodes i).ballots ≡ (w.nodes i).ballots
   pub parts : (brick : BrickId) → is_one_of stage.bricks brick ≡ true → IsPart (later.nodes brick.0) stage.call (next.parts brick.0)
+  pub olds : (i : ℕ) → (later.nodes i).replicas stage.call.group.0 (stage.call.view.0 - 1) stage.call.stripe.0
+      ≡ (w.nodes i).replicas stage.call.group.0 (stage.call.view.0 - 1) stage.call.stripe.0
   pub delivery : IsDelivered w later n number sent
   pub queue : next.queue ≡ rest ++ filter (goes_among stage.bricks) sent
   pub same : SameCall s.c next.c
@@ -112,6 +121,10 @@ shows_next stage n w later s next packet rest sent shows head move = record {
   of = of_same stage s.c next.c move.same shows.of;
   members = λ brick one. serves_on stage w later stage.call brick move.up move.learnt move.ballots (shows.members brick one);
   parts = λ brick one. move.parts brick one;
+  olds = λ may brick one. record {
+    log = ap (λ (r : Replica). r.log) (move.olds brick.0) ∙ (shows.olds may brick one).log;
+    unsynced = ap (λ (f : ℕ → Learnt). (f stage.call.group.0).synced) (move.learnt brick.0) ∙ (shows.olds may brick one).unsynced;
+  };
   queue = delivered_queue w later n stage.bricks packet rest sent shows.unsent head move.delivery ∙ sym move.queue;
   unsent = λ k above.
       let inside : head.place < length w.packets = slice_get_within w.packets head.place packet head.stands in
