@@ -1,8 +1,10 @@
 -- What is known of the world in which an operation begins to run alone holds in every world that a run reaches.
+use Rattle.std.specs.Option.{option_map}
+use Rattle.calm_laws.proofs.Beginnings.{OpenFacts, open_facts}
 use Rattle.std.proofs.lemmas.List.{append-nil}
 use Rattle.std.specs.List.{list_any}
 use Rattle.view_laws.proofs.SyncedViews.{syncs_are_said}
-use Rattle.view_laws.specs.Syncs.{SyncedWasSent}
+use Rattle.view_laws.specs.Syncs.{SyncedWasSent, IsSaidSynced}
 use Rattle.view_laws.specs.Following.{Follows}
 use Rattle.quorum.proofs.Counts.{count_full}
 use Rattle.view_laws.proofs.Histories.{kept_is}
@@ -14,14 +16,14 @@ use Rattle.protocol_laws.proofs.StampViews.{StampViews, PartIsOf, always_views}
 use Rattle.protocol.specs.Views.{Views, Learnt, first_kept, group_in, views_in, group_kept, kept_by}
 use Rattle.view_laws.proofs.Followed.{every_run_follows}
 use Rattle.fab_base.proofs.StampOrder.{stamp_neither_below, stamp_below_first}
-use Rattle.protocol.specs.Calms.{IsCalm, knows_synced}
+use Rattle.protocol.specs.Calms.{IsCalm, knows_synced, may_ask_prior}
 use Rattle.protocol.specs.declared.phases.Phase.{Phase}
 use Rattle.fab_base.specs.declared.asks.Op.{Op}
 use Rattle.calm_laws.proofs.Calmness.{ends_alone}
 use Rattle.protocol.specs.Views.{view_of}
 use Rattle.std.proofs.Common.{◌≡◌, ◌≢◌, ℕ, suc, ◌+◌, ◌≤◌, ◌<◌, ◌⊎◌, inl, inr, true, false, List, [], ◌∷◌, length, Some, refl, sym, ap, ◌∙◌, subst, ⊎_elim, arith, Option, None, Bool, not, ◌-◌, ltb-false, nat_lt, ◌&&◌}
 use Rattle.std.specs.Prelude.{if◌then◌else◌, max, nat_eq, slice_get, zero}
-use Rattle.std.proofs.lemmas.Bool.{cases_Bool, cases_eq, cond_both, cond-true, eq-eqb, eqb-true, false≢true, or_cases, cases_lt}
+use Rattle.std.proofs.lemmas.Bool.{cases_Bool, cases_eq, cond_both, cond-true, eq-eqb, eqb-true, false≢true, or_cases, cases_lt, and_parts, ltb-true}
 use Rattle.std.proofs.lemmas.Option.{same_Some}
 use Rattle.fab_base.specs.declared.identities.BrickId.{BrickId}
 use Rattle.fab_base.specs.declared.asks.Ask.{Ask}
@@ -47,7 +49,7 @@ use Rattle.protocol_laws.proofs.Said.{Stamping, Said, Stands, WasCollected, IsMa
 use Rattle.protocol_laws.proofs.SaidAlways.{always_said}
 use Rattle.protocol_laws.proofs.OwnStamps.{not_made_yet}
 use Rattle.calm_laws.specs.Laws.{EncodesBlocks, CalmOperationsEnd, AsksNoPrior, most_records}
-use Rattle.calm_laws.proofs.Known.{Known, KnownCall, KnownMessages, KnownLogs, repeated, KeepsFrom, StandsIn}
+use Rattle.calm_laws.proofs.Known.{Known, KnownCall, KnownMessages, KnownLogs, repeated, KeepsFrom, StandsIn, KnownFloor, KnownBack}
 use Rattle.calm_laws.proofs.Fresh.{IsFresh, IsNumbered, IsOpenAt, opens_at}
 use Rattle.calm_laws.proofs.FreshRuns.{always_fresh}
 use Rattle.calm_laws.proofs.Lives.{CountsLives, always_count, log_within}
@@ -56,7 +58,7 @@ module _ (setting : Setting) (sound : IsSound setting) (encodes : EncodesBlocks 
     (stamps : Stamping) (books : Books setting w) (said : Said setting (views_in setting.layout w.packets) w stamps) (n : ℕ) (o : Operation) (c : Coordinator) (is : IsOperation w n o)
     (at : IsOpenAt w n c) (in_views : StampViews setting.layout w) (follows : Follows setting.layout (views_in setting.layout w.packets) w)
     (fresh : IsFresh setting w n c) (numbered : IsNumbered w) (counts : (i : ℕ) → CountsLives setting.layout (w.nodes i))
-    (synced : (c.stamp.view.0 ≤ 1) ⊎ SyncedSays setting (views_in setting.layout w.packets) w c.call.group.0 c.stamp.view.0) where
+    (bricks : List BrickId) (synced : IsSaidSynced w c.call.group.0 c.stamp.view.0 ⊎ ((may_ask_prior w c bricks ≡ true) × IsSaidSynced w c.call.group.0 (c.stamp.view.0 - 1))) where
   abbrev views : Views
   views = views_in setting.layout w.packets
 
@@ -118,12 +120,6 @@ module _ (setting : Setting) (sound : IsSound setting) (encodes : EncodesBlocks 
   asked_group_is : group_of setting.layout c.ask.group.0 ≡ Some base
   asked_group_is = ap (λ g. group_of setting.layout g.0) (sym its.call_group) ∙ layout_group.1
 
-  -- a brick keeps all versions of the view that it has learnt
-  kept_from : (i : ℕ) → view_at (w.nodes i) c.call.group.0 ≡ e → first_kept ((w.nodes i).learnt c.call.group.0) ≤ e
-  kept_from i same =
-      cond_both ((w.nodes i).learnt c.call.group.0).synced (view_at (w.nodes i) c.call.group.0) (view_at (w.nodes i) c.call.group.0 - 1) (λ (k : ℕ). k ≤ e)
-      (λ is. omega (arith, same)) (λ isnt. omega (arith, same))
-
   group_same : its_books.group ≡ base
   group_same = same_Some its_books.group base (sym its_books.group_is ∙ ap (λ (a : Ask). group_of setting.layout a.group.0) (sym ask) ∙ asked_group_is)
 
@@ -151,8 +147,6 @@ module _ (setting : Setting) (sound : IsSound setting) (encodes : EncodesBlocks 
     groups = λ i same.
         ap (λ (members : List BrickId). group_kept setting.layout members c.call.group.0) (follows.learnt i c.call.group.0)
         ∙ group_at_view (view_at (w.nodes i) c.call.group.0) same;
-    limits = follows.limits c.call.group.0 e c.group call_group;
-    distinct = follows.distinct c.call.group.0 e c.group call_group;
     within = subst (λ (a : Ask). a.stripe.0 < c.group.stripes) (sym ask) (subst (λ (k : ℕ). o.ask.stripe.0 < k) same_stripes its_books.stripe);
     block_fits =
         subst (λ (a : Ask). has_block c.group.m a.op ≡ true) (sym ask)
@@ -186,89 +180,142 @@ module _ (setting : Setting) (sound : IsSound setting) (encodes : EncodesBlocks 
       (subst (λ (a : Ask). a.stripe.0 < base.stripes) (sym ask)
       (subst (λ (z : Group). o.ask.stripe.0 < z.stripes) group_same its_books.stripe))
 
-  -- what stands of the view in the disk stands among its members
-  stands_in : (t : Stamp) → view_of t ≡ e → Stands setting views w c.call.group.0 c.call.stripe.0 t → StandsIn w c t
-  stands_in t of stands = record { of = of; held = stands c.group (group_at_view (view_of t) of) }
+  abbrev g : ℕ
+  g = c.call.group.0
+
+  abbrev st : ℕ
+  st = c.call.stripe.0
+
+  -- a view that is said to be synced has a version that stands: view 1 the first one
+  some_stands : (f : ℕ) → IsSaidSynced w g f → (t : Stamp) × (view_of t ≡ f) × Stands setting views w g st t
+  some_stands f (inl one) = (
+    first_stamp,
+    sym one,
+    (λ group found.
+    let full = count_full (length group.members) (λ seat. w.held (brick_at group seat) g st first_stamp)
+    (λ k less. said.first_held g st (brick_at group k)) in
+    let limits = follows.limits g 1 group found in
+    let blocks = limits.some_block in
+    let seats = limits.enough_seats in
+    omega (arith, full, blocks, seats)),
+  )
+  some_stands f (inr sent) =
+      said.packets sent.2.0 (record { from = sent.0; to = sent.1; message = Message.Synced (record { 0 = g }) (record { 0 = f }) }) sent.2.1
+      st base layout_group.1 stripe_within
 
   -- a version that was collected stands
-  collected_stands : (t : Stamp) → view_of t ≡ e → WasCollected w c.call.group.0 c.call.stripe.0 t → StandsIn w c t
-  collected_stands t of was =
+  collected_stands : (t : Stamp) → WasCollected w g st t → Stands setting views w g st t
+  collected_stands t was =
       let says = said.packets was.sent.0 (record { from = was.from; to = was.to; message = Message.Request was.call (Request.Collect t) }) was.sent.1 in
       let m : ℕ = w.numbers was.from.0 was.call.boot was.call.seq in
       let maker : Operation = says.operation in
       let stands : Stands setting views w maker.ask.group.0 maker.ask.stripe.0 t
       = (said.operations m maker says.called.is).stands t says.version (inr says.answered) in
-      stands_in t of
-      (subst (λ (g : ℕ). Stands setting views w g c.call.stripe.0 t) (says.called.group ∙ was.group)
-      (subst (λ (k : ℕ). Stands setting views w maker.ask.group.0 k t) (says.called.stripe ∙ was.stripe) stands))
+      subst (λ (h : ℕ). Stands setting views w h st t) (says.called.group ∙ was.group)
+      (subst (λ (k : ℕ). Stands setting views w maker.ask.group.0 k t) (says.called.stripe ∙ was.stripe) stands)
 
-  -- a version of the view that stands: the first one, or one that stood as the view was said to be synced
-  some_stands : (t : Stamp) × StandsIn w c t
-  some_stands = ⊎_elim
-      (λ (most : e ≤ 1). (
-        first_stamp,
-        record {
-          of = let least = from_one in omega (arith, most, least);
-          held =
-              let full = count_full (length c.group.members) (λ seat. w.held (brick_at c.group seat) c.call.group.0 c.call.stripe.0 first_stamp)
-              (λ k less. said.first_held c.call.group.0 c.call.stripe.0 (brick_at c.group k)) in
-              let limits = follows.limits c.call.group.0 e c.group call_group in
-              let blocks = limits.some_block in
-              let seats = limits.enough_seats in
-              omega (arith, full, blocks, seats);
-        },
-      ))
-      (λ (says : SyncedSays setting views w c.call.group.0 e).
-      let found = says c.call.stripe.0 base layout_group.1 stripe_within in (found.0, stands_in found.0 found.1 found.2))
+  -- a fresh part has one version at most
+  fresh_short : (block f : ℕ) → length (fresh_replica block f).log ≤ 1
+  fresh_short block f = cond_both (nat_eq f 1) (first_replica block) _ (λ (r : Replica). length r.log ≤ 1) (λ one. omega arith) (λ other. omega arith)
+
+  -- a view whose members keep the group so
+  module _ (f : ℕ) (group : Group) (found : group_in setting.layout views g f ≡ Some group) where
+    stands_in : (t : Stamp) → view_of t ≡ f → Stands setting views w g st t → StandsIn w g st f group t
+    stands_in t of stands =
+        record { of = of; held = stands group (ap (λ (k : ℕ). group_in setting.layout views g k) of ∙ found) }
+
+    logs_in : KnownLogs setting w g st f group
+    logs_in = record {
+      limits = follows.limits g f group found;
+      distinct = follows.distinct g f group found;
+      ascends = λ i. said.logged.ascends g f st i;
+      of = λ i. ((in_views.nodes i).parts g f st).log;
+      blocks = λ i seat k version seat_is at_k.
+          ap (λ (l : List ℕ). length l) ((said.logs g f st i k version at_k).block group seat found seat_is)
+          ∙ encodes group.m (w.contents g st version.stamp) seat;
+      short = λ i.
+          let inside : length (part_in w g f st i).log ≤ (w.nodes i).live + 1 = ⊎_elim
+          (λ (ahead : view_at (w.nodes i) g < f).
+          let none : length (part_in w g f st i).log ≤ 1
+          = subst (λ (r : Replica). length r.log ≤ 1) (sym ((in_views.nodes i).fresh g f st ahead)) (fresh_short setting.layout.block f) in
+          omega (arith, none))
+          (λ (learnt : f ≤ view_at (w.nodes i) g). log_within setting.layout (w.nodes i) g f st base (counts i) layout_group.1 stripe_within learnt)
+          (cases_lt (view_at (w.nodes i) g) f) in
+          let most = (counts i).most in
+          omega (arith, inside, small, most);
+    }
+
+    -- what a brick keeps of it, where some version of it stands
+    floor_in : (base_at : Stamp) → StandsIn w g st f group base_at → KnownFloor w g st f group
+    floor_in base_at base_stands = record { base = base_at; stands = base_stands; keeps = keeps }
+      where
+        keeps : (i : ℕ) → KeepsFrom w g st f group i
+        keeps i = ⊎_elim
+            (λ (kept : first_kept ((w.nodes i).learnt g) ≤ f). at_view kept (part_in w g f st i).log refl)
+            (λ (dropped : f < first_kept ((w.nodes i).learnt g)).
+            record { from = base_at; stands = base_stands; logged = λ kept t of held. absurd (omega (arith, kept, dropped)) })
+            (kept_or_not (first_kept ((w.nodes i).learnt g)))
+          where
+            kept_or_not : (k : ℕ) → (k ≤ f) ⊎ (f < k)
+            kept_or_not k = ⊎_elim (λ (less : f < k). inr less) (λ (most : k ≤ f). inl most) (cases_lt f k)
+
+            -- what was held is in the log, or below it
+            was_there : first_kept ((w.nodes i).learnt g) ≤ f → (log : List Version) → (part_in w g f st i).log ≡ log → (t : Stamp) → view_of t ≡ f
+                → w.held i g st t ≡ true → (is_held t (part_in w g f st i).log ≡ true) ⊎ IsUnder t log
+            was_there kept log is t of held = ⊎_elim
+                (λ (there : is_held t (part_in w g f st i).log ≡ true). inl there)
+                (λ (under : IsUnder t (part_in w g f st i).log). inr (subst (λ (l : List Version). IsUnder t l) is under))
+                (was_kept w said.logged g f st i t kept of held)
+
+            at_view : first_kept ((w.nodes i).learnt g) ≤ f → (log : List Version) → (part_in w g f st i).log ≡ log → KeepsFrom w g st f group i
+            at_view kept [] is = record {
+              from = base_at;
+              stands = base_stands;
+              logged = λ now t of held. ⊎_elim
+                  (λ (there : is_held t (part_in w g f st i).log ≡ true). inl there) (λ (under : IsUnder t []). absurd under) (was_there kept [] is t of held);
+            }
+            at_view kept (x ∷ log) is = ⊎_elim
+                (λ (bottom : IsBottom w g f st i x.stamp). record {
+                  from = base_at;
+                  stands = base_stands;
+                  logged = λ now t of held. ⊎_elim
+                      (λ (there : is_held t (part_in w g f st i).log ≡ true). inl there)
+                      (λ (under : IsUnder t (x ∷ log)). absurd (bottom t of under held)) (was_there kept (x ∷ log) is t of held);
+                })
+                (λ (was : WasCollected w g st x.stamp). record {
+                  from = x.stamp;
+                  stands = stands_in x.stamp (((in_views.nodes i).parts g f st).log 0 x (ap (λ (l : List Version). slice_get l 0) is))
+                      (collected_stands x.stamp was);
+                  logged = λ now t of held. was_there kept (x ∷ log) is t of held;
+                })
+                (said.lowest g f st i x log kept is)
+
+    -- it has a floor, where it is said to be synced
+    floor_at : IsSaidSynced w g f → KnownFloor w g st f group
+    floor_at is = let some = some_stands f is in floor_in some.0 (stands_in some.0 some.1 some.2)
+
+  -- what a recovery comes to at the latest
+  known_ground : KnownFloor w g st c.call.view.0 c.group ⊎ KnownBack setting w c bricks
+  known_ground = ⊎_elim
+      (λ (is : IsSaidSynced w g e). inl (subst (λ (k : ℕ). KnownFloor w g st k c.group) (sym view_number) (floor_at e c.group call_group is)))
+      (λ (back : (may_ask_prior w c bricks ≡ true) × IsSaidSynced w g (e - 1)).
+      let later : 1 < e = ltb-true 1 e (and_parts (nat_lt 1 e) (not (list_any (knows_synced w g) bricks)) back.0).0 in
+      let before : group_in setting.layout views g (e - 1) ≡ Some (kept_by c.prior c.group)
+      = ap (λ (members : List BrickId). group_kept setting.layout members g) (sym ((said.calls o.brick.0 o.seq c call).prior later))
+      ∙ ap (λ (z : Option Group). option_map (kept_by c.prior) z) layout_group.1
+      ∙ ap (λ (z : Group). Some (kept_by c.prior z)) (sym layout_group.2) in
+      inr (record {
+        may = back.0;
+        logs = subst (λ (k : ℕ). KnownLogs setting w g st (k - 1) (kept_by c.prior c.group)) (sym view_number) (logs_in (e - 1) (kept_by c.prior c.group) before);
+        floor = subst (λ (k : ℕ). KnownFloor w g st (k - 1) (kept_by c.prior c.group)) (sym view_number) (floor_at (e - 1) (kept_by c.prior c.group) before back.1);
+      }))
       synced
 
-  -- what a brick keeps of the view that it has learnt
-  keeps : (i : ℕ) → KeepsFrom w c i
-  keeps i = ⊎_elim
-      (λ (same : view_at (w.nodes i) c.call.group.0 ≡ e). at_view same (part_in w c.call.group.0 e c.call.stripe.0 i).log refl)
-      (λ (other : view_at (w.nodes i) c.call.group.0 ≢ e).
-      record { from = some_stands.0; stands = some_stands.1; logged = λ same t of held. absurd (other same) })
-      (cases_eq (view_at (w.nodes i) c.call.group.0) e)
-    where
-      -- what was held is in the log, or below it
-      was_there : view_at (w.nodes i) c.call.group.0 ≡ e → (log : List Version) → (part_in w c.call.group.0 e c.call.stripe.0 i).log ≡ log
-          → (t : Stamp) → view_of t ≡ e → w.held i c.call.group.0 c.call.stripe.0 t ≡ true
-          → (is_held t (replica_at (w.nodes i) c.call).log ≡ true) ⊎ IsUnder t log
-      was_there same log is t of held = ⊎_elim
-          (λ (there : is_held t (part_in w c.call.group.0 e c.call.stripe.0 i).log ≡ true).
-          inl (subst (λ (r : Replica). is_held t r.log ≡ true) (sym (part i)) there))
-          (λ (under : IsUnder t (part_in w c.call.group.0 e c.call.stripe.0 i).log). inr (subst (λ (l : List Version). IsUnder t l) is under))
-          (was_kept w said.logged c.call.group.0 e c.call.stripe.0 i t (kept_from i same) of held)
-
-      at_view : view_at (w.nodes i) c.call.group.0 ≡ e → (log : List Version) → (part_in w c.call.group.0 e c.call.stripe.0 i).log ≡ log → KeepsFrom w c i
-      at_view same [] is = record {
-        from = some_stands.0;
-        stands = some_stands.1;
-        logged = λ now t of held. ⊎_elim
-            (λ (there : is_held t (replica_at (w.nodes i) c.call).log ≡ true). inl there) (λ (under : IsUnder t []). absurd under) (was_there same [] is t of held);
-      }
-      at_view same (x ∷ log) is = ⊎_elim
-          (λ (bottom : IsBottom w c.call.group.0 e c.call.stripe.0 i x.stamp). record {
-            from = some_stands.0;
-            stands = some_stands.1;
-            logged = λ now t of held. ⊎_elim
-                (λ (there : is_held t (replica_at (w.nodes i) c.call).log ≡ true). inl there)
-                (λ (under : IsUnder t (x ∷ log)). absurd (bottom t of under held)) (was_there same (x ∷ log) is t of held);
-          })
-          (λ (was : WasCollected w c.call.group.0 c.call.stripe.0 x.stamp). record {
-            from = x.stamp;
-            stands = collected_stands x.stamp
-                (((in_views.nodes i).parts c.call.group.0 e c.call.stripe.0).log 0 x (ap (λ (l : List Version). slice_get l 0) is)) was;
-            logged = λ now t of held. was_there same (x ∷ log) is t of held;
-          })
-          (said.lowest c.call.group.0 e c.call.stripe.0 i x log (kept_from i same) is)
-
-  known_logs : KnownLogs setting w c
-  known_logs = record {
-    ascends = λ i. subst (λ (r : Replica). LogAscends r.log) (sym (part i)) (said.logged.ascends c.call.group.0 e c.call.stripe.0 i);
-    base = some_stands.0;
-    stands = some_stands.1;
-    keeps = keeps;
+  known : Known setting w n o c bricks
+  known = record {
+    call = known_call;
+    messages = known_messages;
+    logs = subst (λ (k : ℕ). KnownLogs setting w g st k c.group) (sym view_number) (logs_in e c.group call_group);
     top_view = λ i.
         subst (λ (r : Replica). (top_of r).view.0 ≤ e) (sym (part i))
         (part_most (part_in w c.call.group.0 e c.call.stripe.0 i) ((in_views.nodes i).parts c.call.group.0 e c.call.stripe.0));
@@ -276,24 +323,7 @@ module _ (setting : Setting) (sound : IsSound setting) (encodes : EncodesBlocks 
         (λ (held : is_held c.stamp (replica_at (w.nodes i) c.call).log ≡ true). absurd (not_yet i (subst (λ (r : Replica). is_held c.stamp r.log ≡ true) (part i) held)))
         (λ (isnt : is_held c.stamp (replica_at (w.nodes i) c.call).log ≡ false). isnt)
         (cases_Bool (is_held c.stamp (replica_at (w.nodes i) c.call).log));
-    blocks = λ i seat k version seat_is at_k.
-        ap (λ (l : List ℕ). length l)
-        ((said.logs c.call.group.0 e c.call.stripe.0 i k version (ap (λ (r : Replica). slice_get r.log k) (sym (part i)) ∙ at_k)).block c.group seat
-        call_group seat_is)
-        ∙ encodes c.group.m (w.contents c.call.group.0 c.call.stripe.0 version.stamp) seat;
-    short = λ i.
-        let inside : length (part_in w c.call.group.0 e c.call.stripe.0 i).log ≤ (w.nodes i).live + 1 = ⊎_elim
-        (λ (ahead : view_at (w.nodes i) c.call.group.0 < e).
-        let none : length (part_in w c.call.group.0 e c.call.stripe.0 i).log ≤ 1
-        = subst (λ (r : Replica). length r.log ≤ 1) (sym ((in_views.nodes i).fresh c.call.group.0 e c.call.stripe.0 ahead)) (fresh_short setting.layout.block e) in
-        omega (arith, none))
-        (λ (learnt : e ≤ view_at (w.nodes i) c.call.group.0).
-        log_within setting.layout (w.nodes i) c.call.group.0 e c.call.stripe.0 base (counts i) layout_group.1 stripe_within learnt)
-        (cases_lt (view_at (w.nodes i) c.call.group.0) e) in
-        let same_long : length (replica_at (w.nodes i) c.call).log ≡ length (part_in w c.call.group.0 e c.call.stripe.0 i).log
-        = ap (λ (r : Replica). length r.log) (part i) in
-        let most = (counts i).most in
-        omega (arith, inside, same_long, small, most);
+    ground = known_ground;
   }
     where
       -- a part of the view comes to no stamp of a later one
@@ -311,10 +341,6 @@ module _ (setting : Setting) (sound : IsSound setting) (encodes : EncodesBlocks 
               let one : view_of version.stamp ≡ e = of.log stands.0 version stands.1 in
               subst (λ (t : Stamp). t.view.0 ≤ e) (sym (top_is part version is))
               (cond_both (stamp_below part.order version.stamp) version.stamp part.order (λ (z : Stamp). z.view.0 ≤ e) (λ less. omega (arith, one)) (λ isnt. order_most))
-
-      -- a fresh part has one version at most
-      fresh_short : (block f : ℕ) → length (fresh_replica block f).log ≤ 1
-      fresh_short block f = cond_both (nat_eq f 1) (first_replica block) _ (λ (r : Replica). length r.log ≤ 1) (λ one. omega arith) (λ other. omega arith)
 
       -- no version has the operation's stamp yet
       not_yet : (i : ℕ) → is_held c.stamp (part_in w c.call.group.0 e c.call.stripe.0 i).log ≡ true → ⊥
@@ -340,8 +366,15 @@ module _ (setting : Setting) (sound : IsSound setting) (encodes : EncodesBlocks 
           stamped = subst (λ (b : ℕ). IsStamped stamps o.brick.0 b o.seq c.call.phase c.stamp) boot
               (c.phase, (said.calls o.brick.0 o.seq c call).begun)
 
-  known : Known setting w n o c
-  known = record { call = known_call; messages = known_messages; logs = known_logs }
+-- an open operation is of a view from view 1 on
+view_from_one : (setting : Setting) (w : World) (stamps : Stamping) → Books setting w → Said setting (views_in setting.layout w.packets) w stamps
+    → (n : ℕ) (o : Operation) (c : Coordinator) → IsOperation w n o → IsOpenAt w n c → 1 ≤ c.stamp.view.0
+view_from_one setting w stamps books said n o c is at =
+    let same : at.operation ≡ o = same_Some at.operation o (sym at.operation_is ∙ is) in
+    let call : (w.nodes o.brick.0).calls o.seq ≡ Some c = subst (λ (z : Operation). (w.nodes z.brick.0).calls z.seq ≡ Some c) same at.call in
+    let its : CallBooks setting w o.brick.0 o.seq c = books.calls o.brick.0 o.seq c call in
+    subst (λ (k : ℕ). 1 ≤ k) its.stamp_view
+    (said.operations (number_of w o.brick.0 o.seq) its.operation its.operation_is).view.0
 
 -- one of these bricks has what some of them have
 some_brick : (test : BrickId → Bool) (bricks : List BrickId) → list_any test bricks ≡ true
@@ -352,13 +385,12 @@ some_brick test (brick ∷ bricks) some = ⊎_elim
     (λ (there : list_any test bricks ≡ true). let rest = some_brick test bricks there in (suc rest.0, rest.1, rest.2, rest.3))
     (or_cases (test brick) (list_any test bricks) some)
 
--- an operation that does not have to ask the members of the view before is in view 1, or in one that was said to be synced
+-- the view of an operation is said to be synced; or it may have to ask the members of the view before, and that one is said to be synced
 said_synced : (setting : Setting) (events : List Event) (n : ℕ) (bricks : List BrickId) → IsSound setting
     → (let w : World = run setting events (first_world setting.layout) in
-    (stamps : Stamping) → Said setting (views_in setting.layout w.packets) w stamps → (calm : IsCalm setting w n bricks) → AsksNoPrior w calm.coordinator bricks
-    → (calm.coordinator.stamp.view.0 ≤ 1)
-    ⊎ SyncedSays setting (views_in setting.layout w.packets) w calm.coordinator.call.group.0 calm.coordinator.stamp.view.0)
-said_synced setting events n bricks sound stamps said calm near = by (nat_lt 1 c.stamp.view.0) refl (list_any (knows_synced w c.call.group.0) bricks) refl
+    (calm : IsCalm setting w n bricks) → (let c : Coordinator = calm.coordinator in 1 ≤ c.stamp.view.0
+    → IsSaidSynced w c.call.group.0 c.stamp.view.0 ⊎ ((may_ask_prior w c bricks ≡ true) × IsSaidSynced w c.call.group.0 (c.stamp.view.0 - 1))))
+said_synced setting events n bricks sound calm from_one = by (nat_lt 1 c.stamp.view.0) refl (list_any (knows_synced w c.call.group.0) bricks) refl
   where
     w : World
     w = run setting events (first_world setting.layout)
@@ -366,42 +398,38 @@ said_synced setting events n bricks sound stamps said calm near = by (nat_lt 1 c
     c : Coordinator
     c = calm.coordinator
 
-    says : SyncedWasSent w c.call.group.0 c.stamp.view.0 → SyncedSays setting (views_in setting.layout w.packets) w c.call.group.0 c.stamp.view.0
-    says sent =
-        said.packets sent.2.0 (record { from = sent.0; to = sent.1; message = Message.Synced (record { 0 = c.call.group.0 }) (record { 0 = c.stamp.view.0 }) })
-        sent.2.1
-
-    known_at : (brick : BrickId) (k : ℕ) → slice_get bricks k ≡ Some brick → knows_synced w c.call.group.0 brick ≡ true
-        → (c.stamp.view.0 ≤ 1) ⊎ SyncedSays setting (views_in setting.layout w.packets) w c.call.group.0 c.stamp.view.0
-    known_at brick k at knows = ⊎_elim
-        (λ (one : c.stamp.view.0 ≡ 1). inl (omega (arith, one))) (λ (sent : SyncedWasSent w c.call.group.0 c.stamp.view.0). inr (says sent))
-        (subst (λ (e : ℕ). (e ≡ 1) ⊎ SyncedWasSent w c.call.group.0 e) (calm.ready k brick at).view
-        ((syncs_are_said setting events sound).synced brick.0 c.call.group.0 knows))
+    opened : OpenFacts w calm.operation c
+    opened = open_facts w n calm.operation c calm.is calm.open_is
 
     by : (later : Bool) → nat_lt 1 c.stamp.view.0 ≡ later → (knows : Bool) → list_any (knows_synced w c.call.group.0) bricks ≡ knows
-        → (c.stamp.view.0 ≤ 1) ⊎ SyncedSays setting (views_in setting.layout w.packets) w c.call.group.0 c.stamp.view.0
-    by false isnt knows is = inl (ltb-false 1 c.stamp.view.0 isnt)
-    by true later true is = let one = some_brick (knows_synced w c.call.group.0) bricks is in known_at one.1 one.0 one.2 one.3
-    by true later false is =
-        absurd (false≢true (sym near ∙ ap (λ (b : Bool). b && not (list_any (knows_synced w c.call.group.0) bricks)) later ∙ ap (λ (b : Bool). not b) is))
+        → IsSaidSynced w c.call.group.0 c.stamp.view.0 ⊎ ((may_ask_prior w c bricks ≡ true) × IsSaidSynced w c.call.group.0 (c.stamp.view.0 - 1))
+    by false isnt knows is = inl (inl (let most = ltb-false 1 c.stamp.view.0 isnt in omega (arith, most, from_one)))
+    by true later true is =
+        let one = some_brick (knows_synced w c.call.group.0) bricks is in
+        inl (subst (λ (e : ℕ). IsSaidSynced w c.call.group.0 e) (calm.ready one.0 one.1 one.2).view
+        ((syncs_are_said setting events sound).synced one.1.0 c.call.group.0 one.3))
+    by true later false is = inr (
+      ap (λ (b : Bool). b && not (list_any (knows_synced w c.call.group.0) bricks)) later ∙ ap (λ (b : Bool). not b) is,
+      (syncs_are_said setting events sound).called calm.operation.brick.0 calm.operation.seq c opened.call (ltb-true 1 c.stamp.view.0 later),
+    )
 
 -- what is known of an operation that may run alone
 pub known_of : (setting : Setting) (events : List Event) (n : ℕ) (bricks : List BrickId) → IsSound setting → EncodesBlocks setting
     → setting.layout.records ≤ most_records → (calm : IsCalm setting (run setting events (first_world setting.layout)) n bricks)
-    → AsksNoPrior (run setting events (first_world setting.layout)) calm.coordinator bricks
-    → Known setting (run setting events (first_world setting.layout)) n calm.operation calm.coordinator
-known_of setting events n bricks sound encodes small calm near =
+    → Known setting (run setting events (first_world setting.layout)) n calm.operation calm.coordinator bricks
+known_of setting events n bricks sound encodes small calm =
     let w : World = run setting events (first_world setting.layout) in
     let said = always_said setting (views_in setting.layout w.packets) events sound (every_run_follows setting events sound) in
     let always = always_fresh setting events in
     let at : IsOpenAt w n calm.coordinator = opens_at w n calm.coordinator calm.open_is in
     let fresh : IsFresh setting w n calm.coordinator = always.1 n calm.coordinator calm.open_is calm.untouched in
     known setting sound encodes small w said.0 (books setting events) said.1 n calm.operation calm.coordinator calm.is at (always_views setting events)
-    (every_run_follows setting events sound events [] (sym (append-nil events))) fresh always.0 (always_count setting events)
-    (said_synced setting events n bricks sound said.0 said.1 calm near)
+    (every_run_follows setting events sound events [] (sym (append-nil events))) fresh always.0 (always_count setting events) bricks
+    (said_synced setting events n bricks sound calm
+    (view_from_one setting w said.0 (books setting events) said.1 n calm.operation calm.coordinator calm.is at))
 
 -- so it ends
 pub calm_ends : CalmOperationsEnd
-calm_ends setting events n bricks sound encodes small calm near =
+calm_ends setting events n bricks sound encodes small calm =
     ends_alone setting sound encodes (run setting events (first_world setting.layout)) n bricks calm
-    (known_of setting events n bricks sound encodes small calm near)
+    (known_of setting events n bricks sound encodes small calm)

@@ -6,11 +6,11 @@ use Rattle.messages.specs.declared.packets.Message.{Message}
 use Rattle.fab_base.specs.declared.stamps.Stamp.{Stamp}
 use Rattle.fab_base.specs.declared.asks.Ask.{Ask}
 use Rattle.fab_base.specs.Layouts.{Layout, seat_in}
-use Rattle.std.proofs.Common.{List, None, Some, length, false, true, ℕ, ◌≡◌, ◌≤◌, [], ◌∷◌}
+use Rattle.std.proofs.Common.{List, None, Some, length, true, ℕ, ◌≡◌, ◌≤◌, [], ◌∷◌}
 use Rattle.std.specs.Prelude.{◌^◌, is_some, map, slice_get}
 use Rattle.fab_base.specs.declared.identities.BrickId.{BrickId}
 use Rattle.calm_laws.specs.Logs.{log_in}
-use Rattle.protocol.specs.Calms.{IsCalm, RunsAlone, open_call, is_one_of, may_ask_prior, members_among}
+use Rattle.protocol.specs.Calms.{IsCalm, RunsAlone, open_call, is_one_of, members_among}
 use Rattle.protocol.specs.Settings.{IsSound, Setting}
 use Rattle.protocol.specs.Worlds.{Event, Operation, World, first_world, run, Delivers, packet_of}
 
@@ -36,17 +36,12 @@ EncodesBlocks setting = (m : ℕ) (content : List ℕ) (seat : ℕ) → length (
 abbrev pub most_records : ℕ
 most_records = 2 ^ 20
 
--- the operation does not have to ask the members of the view before: it is in view 1, or one of these bricks knows that all stripes are kept in its view
-abbrev pub AsksNoPrior : World → Coordinator → List BrickId → Type 0
-AsksNoPrior w c bricks = may_ask_prior w c bricks ≡ false
-
--- After every schedule: an operation whose messages among these bricks alone are delivered is answered, where it is calm, and does not have to ask the members of
--- the view before.
+-- After every schedule: an operation whose messages among these bricks alone are delivered is answered, where it is calm.
 abbrev pub CalmOperationsEnd : Type 0
 CalmOperationsEnd =
     (setting : Setting) (events : List Event) (n : ℕ) (bricks : List BrickId) → IsSound setting → EncodesBlocks setting
-    → setting.layout.records ≤ most_records → (calm : IsCalm setting (run setting events (first_world setting.layout)) n bricks)
-    → AsksNoPrior (run setting events (first_world setting.layout)) calm.coordinator bricks → EndsAlone setting (run setting events (first_world setting.layout)) n bricks
+    → setting.layout.records ≤ most_records → IsCalm setting (run setting events (first_world setting.layout)) n bricks
+    → EndsAlone setting (run setting events (first_world setting.layout)) n bricks
 
 -- the packet of this number is a Collect of version t, which brick me sent to this brick under the call of this coordinator, in some phase
 pub record IsCollect (w : World) (me : BrickId) (c : Coordinator) (t : Stamp) (brick : BrickId) (number : ℕ) : Type 0 where
@@ -94,5 +89,5 @@ abbrev pub CollectsLeaveOne : Type 0
 CollectsLeaveOne =
     (setting : Setting) (events : List Event) (n : ℕ) (bricks : List BrickId) → IsSound setting → EncodesBlocks setting
     → setting.layout.records ≤ most_records → (calm : IsCalm setting (run setting events (first_world setting.layout)) n bricks)
-    → AsksNoPrior (run setting events (first_world setting.layout)) calm.coordinator bricks → (alone : List Event) (last : World) → RunsAlone setting n bricks (run setting events (first_world setting.layout)) alone last
+    → (alone : List Event) (last : World) → RunsAlone setting n bricks (run setting events (first_world setting.layout)) alone last
     → LeavesItsOwn setting (run setting events (first_world setting.layout)) n bricks calm last
