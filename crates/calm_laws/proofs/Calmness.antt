@@ -1,4 +1,5 @@
 -- A calm operation, of whose world this is known, is answered alone.
+use Rattle.protocol_laws.proofs.Tops.{before_floor}
 use Rattle.std.specs.List.{list_any}
 use Rattle.std.proofs.lemmas.Option.{same_Some}
 use Rattle.protocol.specs.Views.{kept_by, first_kept, floor_of, view_of}
@@ -94,7 +95,7 @@ none_of test (b ∷ bricks) none brick (suc k) at = none_of test bricks (or_part
 -- a stamp of the view before is below the first stamp of a view
 below_next : (d : Stamp) (e : ℕ) → view_of d ≡ e - 1 → nat_lt 1 e ≡ true → stamp_below d (floor_of e) ≡ true
 below_next d e of later =
-    view_less_floor d e (let above = ltb-true 1 e later in omega (arith, of, above))
+    before_floor d e (let above = ltb-true 1 e later in omega (arith, of, above))
 
 module _ (setting : Setting) (sound : IsSound setting) (lengths : EncodesBlocks setting) (w : World) (n : ℕ) (bricks : List BrickId)
     (calm : IsCalm setting w n bricks) (known : Known setting w n calm.operation calm.coordinator bricks) where
