@@ -1,4 +1,5 @@
 -- What is known of the world in which an operation begins to run alone holds in every world that a run reaches.
+use Rattle.protocol_laws.proofs.OldFound.{synced_stands}
 use Rattle.std.specs.Option.{option_map}
 use Rattle.calm_laws.proofs.Beginnings.{OpenFacts, open_facts}
 use Rattle.std.proofs.lemmas.List.{append-nil}
@@ -186,23 +187,6 @@ module _ (setting : Setting) (sound : IsSound setting) (encodes : EncodesBlocks 
   abbrev st : ℕ
   st = c.call.stripe.0
 
-  -- a view that is said to be synced has a version that stands: view 1 the first one
-  some_stands : (f : ℕ) → IsSaidSynced w g f → (t : Stamp) × (view_of t ≡ f) × Stands setting views w g st t
-  some_stands f (inl one) = (
-    first_stamp,
-    sym one,
-    (λ group found.
-    let full = count_full (length group.members) (λ seat. w.held (brick_at group seat) g st first_stamp)
-    (λ k less. said.first_held g st (brick_at group k)) in
-    let limits = follows.limits g 1 group found in
-    let blocks = limits.some_block in
-    let seats = limits.enough_seats in
-    omega (arith, full, blocks, seats)),
-  )
-  some_stands f (inr sent) =
-      said.packets sent.2.0 (record { from = sent.0; to = sent.1; message = Message.Synced (record { 0 = g }) (record { 0 = f }) }) sent.2.1
-      st base layout_group.1 stripe_within
-
   -- a version that was collected stands
   collected_stands : (t : Stamp) → WasCollected w g st t → Stands setting views w g st t
   collected_stands t was =
@@ -292,7 +276,9 @@ module _ (setting : Setting) (sound : IsSound setting) (encodes : EncodesBlocks 
 
     -- it has a floor, where it is said to be synced
     floor_at : IsSaidSynced w g f → KnownFloor w g st f group
-    floor_at is = let some = some_stands f is in floor_in some.0 (stands_in some.0 some.1 some.2)
+    floor_at is =
+        let some = synced_stands setting views sound w stamps books said g f st base layout_group.1 stripe_within is in
+        floor_in some.0 (stands_in some.0 some.1 some.2)
 
   -- what a recovery comes to at the latest
   known_ground : KnownFloor w g st c.call.view.0 c.group ⊎ KnownBack setting w c bricks
