@@ -10,7 +10,7 @@ use Rattle.fab_base.specs.Layouts.{Group}
 use Rattle.messages.specs.declared.packets.Message.{Message}
 use Rattle.messages.specs.declared.packets.Packet.{Packet}
 use Rattle.protocol.specs.Settings.{Setting}
-use Rattle.protocol.specs.Coordinators.{Coordinator, request_of}
+use Rattle.protocol.specs.Coordinators.{Coordinator, request_of, asked_group}
 use Rattle.protocol.specs.Nodes.{Node, NodeStep, put, began_in, new_coordinator, top_at, view_at}
 use Rattle.protocol.specs.Worlds.{World, Operation, world_began, is_brick, is_up}
 use Rattle.protocol.specs.Calms.{operation_of}
@@ -77,7 +77,7 @@ module _ (setting : Setting) (w : World) (books : Books setting w) (calls : Call
         each_member (IsMadeBy begun_world.nodes) brick began_coordinator.call (request_of setting.code began_coordinator)
         (λ seat to.
         subst (λ (n : Node). IsMade n (w.nodes brick.0).boot ((w.nodes brick.0).seq + 1)) (sym (put_same w.nodes brick.0 began_step.node))
-        (omega arith, λ same. omega arith)) 0 group.members
+        (omega arith, λ same. omega arith)) 0 (asked_group began_coordinator).members
 
     -- the new operation's number
     its_number : begun_world.numbers brick.0 (w.nodes brick.0).boot ((w.nodes brick.0).seq + 1) ≡ w.begun + 1
@@ -90,7 +90,7 @@ module _ (setting : Setting) (w : World) (books : Books setting w) (calls : Call
 
     new_packets : (j : ℕ) (packet : Packet) → slice_get began_step.packets j ≡ Some packet → operation_of begun_world packet ≡ w.begun + 1
     new_packets j packet at =
-        members_are_of begun_world brick began_coordinator.call (request_of setting.code began_coordinator) 0 group.members j packet at ∙ its_number
+        members_are_of begun_world brick began_coordinator.call (request_of setting.code began_coordinator) 0 (asked_group began_coordinator).members j packet at ∙ its_number
 
     -- the operation that begins
     abbrev new_operation : Operation

@@ -13,7 +13,7 @@ use Rattle.messages.specs.declared.packets.Packet.{Packet}
 use Rattle.messages.specs.declared.requests.Request.{Request}
 use Rattle.protocol.specs.Settings.{Setting}
 use Rattle.protocol.specs.declared.phases.Counted.{Counted}
-use Rattle.protocol.specs.Coordinators.{Coordinator, request_of, has_seat}
+use Rattle.protocol.specs.Coordinators.{Coordinator, request_of, has_seat, asked_group}
 use Rattle.fab_base.specs.declared.identities.GroupId.{GroupId}
 use Rattle.fab_base.specs.declared.member_lists.View.{View}
 use Rattle.protocol.specs.Nodes.{phase_packets, to_members, resent_to, resent, resent_up_to, ticked, teaching, each_taught, view_in, ballot_resent}
@@ -74,9 +74,9 @@ module _ (setting : Setting) (w : World) (books : Books setting w) (calls : Call
         let its : CallBooks setting w brick.0 k c = books.calls brick.0 k c is in
         let some = (books.operations (number_of w brick.0 k) its.operation its.operation_is).from_one in
         each_teaching (OfCall k) c.call.group (view_in c) (λ later from to. inr refl)
-        (resent_to brick c.call (request_of setting.code c) c.counted 0 c.group.members)
+        (resent_to brick c.call (request_of setting.code c) c.counted 0 (asked_group c).members)
         (λ j packet at. inl (
-          resent_are c.call (request_of setting.code c) c.counted 0 c.group.members j packet at
+          resent_are c.call (request_of setting.code c) c.counted 0 (asked_group c).members j packet at
               ∙ ap (λ (b : ℕ). w.numbers brick.0 b c.call.seq) its.call_boot ∙ ap (λ (l : ℕ). number_of w brick.0 l) its.call_seq,
           some,
         ))
@@ -201,14 +201,14 @@ module _ (setting : Setting) (w : World) (books : Books setting w) (calls : Call
       resent_own : filter is_n (resent setting brick ((w.nodes brick.0).calls o.seq)) ≡ phase_packets setting c.stamp.brick c
       resent_own =
           ap (λ (z : Option Coordinator). filter is_n (resent setting brick z)) here
-          ∙ teaching_none c.call.group (view_in c) (resent_to brick c.call (request_of setting.code c) c.counted 0 c.group.members)
-          ∙ filter_every is_n (resent_to brick c.call (request_of setting.code c) c.counted 0 c.group.members)
+          ∙ teaching_none c.call.group (view_in c) (resent_to brick c.call (request_of setting.code c) c.counted 0 (asked_group c).members)
+          ∙ filter_every is_n (resent_to brick c.call (request_of setting.code c) c.counted 0 (asked_group c).members)
           (λ j packet at'.
           eq-eqb (operation_of w packet) n
-          (resent_are c.call (request_of setting.code c) c.counted 0 c.group.members j packet at'
+          (resent_are c.call (request_of setting.code c) c.counted 0 (asked_group c).members j packet at'
           ∙ ap (λ (b : ℕ). w.numbers brick.0 b c.call.seq) call_books.call_boot ∙ ap (λ (l : ℕ). number_of w brick.0 l) call_books.call_seq ∙ number))
-          ∙ ap (λ (l : List Counted). resent_to brick c.call (request_of setting.code c) l 0 c.group.members) its.counted
-          ∙ resent_whole c.call (request_of setting.code c) 0 c.group.members
+          ∙ ap (λ (l : List Counted). resent_to brick c.call (request_of setting.code c) l 0 (asked_group c).members) its.counted
+          ∙ resent_whole c.call (request_of setting.code c) 0 (asked_group c).members
           ∙ ap (λ (b : BrickId). phase_packets setting b c) (sym the_brick)
 
       -- so it is among the calls up to any that is not before it

@@ -19,7 +19,7 @@ use Rattle.messages.specs.declared.packets.Packet.{Packet}
 use Rattle.messages.specs.declared.replies.Reply.{Reply}
 use Rattle.messages.specs.declared.requests.Request.{Request}
 use Rattle.protocol.specs.Calms.{goes_among, is_left, open_at, operation_of}
-use Rattle.protocol.specs.Coordinators.{Coordinator, Ends, Ignores, Makes, Next, Sends, Waits, on_reply, request_of}
+use Rattle.protocol.specs.Coordinators.{Coordinator, Ends, Ignores, Makes, Next, Sends, Waits, on_reply, request_of, asked_group}
 use Rattle.protocol.specs.Nodes.{Node, carried_out, fresh_stamp, known_after, phase_packets, put, received, replica_at, replied, replied_at, to_members, with_call, with_known, with_round, may_teach, no_step, then_taught, counts_here, collect_packets}
 use Rattle.protocol.specs.Replicas.{Replica}
 use Rattle.protocol.specs.Worlds.{Operation, World, is_answer, number_of, with_answer, with_made, with_seen}
@@ -41,13 +41,13 @@ heard_step stage n w s from call reply rest shows next =
     (ap (λ (k : ℕ). (w.nodes stage.me.0).calls k) next.seq.1 ∙ shows.call)
     ∙ ap (λ (k : ℕ). carried_out stage.setting stage.me node (known_after k reply) s.c
     (on_reply stage.setting.layout.block stage.setting.code
-    (fresh_stamp stage.me s.c.call.view (w.clocks stage.me.0) (w.nodes stage.me.0).boot (known_after k reply)) s.c from call reply)) shows.known
+    (fresh_stamp stage.me s.c.stamp.view (w.clocks stage.me.0) (w.nodes stage.me.0).boot (known_after k reply)) s.c from call reply)) shows.known
     ∙ ap (λ (b : ℕ). carried_out stage.setting stage.me node (known_after s.known reply) s.c
     (on_reply stage.setting.layout.block stage.setting.code
-    (fresh_stamp stage.me s.c.call.view (w.clocks stage.me.0) b (known_after s.known reply)) s.c from call reply)) shows.node_boot
+    (fresh_stamp stage.me s.c.stamp.view (w.clocks stage.me.0) b (known_after s.known reply)) s.c from call reply)) shows.node_boot
     ∙ ap (λ (t : ℕ). carried_out stage.setting stage.me node (known_after s.known reply) s.c
     (on_reply stage.setting.layout.block stage.setting.code
-    (fresh_stamp stage.me s.c.call.view t s.c.call.boot (known_after s.known reply)) s.c from call reply)) shows.clock
+    (fresh_stamp stage.me s.c.stamp.view t s.c.call.boot (known_after s.known reply)) s.c from call reply)) shows.clock
   where
     node : Node
     node = with_round (w.nodes stage.me.0) reply
@@ -94,13 +94,17 @@ heard_move stage n w later s node d known number rest sent shows nodes up clocks
   learnt = λ i. ap (λ (f : ℕ → Node). (f i).learnt) nodes ∙ put_field (λ (z : Node). z.learnt) w.nodes stage.me.0 node heard.learnt i;
   ballots = λ i. ap (λ (f : ℕ → Node). (f i).ballots) nodes ∙ put_field (λ (z : Node). z.ballots) w.nodes stage.me.0 node heard.ballots i;
   parts = λ brick one. record {
-    replica = ap (λ (f : ℕ → Node). replica_at (f brick.0) s.c.call) nodes
-        ∙ put_field (λ (z : Node). replica_at z s.c.call) w.nodes stage.me.0 node
-        (ap (λ (f : ℕ → ℕ → ℕ → Replica). f s.c.call.group.0 s.c.call.view.0 s.c.call.stripe.0) heard.replicas) brick.0
+    replica = ap (λ (f : ℕ → Node). replica_at (f brick.0) stage.call) nodes
+        ∙ put_field (λ (z : Node). replica_at z stage.call) w.nodes stage.me.0 node
+        (ap (λ (f : ℕ → ℕ → ℕ → Replica). f stage.call.group.0 stage.call.view.0 stage.call.stripe.0) heard.replicas) brick.0
         ∙ (shows.parts brick one).replica;
     live = ap (λ (f : ℕ → Node). (f brick.0).live) nodes ∙ put_field (λ (z : Node). z.live) w.nodes stage.me.0 node heard.live brick.0
         ∙ (shows.parts brick one).live;
   };
+  olds = λ i.
+      ap (λ (f : ℕ → Node). (f i).replicas stage.call.group.0 (stage.call.view.0 - 1) stage.call.stripe.0) nodes
+      ∙ put_field (λ (z : Node). z.replicas stage.call.group.0 (stage.call.view.0 - 1) stage.call.stripe.0) w.nodes stage.me.0 node
+      (ap (λ (f : ℕ → ℕ → ℕ → Replica). f stage.call.group.0 (stage.call.view.0 - 1) stage.call.stripe.0) heard.replicas) i;
   delivery = delivery;
   queue = refl;
   same = same;
@@ -166,20 +170,20 @@ closes_at stage n w later s node seen stored shows nodes up packets closed o end
   parts = s.parts;
   ends = ends;
   members = λ brick one.
-      serves_on stage w later s.c s.c brick same_itself up
+      serves_on stage w later stage.call brick up
       (λ i. ap (λ (f : ℕ → Node). (f i).learnt) nodes ∙ put_field (λ (z : Node). z.learnt) w.nodes stage.me.0 node closed.learnt i)
       (λ i. ap (λ (f : ℕ → Node). (f i).ballots) nodes ∙ put_field (λ (z : Node). z.ballots) w.nodes stage.me.0 node closed.ballots i)
       (shows.members brick one);
   kept = λ brick one.
-      ap (λ (f : ℕ → Node). replica_at (f brick.0) s.c.call) nodes
-      ∙ put_field (λ (z : Node). replica_at z s.c.call) w.nodes stage.me.0 node
-      (ap (λ (f : ℕ → ℕ → ℕ → Replica). f s.c.call.group.0 s.c.call.view.0 s.c.call.stripe.0) closed.replicas) brick.0
+      ap (λ (f : ℕ → Node). replica_at (f brick.0) stage.call) nodes
+      ∙ put_field (λ (z : Node). replica_at z stage.call) w.nodes stage.me.0 node
+      (ap (λ (f : ℕ → ℕ → ℕ → Replica). f stage.call.group.0 stage.call.view.0 stage.call.stripe.0) closed.replicas) brick.0
       ∙ (shows.parts brick one).replica;
   packets = packets;
 }
   where
     same_itself : SameCall s.c s.c
-    same_itself = record { group = refl; boot = refl; seq = refl; of_group = refl; view = refl; stripe = refl }
+    same_itself = record { group = refl; prior = refl; boot = refl; seq = refl; of_group = refl; view = refl; stripe = refl }
 
 module _ (stage : Stage) (n : ℕ) (w : World) (s : Scene) (from : BrickId) (call : Call) (reply : Reply) (rest : List Packet)
     (shows : Shows stage n w s) (next : IsNext stage s from call reply rest) where
@@ -206,7 +210,7 @@ module _ (stage : Stage) (n : ℕ) (w : World) (s : Scene) (from : BrickId) (cal
   pub skip_plays : decision stage s from call reply ≡ Ignores
       → ((later : World) → Shows stage n later (heard s reply rest) → Finishes stage n s.c later) → Finishes stage n s.c w
   skip_plays is then =
-      after_step Ignores s.c (record { group = refl; boot = refl; seq = refl; of_group = refl; view = refl; stripe = refl }) is (λ head.
+      after_step Ignores s.c (record { group = refl; prior = refl; boot = refl; seq = refl; of_group = refl; view = refl; stripe = refl }) is (λ head.
       then (world_by stage w (1 + head.place) packet (carried_out stage.setting stage.me me_node known s.c Ignores))
       (subst (λ (q : List Packet). Shows stage n (world_by stage w (1 + head.place) packet (carried_out stage.setting stage.me me_node known s.c Ignores))
       (record s { known = known; queue = q })) (append-nil rest)
@@ -217,7 +221,7 @@ module _ (stage : Stage) (n : ℕ) (w : World) (s : Scene) (from : BrickId) (cal
       (record { boot = refl; call = shows.call; known_is = refl; learnt = refl; ballots = refl; replicas = refl; live = refl })
       (record { operation = shows.operation; is = shows.is; brick = refl; boot = refl; seq = refl })
       (record { numbers = refl; reached = refl; packets = refl; own = tt })
-      (record { group = refl; boot = refl; seq = refl; of_group = refl; view = refl; stripe = refl })))))
+      (record { group = refl; prior = refl; boot = refl; seq = refl; of_group = refl; view = refl; stripe = refl })))))
 
   -- one that counts, where more are waited for
   pub count_plays : (d : Coordinator) → decision stage s from call reply ≡ Waits d → SameCall s.c d
@@ -268,7 +272,7 @@ module _ (stage : Stage) (n : ℕ) (w : World) (s : Scene) (from : BrickId) (cal
         numbers = refl;
         reached = refl;
         packets = refl;
-        own = phase_own stage w n d.call (request_of stage.setting.code d) 0 d.group.members (next_number stage n w s d shows same);
+        own = phase_own stage w n d.call (request_of stage.setting.code d) 0 (asked_group d).members (next_number stage n w s d shows same);
       })
       same)))
 
@@ -311,7 +315,7 @@ module _ (stage : Stage) (n : ℕ) (w : World) (s : Scene) (from : BrickId) (cal
         numbers = refl;
         reached = refl;
         packets = refl;
-        own = phase_own stage w n d.call (request_of stage.setting.code d) 0 d.group.members (next_number stage n w s d shows same);
+        own = phase_own stage w n d.call (request_of stage.setting.code d) 0 (asked_group d).members (next_number stage n w s d shows same);
       })
       same)))
 

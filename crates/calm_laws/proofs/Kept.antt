@@ -1,4 +1,5 @@
--- What holds of what a brick keeps, and is ended by no request and by no view that it is taught, holds in every run.
+-- What holds of what a brick keeps, and is ended by no request, by no view that it is taught and by no word that one is synced, holds in every run.
+use Rattle.view_laws.proofs.Syncing.{synced_each, synced_of}
 use Rattle.std.proofs.Common.{◌≡◌, ℕ, true, false, List, Option, Some, None, refl, sym, subst, ⊎_elim}
 use Rattle.fab_base.specs.declared.identities.BrickId.{BrickId}
 use Rattle.fab_base.specs.declared.member_lists.View.{View}
@@ -47,7 +48,13 @@ StandsViews setting P =
     (group : ℕ) (node : Node) (view : View) → NodeViews setting.layout node → is_later (node.learnt group) view ≡ true → P node
     → P (with_learnt setting.layout.block group node (newly_learnt view))
 
-module _ (setting : Setting) (P : Node → Type 0) (same : IsOfParts P) (request_keeps : StandsRequests setting P) (view_keeps : StandsViews setting P) where
+-- nor the word that all stripes are kept in the view that it has learnt
+abbrev pub StandsSyncs : Setting → (Node → Type 0) → Type 0
+StandsSyncs setting P =
+    (group : ℕ) (node : Node) → NodeViews setting.layout node → P node → P (with_learnt setting.layout.block group node (synced_of node group))
+
+module _ (setting : Setting) (P : Node → Type 0) (same : IsOfParts P) (request_keeps : StandsRequests setting P) (view_keeps : StandsViews setting P)
+    (sync_keeps : StandsSyncs setting P) where
   -- after a coordinator's step
   decision_keeps : (me : BrickId) (node : Node) (known : ℕ) (c : Coordinator) (z : Next) → P node → P (carried_out setting me node known c z).node
   decision_keeps me node known c Ignores = same node (carried_out setting me node known c Ignores).node (record { learnt = refl; live = refl; live_in = refl; replicas = refl })
@@ -67,7 +74,7 @@ module _ (setting : Setting) (P : Node → Type 0) (same : IsOfParts P) (request
       (record { learnt = refl; live = refl; live_in = refl; replicas = refl }) holds)
   replied_keeps me now from node call reply (Some c) holds =
       decision_keeps me node (known_after node.known reply) c
-      (on_reply setting.layout.block setting.code (fresh_stamp me c.call.view now node.boot (known_after node.known reply)) c from call reply) holds
+      (on_reply setting.layout.block setting.code (fresh_stamp me c.stamp.view now node.boot (known_after node.known reply)) c from call reply) holds
 
   -- after a reply, which may teach a view
   heard_keeps : (me : BrickId) (now : ℕ) (from : BrickId) (node : Node) (call : Call) (reply : Reply) → NodeViews setting.layout node → P node
@@ -93,6 +100,8 @@ module _ (setting : Setting) (P : Node → Type 0) (same : IsOfParts P) (request
   message_keeps now from to node (Message.Reply call reply) has holds = heard_keeps to now from node call reply has holds
   message_keeps now from to node (Message.Learn group view) has holds =
       learnt_each P setting.layout node group view holds (λ later. view_keeps group.0 node view has later holds)
+  message_keeps now from to node (Message.Synced group number) has holds =
+      synced_each P setting.layout node group number holds (λ own unsynced. sync_keeps group.0 node has holds)
   message_keeps now from to node message has holds = holds
 
   -- what the store may keep of a message
@@ -106,6 +115,8 @@ module _ (setting : Setting) (P : Node → Type 0) (same : IsOfParts P) (request
       (λ isnt. holds)
   kept_keeps me from to node (Message.Learn group view) has holds =
       learnt_each P setting.layout node group view holds (λ later. view_keeps group.0 node view has later holds)
+  kept_keeps me from to node (Message.Synced group number) has holds =
+      synced_each P setting.layout node group number holds (λ own unsynced. sync_keeps group.0 node has holds)
   kept_keeps me from to node message has holds = holds
 
   -- it holds of all bricks

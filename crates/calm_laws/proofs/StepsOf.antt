@@ -1,5 +1,6 @@
 -- A brick's step on a message concerns the operation of that message alone: its packets, its coordinator, and what is told of it. Its other packets are of views
 -- alone.
+use Rattle.view_laws.proofs.Syncing.{synced_each}
 use Rattle.std.proofs.Common.{◌≡◌, ◌≢◌, ℕ, zero, suc, ◌+◌, List, [], ◌∷◌, Option, Some, None, refl, sym, ap, ◌∙◌, ◌⊎◌, inl, inr, subst, Bool}
 use Rattle.std.specs.Prelude.{slice_get}
 use Rattle.fab_base.specs.declared.identities.BrickId.{BrickId}
@@ -12,9 +13,9 @@ use Rattle.messages.specs.declared.replies.Reply.{Reply}
 use Rattle.protocol.specs.Settings.{Setting}
 use Rattle.protocol.specs.Replicas.{handle}
 use Rattle.protocol.specs.declared.phases.Counted.{Counted}
-use Rattle.protocol.specs.Coordinators.{Coordinator, Next, Ignores, Waits, Sends, Makes, Ends, counts_at, counted_at, once_full, with_reply, request_of, on_reply}
+use Rattle.protocol.specs.Coordinators.{Coordinator, Next, Ignores, Waits, Sends, Makes, Ends, counts_at, counted_at, once_full, with_reply, request_of, on_reply, asked_group}
 use Rattle.protocol.specs.declared.tellings.Report.{Report}
-use Rattle.protocol.specs.Nodes.{Node, NodeStep, put, no_step, with_known, with_round, with_replica, replica_at, full_at, known_after, fresh_stamp, reply_packets, requested, replied_at, carried_out, received, heard, collect_packets, to_members, vote_at, voted_on, node_taught_by, node_learnt, view_counted}
+use Rattle.protocol.specs.Nodes.{Node, NodeStep, put, no_step, with_known, with_round, with_replica, replica_at, full_at, known_after, fresh_stamp, reply_packets, requested, replied_at, carried_out, received, heard, collect_packets, to_members, vote_at, voted_on, node_taught_by, node_learnt, view_counted, node_synced}
 use Rattle.protocol.proofs.Packets.{OfEach, each_member, each_reply}
 use Rattle.protocol_laws.proofs.Proposing.{IsOfViews, ballot_each}
 use Rattle.protocol_laws.proofs.Teaching.{heard_each, told_each, learnt_each}
@@ -170,14 +171,14 @@ module _ (setting : Setting) (w : World) (books : Books setting w) (me : BrickId
   next_is_of fresh d (Sends e) same fits = record {
     boot_is = self.boot;
     packets = keyed_members me e.call (request_of setting.code e) me.0 its_boot its_seq refl (fits.same.boot ∙ ap (λ call. call.boot) same ∙ its.call_boot)
-        (fits.same.seq ∙ ap (λ call. call.seq) same) e.group.members;
+        (fits.same.seq ∙ ap (λ call. call.seq) same) (asked_group e).members;
     calls = other_calls (Some e);
     operations = λ replies choices reached a other. refl;
   }
   next_is_of fresh d (Makes e) same fits = record {
     boot_is = self.boot;
     packets = keyed_members me e.call (request_of setting.code e) me.0 its_boot its_seq refl (fits.same.boot ∙ ap (λ call. call.boot) same ∙ its.call_boot)
-        (fits.same.seq ∙ ap (λ call. call.seq) same) e.group.members;
+        (fits.same.seq ∙ ap (λ call. call.seq) same) (asked_group e).members;
     calls = other_calls (Some e);
     operations = λ replies choices reached a other. other_operations (number_of w me.0 c.call.seq) (with_made e.stamp e.base) a other;
   }
@@ -208,13 +209,13 @@ replied_is_of setting w books me now from node self call reply = at_call ((w.nod
 
     at_seat : (c : Coordinator) → IsCall w me.0 call.seq c → (z : Option ℕ) → counts_at setting.layout.block c from.0 call reply ≡ z
         → StepIsOf setting w me (carried_out setting me node (known_after node.known reply) c
-        (counted_at setting.layout.block setting.code (fresh_stamp me c.call.view now node.boot (known_after node.known reply)) c from reply z))
+        (counted_at setting.layout.block setting.code (fresh_stamp me c.stamp.view now node.boot (known_after node.known reply)) c from reply z))
         me.0 call.boot call.seq
     at_seat c is None none = quiet (with_known node (known_after node.known reply)) refl refl
     at_seat c is (Some seat) counts =
         let facts : CountsAt setting.layout.block c from.0 call reply seat = counts_facts setting.layout.block c from.0 call reply seat counts in
         let time : ℕ = known_after node.known reply in
-        let fresh : Option Stamp = fresh_stamp me c.call.view now node.boot time in
+        let fresh : Option Stamp = fresh_stamp me c.stamp.view now node.boot time in
         let own : IsCall w me.0 c.call.seq c = subst (λ (k : Call). IsCall w me.0 k.seq c) facts.call_is is in
         let books_of : CallBooks setting w me.0 c.call.seq c = books.calls me.0 c.call.seq c own in
         subst (λ (b : ℕ). StepIsOf setting w me (carried_out setting me node time c
@@ -272,4 +273,11 @@ message_is_of setting w books now from to (Message.Learn group view) =
     learnt =
         learnt_each (λ (n : Node). IsSelf (w.nodes to.0) n) setting.layout (w.nodes to.0) group view (record { boot = refl; calls = refl })
         (λ later. record { boot = refl; calls = refl })
+message_is_of setting w books now from to (Message.Synced group number) =
+    quiet_is_of setting w to (node_synced setting.layout (w.nodes to.0) group number) [] [] 0 0 0 noted.boot noted.calls (none_at 0 0 0)
+  where
+    noted : IsSelf (w.nodes to.0) (node_synced setting.layout (w.nodes to.0) group number)
+    noted =
+        synced_each (λ (n : Node). IsSelf (w.nodes to.0) n) setting.layout (w.nodes to.0) group number (record { boot = refl; calls = refl })
+        (λ own unsynced. record { boot = refl; calls = refl })
 message_is_of setting w books now from to message = quiet_is_of setting w to (w.nodes to.0) [] [] 0 0 0 refl refl (none_at 0 0 0)
