@@ -505,7 +505,7 @@ module _ (setting : Setting) (limits : HasLimits setting.layout) (v : ViewWorld)
         = asks_safely setting.layout limits v agreed me.0 q q_says q_called enough free prepares in
         record {
           calls = other_calls mid calls;
-        jobs = known_jobs mid jobs;
+          jobs = known_jobs mid jobs;
           drafts = λ r same. subst (λ (z : Proposal). DraftSays setting.layout (sending_more x new) me.0 z) (same_Some (asked members) r same)
               (record {
                 group = q_says.group;
