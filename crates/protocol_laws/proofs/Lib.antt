@@ -27,6 +27,7 @@ pub mod Moments
 pub mod Numbers
 pub mod Operated
 pub mod Outcomes
+pub mod OldFound
 pub mod OldReads
 pub mod OwnStamps
 pub mod Proposing

@@ -277,21 +277,16 @@ module _ (setting : Setting) (views : Views) (sound : IsSound setting) (w : Worl
       same_Some asked its (sym (asked_in setting views w stamps books said me.0 c.call.seq c is operation.ask.group.0 d
       (ap (λ (a : Ask). a.group.0) (sym (books.calls me.0 c.call.seq c is).ask)) of) ∙ its_is)
 
-  -- Where a phase of a later view than 1 finds nothing, no quorum holds anything of the view below the operation's stamp, or ever will.
-  pub nothing_blocks : looks_back c.phase ≡ false → 1 < c.stamp.view.0 → greatest_found counted ≡ None
-      → AreBlocked setting views w operation.ask.group.0 operation.ask.stripe.0
-      (λ d. (stamp_below d (floor_of c.stamp.view.0) ≡ false) × (stamp_below d c.stamp ≡ true))
-  nothing_blocks ahead later nothing d its its_is within =
-      let of : view_of d ≡ c.call.view.0
-      = from_floor d c.stamp c.stamp.view.0 later (own_in setting views w stamps books said me.0 c.call.seq c is) within.0 within.1
-      ∙ sym (ahead_call setting views w stamps books said me.0 c.call.seq c is ahead) in
-      ⊎_elim
+  -- where a phase finds nothing, no quorum holds anything of the call's view below the operation's stamp, or ever will
+  pub none_blocked : greatest_found counted ≡ None → (d : Stamp) (its : Group) → group_in setting.layout views operation.ask.group.0 (view_of d) ≡ Some its
+      → view_of d ≡ c.call.view.0 → stamp_below d c.stamp ≡ true → IsBlocked w operation.ask.group.0 operation.ask.stripe.0 its d
+  none_blocked nothing d its its_is of less = ⊎_elim
       (λ (lower : stamp_below d bound ≡ true).
       subst (λ (z : Group). IsBlocked w operation.ask.group.0 operation.ask.stripe.0 z d) (asked_view_in d its of its_is)
       (unheld_blocked d lower (each_then (λ x. Looked x × (told_stamp x.reply ≡ None))
       (λ x. Looked x × (w.held (brick_at asked x.seat) operation.ask.group.0 operation.ask.stripe.0 d ≡ false)) counted
       (λ x h. (h.0, unheld x d h.0 h.1 of lower)) (each_none counted all nothing))))
-      (λ (upper : stamp_below d bound ≡ false). from_bound d its its_is upper within.1)
+      (λ (upper : stamp_below d bound ≡ false). from_bound d its its_is upper less)
       (cases_Bool (stamp_below d bound))
     where
       unheld : (x : Counted) (d : Stamp) → Looked x → told_stamp x.reply ≡ None → view_of d ≡ c.call.view.0 → stamp_below d bound ≡ true
@@ -308,6 +303,15 @@ module _ (setting : Setting) (views : Views) (sound : IsSound setting) (w : Worl
       each_none (x ∷ l) looked none =
           let parts = both_none (told_stamp x.reply) (greatest_found l) none in
           ((looked.0, parts.0), each_none l looked.1 parts.1)
+
+  -- so it is in a later view than 1, from the first stamp of that on
+  pub nothing_blocks : looks_back c.phase ≡ false → 1 < c.stamp.view.0 → greatest_found counted ≡ None
+      → AreBlocked setting views w operation.ask.group.0 operation.ask.stripe.0
+      (λ d. (stamp_below d (floor_of c.stamp.view.0) ≡ false) × (stamp_below d c.stamp ≡ true))
+  nothing_blocks ahead later nothing d its its_is within =
+      none_blocked nothing d its its_is
+      (from_floor d c.stamp c.stamp.view.0 later (own_in setting views w stamps books said me.0 c.call.seq c is) within.0 within.1
+      ∙ sym (ahead_call setting views w stamps books said me.0 c.call.seq c is ahead)) within.1
 
 module _ (setting : Setting) (views : Views) (sound : IsSound setting) (w : World) (stamps : Stamping) (me : BrickId) (c : Coordinator)
     (books : Books setting w) (said : Said setting views w stamps) (is : IsCall w me.0 c.call.seq c)

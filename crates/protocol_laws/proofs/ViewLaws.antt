@@ -14,6 +14,7 @@ use Rattle.messages.specs.declared.calls.Call.{Call}
 use Rattle.messages.specs.declared.requests.Request.{Request}
 use Rattle.messages.specs.declared.requests.Version.{Version}
 use Rattle.messages.specs.declared.requests.Want.{Want}
+use Rattle.messages.specs.declared.requests.Want.TheVariants.{All}
 use Rattle.messages.specs.declared.replies.Reply.{Reply}
 use Rattle.quorum.specs.Quorums.{IsWithinLimits}
 use Rattle.quorum.proofs.Counts.{count_monotone}
@@ -61,7 +62,8 @@ module _ (setting : Setting) (views : Views) (w : World) (stamps : Stamping) (sa
       let same : found ≡ want = cc in (says.phase, says.stamp, says.begun, says.want_is ∙ same)
   wants_says from to call (Request.OrderRead t look found) want says is =
       let same : found ≡ want = cc in (says.phase, t, says.begun, says.want_is ∙ same)
-  wants_says from to call (Request.OldRead bound) want says is = (LooksBack bound, says.stamp, says.begun, is)
+  wants_says from to call (Request.OldRead bound) want says is =
+      let same : All ≡ want = cc in (LooksBack bound, says.stamp, says.begun, same)
   wants_says from to call request want says is = cc
 
   pub one_content : OneContent setting views w

@@ -30,8 +30,8 @@ use Rattle.protocol.specs.Settings.{Setting, IsSound}
 use Rattle.protocol.specs.Views.{Views, first_kept, view_of, group_in}
 use Rattle.protocol.specs.Replicas.{Replica, is_held, is_wanted}
 use Rattle.protocol.specs.declared.phases.Counted.{Counted}
-use Rattle.protocol.specs.declared.phases.Phase.TheVariants.{Bases}
-use Rattle.protocol.specs.Coordinators.{Coordinator, most_rounds, greatest_refuser, greatest_found, lowest_full, lowest_mover, lowest_dropper, told_in, counts_at, with_reply, pieces_at, delta_at}
+use Rattle.protocol.specs.declared.phases.Phase.TheVariants.{Bases, LooksBack}
+use Rattle.protocol.specs.Coordinators.{Coordinator, most_rounds, greatest_refuser, greatest_found, lowest_full, lowest_mover, lowest_dropper, told_in, asked_group, counts_at, with_reply, pieces_at, delta_at}
 use Rattle.protocol.specs.Nodes.{view_at, has_accepted, has_later_time}
 use Rattle.protocol.specs.Worlds.{World, Event, Operation, content_on, first_world, mark_of, known_in, happens, run}
 use Rattle.protocol.specs.Happenings.{is_of, effect_in, happenings_of}
@@ -370,6 +370,17 @@ BasesAreFound setting w =
     → (is_some (lowest_mover (with_reply c seat from reply).counted) ≡ false)
     → c.group.m ≤ length (pieces_at base (with_reply c seat from reply).counted)
 
+-- An operation that looks back finds a version: once a quorum of replies of the members of the view before counts, of which none tells that its member has
+-- dropped what it kept, one of them tells a version. So it never waits for more.
+abbrev pub OldVersionsAreFound : Setting → World → Type 0
+OldVersionsAreFound setting w =
+    (i k seat : ℕ) (c : Coordinator) (bound : Option Stamp) (from : BrickId) (reply : Reply) → (w.nodes i).calls k ≡ Some c → c.phase ≡ LooksBack bound
+    → WasSent w (record { from = from; to = record { 0 = i }; message = Message.Reply c.call reply })
+    → counts_at setting.layout.block c from.0 c.call reply ≡ Some seat
+    → quorum_of (asked_group c) ≤ length (with_reply c seat from reply).counted
+    → (is_some (lowest_dropper (with_reply c seat from reply).counted) ≡ false)
+    → is_some (greatest_found (with_reply c seat from reply).counted) ≡ true
+
 -- The laws of a world, for an assignment of members to views.
 pub record Laws (setting : Setting) (views : Views) (w : World) : Type 0 where
   pub one_content : OneContent setting views w
@@ -382,6 +393,7 @@ pub record Laws (setting : Setting) (views : Views) (w : World) : Type 0 where
   pub drops : DropsOnlyOlder setting views w
   pub bases : BasesAreNewest setting views w
   pub bases_found : BasesAreFound setting w
+  pub old_found : OldVersionsAreFound setting w
   pub neighbours : (number stripe : ℕ) → NeighboursFollow w number stripe
   pub lowest : (number stripe : ℕ) → LowestFollows w number stripe
   pub real_time : (number stripe : ℕ) → FollowsRealTime w number stripe

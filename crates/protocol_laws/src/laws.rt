@@ -34,6 +34,8 @@ ghost use Rattle.protocol_laws.specs.Laws.{EveryRunKeepsTheLaws, NeverSurfaces, 
 ///   version between the two, or ever will (Frølund et al., DSN 2004).
 /// - A block write that reads its base back finds it: once the replies of a quorum count, and none refuses, at least m of them tell
 ///   blocks of the base.
+/// - An operation that looks back finds a version: once the replies of a quorum of the members of the view before count, and none tells
+///   that its member has dropped what it kept, one of them tells a version.
 /// - Of two neighbours among the versions that take effect, the upper was written whole, or was made on the lower. The lowest is the
 ///   first version, or was written whole, or was made on the first one.
 /// - Each reply that counted in a phase of an operation was sent to its coordinator, as a reply to that phase.
