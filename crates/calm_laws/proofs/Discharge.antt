@@ -1,8 +1,9 @@
 -- What is known of the world in which an operation begins to run alone holds in every world that a run reaches.
+use Rattle.protocol_laws.proofs.OldFound.{synced_stands}
 use Rattle.std.proofs.lemmas.List.{append-nil}
 use Rattle.std.specs.List.{list_any}
 use Rattle.view_laws.proofs.SyncedViews.{syncs_are_said}
-use Rattle.view_laws.specs.Syncs.{SyncedWasSent}
+use Rattle.view_laws.specs.Syncs.{SyncedWasSent, IsSaidSynced}
 use Rattle.view_laws.specs.Following.{Follows}
 use Rattle.quorum.proofs.Counts.{count_full}
 use Rattle.view_laws.proofs.Histories.{kept_is}
@@ -56,7 +57,7 @@ module _ (setting : Setting) (sound : IsSound setting) (encodes : EncodesBlocks 
     (stamps : Stamping) (books : Books setting w) (said : Said setting (views_in setting.layout w.packets) w stamps) (n : ℕ) (o : Operation) (c : Coordinator) (is : IsOperation w n o)
     (at : IsOpenAt w n c) (in_views : StampViews setting.layout w) (follows : Follows setting.layout (views_in setting.layout w.packets) w)
     (fresh : IsFresh setting w n c) (numbered : IsNumbered w) (counts : (i : ℕ) → CountsLives setting.layout (w.nodes i))
-    (synced : (c.stamp.view.0 ≤ 1) ⊎ SyncedSays setting (views_in setting.layout w.packets) w c.call.group.0 c.stamp.view.0) where
+    (synced : IsSaidSynced w c.call.group.0 c.stamp.view.0) where
   abbrev views : Views
   views = views_in setting.layout w.packets
 
@@ -202,25 +203,11 @@ module _ (setting : Setting) (sound : IsSound setting) (encodes : EncodesBlocks 
       (subst (λ (g : ℕ). Stands setting views w g c.call.stripe.0 t) (says.called.group ∙ was.group)
       (subst (λ (k : ℕ). Stands setting views w maker.ask.group.0 k t) (says.called.stripe ∙ was.stripe) stands))
 
-  -- a version of the view that stands: the first one, or one that stood as the view was said to be synced
+  -- a version of the view that stands, since the view is said to be synced
   some_stands : (t : Stamp) × StandsIn w c t
-  some_stands = ⊎_elim
-      (λ (most : e ≤ 1). (
-        first_stamp,
-        record {
-          of = let least = from_one in omega (arith, most, least);
-          held =
-              let full = count_full (length c.group.members) (λ seat. w.held (brick_at c.group seat) c.call.group.0 c.call.stripe.0 first_stamp)
-              (λ k less. said.first_held c.call.group.0 c.call.stripe.0 (brick_at c.group k)) in
-              let limits = follows.limits c.call.group.0 e c.group call_group in
-              let blocks = limits.some_block in
-              let seats = limits.enough_seats in
-              omega (arith, full, blocks, seats);
-        },
-      ))
-      (λ (says : SyncedSays setting views w c.call.group.0 e).
-      let found = says c.call.stripe.0 base layout_group.1 stripe_within in (found.0, stands_in found.0 found.1 found.2))
-      synced
+  some_stands =
+      let found = synced_stands setting views sound w stamps books said c.call.group.0 e c.call.stripe.0 base layout_group.1 stripe_within synced in
+      (found.0, stands_in found.0 found.1 found.2)
 
   -- what a brick keeps of the view that it has learnt
   keeps : (i : ℕ) → KeepsFrom w c i
@@ -352,13 +339,22 @@ some_brick test (brick ∷ bricks) some = ⊎_elim
     (λ (there : list_any test bricks ≡ true). let rest = some_brick test bricks there in (suc rest.0, rest.1, rest.2, rest.3))
     (or_cases (test brick) (list_any test bricks) some)
 
--- an operation that does not have to ask the members of the view before is in view 1, or in one that was said to be synced
+-- an open operation is of a view from view 1 on
+view_from_one : (setting : Setting) (w : World) (stamps : Stamping) → Books setting w → Said setting (views_in setting.layout w.packets) w stamps
+    → (n : ℕ) (o : Operation) (c : Coordinator) → IsOperation w n o → IsOpenAt w n c → 1 ≤ c.stamp.view.0
+view_from_one setting w stamps books said n o c is at =
+    let same : at.operation ≡ o = same_Some at.operation o (sym at.operation_is ∙ is) in
+    let call : (w.nodes o.brick.0).calls o.seq ≡ Some c = subst (λ (z : Operation). (w.nodes z.brick.0).calls z.seq ≡ Some c) same at.call in
+    let its : CallBooks setting w o.brick.0 o.seq c = books.calls o.brick.0 o.seq c call in
+    subst (λ (k : ℕ). 1 ≤ k) its.stamp_view
+    (said.operations (number_of w o.brick.0 o.seq) its.operation its.operation_is).view.0
+
+-- the view of an operation that does not have to ask the members of the view before is said to be synced
 said_synced : (setting : Setting) (events : List Event) (n : ℕ) (bricks : List BrickId) → IsSound setting
     → (let w : World = run setting events (first_world setting.layout) in
-    (stamps : Stamping) → Said setting (views_in setting.layout w.packets) w stamps → (calm : IsCalm setting w n bricks) → AsksNoPrior w calm.coordinator bricks
-    → (calm.coordinator.stamp.view.0 ≤ 1)
-    ⊎ SyncedSays setting (views_in setting.layout w.packets) w calm.coordinator.call.group.0 calm.coordinator.stamp.view.0)
-said_synced setting events n bricks sound stamps said calm near = by (nat_lt 1 c.stamp.view.0) refl (list_any (knows_synced w c.call.group.0) bricks) refl
+    (calm : IsCalm setting w n bricks) → AsksNoPrior w calm.coordinator bricks → 1 ≤ calm.coordinator.stamp.view.0
+    → IsSaidSynced w calm.coordinator.call.group.0 calm.coordinator.stamp.view.0)
+said_synced setting events n bricks sound calm near from_one = by (nat_lt 1 c.stamp.view.0) refl (list_any (knows_synced w c.call.group.0) bricks) refl
   where
     w : World
     w = run setting events (first_world setting.layout)
@@ -366,22 +362,13 @@ said_synced setting events n bricks sound stamps said calm near = by (nat_lt 1 c
     c : Coordinator
     c = calm.coordinator
 
-    says : SyncedWasSent w c.call.group.0 c.stamp.view.0 → SyncedSays setting (views_in setting.layout w.packets) w c.call.group.0 c.stamp.view.0
-    says sent =
-        said.packets sent.2.0 (record { from = sent.0; to = sent.1; message = Message.Synced (record { 0 = c.call.group.0 }) (record { 0 = c.stamp.view.0 }) })
-        sent.2.1
-
-    known_at : (brick : BrickId) (k : ℕ) → slice_get bricks k ≡ Some brick → knows_synced w c.call.group.0 brick ≡ true
-        → (c.stamp.view.0 ≤ 1) ⊎ SyncedSays setting (views_in setting.layout w.packets) w c.call.group.0 c.stamp.view.0
-    known_at brick k at knows = ⊎_elim
-        (λ (one : c.stamp.view.0 ≡ 1). inl (omega (arith, one))) (λ (sent : SyncedWasSent w c.call.group.0 c.stamp.view.0). inr (says sent))
-        (subst (λ (e : ℕ). (e ≡ 1) ⊎ SyncedWasSent w c.call.group.0 e) (calm.ready k brick at).view
-        ((syncs_are_said setting events sound).synced brick.0 c.call.group.0 knows))
-
     by : (later : Bool) → nat_lt 1 c.stamp.view.0 ≡ later → (knows : Bool) → list_any (knows_synced w c.call.group.0) bricks ≡ knows
-        → (c.stamp.view.0 ≤ 1) ⊎ SyncedSays setting (views_in setting.layout w.packets) w c.call.group.0 c.stamp.view.0
-    by false isnt knows is = inl (ltb-false 1 c.stamp.view.0 isnt)
-    by true later true is = let one = some_brick (knows_synced w c.call.group.0) bricks is in known_at one.1 one.0 one.2 one.3
+        → IsSaidSynced w c.call.group.0 c.stamp.view.0
+    by false isnt knows is = inl (let most = ltb-false 1 c.stamp.view.0 isnt in omega (arith, most, from_one))
+    by true later true is =
+        let one = some_brick (knows_synced w c.call.group.0) bricks is in
+        subst (λ (e : ℕ). IsSaidSynced w c.call.group.0 e) (calm.ready one.0 one.1 one.2).view
+        ((syncs_are_said setting events sound).synced one.1.0 c.call.group.0 one.3)
     by true later false is =
         absurd (false≢true (sym near ∙ ap (λ (b : Bool). b && not (list_any (knows_synced w c.call.group.0) bricks)) later ∙ ap (λ (b : Bool). not b) is))
 
@@ -398,7 +385,8 @@ known_of setting events n bricks sound encodes small calm near =
     let fresh : IsFresh setting w n calm.coordinator = always.1 n calm.coordinator calm.open_is calm.untouched in
     known setting sound encodes small w said.0 (books setting events) said.1 n calm.operation calm.coordinator calm.is at (always_views setting events)
     (every_run_follows setting events sound events [] (sym (append-nil events))) fresh always.0 (always_count setting events)
-    (said_synced setting events n bricks sound said.0 said.1 calm near)
+    (said_synced setting events n bricks sound calm near
+    (view_from_one setting w said.0 (books setting events) said.1 n calm.operation calm.coordinator calm.is at))
 
 -- so it ends
 pub calm_ends : CalmOperationsEnd
