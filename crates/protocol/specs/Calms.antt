@@ -1,5 +1,5 @@
 -- An operation that runs alone: its messages among some bricks are delivered, one after another, until it has ended. Nothing else happens meanwhile.
-use Rattle.std.specs.Prelude.{◌≡◌, ℕ, suc, ◌+◌, ◌^◌, ◌<◌, ◌≤◌, Bool, true, false, not, nat_eq, ◌&&◌, if◌then◌else◌, List, [], ◌∷◌, length, map, Option, Some, None, is_some, slice_get, filter}
+use Rattle.std.specs.Prelude.{◌≡◌, ℕ, zero, suc, ◌+◌, ◌^◌, ◌<◌, ◌≤◌, Bool, true, false, not, nat_eq, ◌&&◌, if◌then◌else◌, List, [], ◌∷◌, length, map, Option, Some, None, is_some, slice_get, filter}
 use Rattle.std.specs.List.{IsDistinct, list_any}
 use Rattle.fab_base.specs.declared.identities.BrickId.{BrickId}
 use Rattle.messages.specs.declared.packets.Message.{Message}
@@ -12,6 +12,7 @@ use Rattle.protocol.specs.Settings.{Setting}
 use Rattle.protocol.specs.Coordinators.{Coordinator}
 use Rattle.protocol.specs.Nodes.{Node, view_at, has_accepted}
 use Rattle.protocol.specs.Worlds.{World, Operation, Event, Delivers, is_up, packet_of, happens}
+use Rattle.protocol.specs.Happenings.{is_marked}
 
 -- the number of the operation that a packet is a message of, 0 where it is none's
 abbrev pub operation_of : World → Packet → ℕ
@@ -21,6 +22,20 @@ operation_of w packet = belongs packet.message
     belongs (Message.Request call request) = w.numbers packet.from.0 call.boot call.seq
     belongs (Message.Reply call reply) = w.numbers packet.to.0 call.boot call.seq
     belongs message = 0
+
+-- the operation has marks of this number
+abbrev pub has_mark : ℕ → Option Operation → Bool
+has_mark mark None = false
+has_mark mark (Some o) = is_marked o && nat_eq o.mark mark
+
+-- of the operations 1 to n the number of the one whose marks have this number, 0 if there is none
+abbrev pub number_marked : (ℕ → Option Operation) → ℕ → ℕ → ℕ
+number_marked operations mark zero = 0
+number_marked operations mark (suc n) = if has_mark mark (operations (suc n)) then suc n else number_marked operations mark n
+
+-- the number of the operation whose marks have this number
+abbrev pub operation_marked : World → ℕ → ℕ
+operation_marked w mark = number_marked w.operations mark w.begun
 
 -- the coordinator of an operation, where that is open: its brick is up, and was not started since
 abbrev pub open_at : World → Option Operation → Option Coordinator

@@ -25,7 +25,7 @@ use Rattle.view_laws.proofs.Calling.{Called}
 use Rattle.view_laws.proofs.CallSteps.{Calls, always_calls, put_back, up_not_down, stepped_up, left_stays, left_more, left_fewer}
 use Rattle.view_laws.proofs.Drafting.{DraftSays, Drafting, draft_stays, StepSays, step_agrees, step_drafting}
 use Rattle.view_laws.proofs.Deciding.{HasLimits}
-use Rattle.view_laws.proofs.Requesting.{no_turn, requested_says, learn_says}
+use Rattle.view_laws.proofs.Requesting.{no_turn, requested_says, learn_says, synced_turn, synced_says}
 use Rattle.view_laws.proofs.Replying.{reply_turn, heard_says}
 use Rattle.view_laws.proofs.Beginning.{quiet_step, invoked_says, proposed_says, ticked_says}
 use Rattle.protocol.proofs.Packets.{each_none}
@@ -37,7 +37,7 @@ use Rattle.view_laws.proofs.Replying.{IsQuiet}
 pub turn_like : (layout : Layout) (packets : List Packet) (node next other later : Node) → KeepsViews node other → KeepsViews next later
     → Turn layout packets node next → Turn layout packets other later
 turn_like layout packets node next other later before after turn g = ⊎_elim
-    (λ (stays : StaysAt node next g). inl (learnt_after ∙ stays.0 ∙ sym learnt_before, ballots_after ∙ stays.1 ∙ sym ballots_before))
+    (λ (stays : StaysAt node next g). inl (ap (λ (l : Learnt). l.view) learnt_after ∙ stays.0 ∙ sym (ap (λ (l : Learnt). l.view) learnt_before), ballots_after ∙ stays.1 ∙ sym ballots_before))
     (λ (changes : VotesAt layout packets node next g ⊎ LearnsAt layout packets node next g). ⊎_elim
     (λ (x : VotesAt layout packets node next g). inr (inl (record {
       call = x.call;
@@ -186,7 +186,7 @@ absorbed_turn setting v called agreed drafting packet sent = by packet.message r
     by (Message.Learn group view) is =
         (learn_says setting v agreed drafting packet.from packet.to group view
         (subst (λ (z : Message). IsSent v.packets (record { from = packet.from; to = packet.to; message = z })) is sent)).turn
-    by (Message.Synced group view) is = no_turn setting.layout v.packets (v.nodes packet.to.0) (v.nodes packet.to.0) (refl, refl)
+    by (Message.Synced group number) is = synced_turn setting.layout v.packets (v.nodes packet.to.0) group number
     by (Message.Client ask) is = no_turn setting.layout v.packets (v.nodes packet.to.0) (v.nodes packet.to.0) (refl, refl)
     by (Message.ClientReply id answered) is = no_turn setting.layout v.packets (v.nodes packet.to.0) (v.nodes packet.to.0) (refl, refl)
 
@@ -254,7 +254,7 @@ received_says setting limits v called agreed drafting now packet sent = by packe
     by (Message.Learn group view) is =
         learn_says setting v agreed drafting packet.from packet.to group view
         (subst (λ (z : Message). IsSent v.packets (record { from = packet.from; to = packet.to; message = z })) is sent)
-    by (Message.Synced group view) is = quiet
+    by (Message.Synced group number) is = synced_says setting v agreed drafting packet.to group number
     by (Message.Client ask) is = quiet
     by (Message.ClientReply id answered) is = quiet
 

@@ -16,7 +16,7 @@ use Rattle.messages.specs.declared.requests.Request.{Request}
 use Rattle.quorum.specs.Memberships.{is_membership}
 use Rattle.protocol.specs.Settings.{Setting}
 use Rattle.protocol.specs.Proposals.{Proposal, ballot_request, ballot_packets}
-use Rattle.protocol.specs.Coordinators.{Coordinator, request_of}
+use Rattle.protocol.specs.Coordinators.{Coordinator, request_of, asked_group}
 use Rattle.protocol.specs.Nodes.{Node, NodeStep, sending, phase_packets, group_at, new_coordinator, opened, began, invoked, view_in, resent_up_to, ballot_resent, ticked, new_proposal, proposing, proposed_in, proposed}
 use Rattle.protocol.proofs.Packets.{OfEach, each_none, each_both, each_member, each_ballot, each_ticked, each_ballot_resent}
 use Rattle.protocol.proofs.Tables.{put_each}
@@ -73,7 +73,7 @@ invoked_says setting v agreed drafting me now ask = by (group_at setting.layout 
         (λ k other d at. drafting.calls me.0 k d at))
         refl
         (each_member (IsQuiet setting.layout) me c.call (request_of setting.code c) (λ seat to. phase_quiet setting.layout setting.code me to c.call c seat) 0
-        c.group.members)
+        (asked_group c).members)
 
 -- a request to promise asks to accept nothing
 never_accept : (call other : Call) (b c : Ballot) (members : List BrickId)

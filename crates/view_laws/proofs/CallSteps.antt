@@ -18,14 +18,14 @@ use Rattle.messages.specs.declared.requests.Request.{Request}
 use Rattle.messages.specs.declared.replies.Reply.{Reply}
 use Rattle.quorum.specs.Memberships.{is_membership}
 use Rattle.protocol.specs.declared.phases.Phase.{Phase}
-use Rattle.protocol.specs.declared.phases.Phase.TheVariants.{Looks, LooksAt, Orders, OrdersAt, Recovers, Descends, Modifies, Bases, Stores}
+use Rattle.protocol.specs.declared.phases.Phase.TheVariants.{Looks, LooksAt, Orders, OrdersAt, Recovers, Descends, Modifies, Bases, Stores, LooksBack}
 use Rattle.protocol.specs.declared.tellings.ViewAnswer.{ViewAnswer}
 use Rattle.protocol.specs.declared.tellings.ViewAnswer.TheVariants as answer
 use Rattle.protocol.specs.Settings.{Setting, Code}
 use Rattle.synod_laws.specs.Synods.{value_or}
 use Rattle.protocol.specs.Replicas.{handle}
 use Rattle.protocol.specs.Proposals.{Proposal, Voting, ballot_request, ballot_packets, round_after, with_voice, asking, greatest_choice, voted}
-use Rattle.protocol.specs.Coordinators.{Coordinator, Next, Ignores, Waits, Sends, Makes, Ends, request_of, on_reply}
+use Rattle.protocol.specs.Coordinators.{Coordinator, Next, Ignores, Waits, Sends, Makes, Ends, request_of, on_reply, asked_group}
 use Rattle.protocol.specs.Nodes.{Node, NodeStep, put, no_step, sending, with_known, with_round, known_after, phase_packets, invoked, began, group_at, new_coordinator, fresh_stamp, requested, full_at, replica_at, vote_at, carried_out, ended_packets, carried_ballot, replied_ballot, replied_at, view_counted, replied, lists_fit, heard, received, absorbed, ticked, resent_up_to, ballot_resent, proposed, proposed_in, new_proposal, proposing, stopped, restarted, may_open}
 use Rattle.protocol.specs.Worlds.{World, Event, first_world, is_up, packet_during, left_after, world_stepped, run}
 use Rattle.protocol.proofs.Events.{EventCases, step_on, world_counting, always, started_each, stepped_each}
@@ -33,7 +33,7 @@ use Rattle.protocol.proofs.Packets.{OfEach, each_none, each_both, each_member, e
 use Rattle.protocol.proofs.Served.{request_each}
 use Rattle.protocol.proofs.Tables.{put_each, put_twice}
 use Rattle.view_laws.proofs.Calling.{OfBallot, OfBallots, ballots_map, IsOldDraft, IsNewDraft, IsOfDraft, StepCalls, Called, own_calls, called_after}
-use Rattle.view_laws.proofs.Owning.{taught_own, learnt_own, absorbed_own}
+use Rattle.view_laws.proofs.Owning.{taught_own, learnt_own, absorbed_own, synced_own}
 use Rattle.view_laws.proofs.Votings.{voting_each}
 
 -- what a phase of an operation asks for names no ballot
@@ -48,6 +48,7 @@ phase_names_none Q call code c seat = by c.phase
     by (OrdersAt j) = tt
     by Recovers = tt
     by (Descends bound) = tt
+    by (LooksBack bound) = tt
     by (Modifies base j) = tt
     by (Bases base) = tt
     by Stores = tt
@@ -96,7 +97,7 @@ ends_calls i node next new boot seq round proposal none = record {
 -- nor does what a phase of an operation sends
 phase_none : (setting : Setting) (me : BrickId) (c : Coordinator) → OfEach NamesNone (phase_packets setting me c)
 phase_none setting me c =
-    each_member NamesNone me c.call (request_of setting.code c) (λ seat to. phase_names_none (λ call b. ⊥) c.call setting.code c seat) 0 c.group.members
+    each_member NamesNone me c.call (request_of setting.code c) (λ seat to. phase_names_none (λ call b. ⊥) c.call setting.code c seat) 0 (asked_group c).members
 
 -- an operation begins
 pub invoked_calls : (setting : Setting) (me : BrickId) (now : ℕ) (node : Node) (ask : Ask)
@@ -262,7 +263,7 @@ heard_calls setting me from now node call reply =
     at_call (Some c) =
         from_round me.0 node (with_round node reply) _ _ refl refl (round_rises node.round reply) refl
         (carried_calls setting me (with_round node reply) (known_after node.known reply) c
-        (on_reply setting.layout.block setting.code (fresh_stamp me c.call.view now node.boot (known_after node.known reply)) c from call reply))
+        (on_reply setting.layout.block setting.code (fresh_stamp me c.stamp.view now node.boot (known_after node.known reply)) c from call reply))
 
 -- a message is handled
 pub received_calls : (setting : Setting) (me : BrickId) (now : ℕ) (node : Node) (packet : Packet)
@@ -278,7 +279,7 @@ received_calls setting me now node packet = by packet.message
     by (Message.Request call request) = requested_calls setting me packet.from node call request
     by (Message.Reply call reply) = heard_calls setting me packet.from now node call reply
     by (Message.Learn group view) = own_calls me.0 node node _ [] (learnt_own setting.layout node group view) quiet
-    by (Message.Synced group view) = quiet
+    by (Message.Synced group number) = own_calls me.0 node node _ [] (synced_own setting.layout node group number) quiet
     by (Message.Client ask) = quiet
     by (Message.ClientReply id answered) = quiet
 

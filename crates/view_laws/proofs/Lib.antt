@@ -20,5 +20,6 @@ pub mod Replying
 pub mod ReportSteps
 pub mod Reporting
 pub mod Requesting
+pub mod Syncing
 pub mod Voices
 pub mod Votings

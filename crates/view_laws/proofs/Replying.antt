@@ -23,7 +23,7 @@ use Rattle.synod_laws.proofs.Agreement.{two_chosen, chosen_stays}
 use Rattle.protocol.specs.Settings.{Setting, Code}
 use Rattle.protocol.specs.Views.{members_of, view_told, learn_in, group_kept}
 use Rattle.protocol.specs.Proposals.{Proposal, Voting, Ignored, Waited, Asks, Ended, ballot_quorum, ballot_packets, seat_voting, with_voice, refused_by, greatest_choice, asking, voted}
-use Rattle.protocol.specs.Coordinators.{Coordinator, Next, Ignores, Waits, Sends, Makes, Ends, request_of, on_reply}
+use Rattle.protocol.specs.Coordinators.{Coordinator, Next, Ignores, Waits, Sends, Makes, Ends, request_of, on_reply, asked_group}
 use Rattle.protocol.specs.Nodes.{Node, NodeStep, put, no_step, with_known, with_round, known_after, phase_packets, fresh_stamp, view_in, carried_out, resent_to, learn_packets, decided_view, ended_packets, carried_ballot, replied_ballot, replied_at, counts_here, view_counted, node_taught_by, replied, lists_fit, heard}
 use Rattle.protocol.proofs.Packets.{OfEach, each_none, each_member, each_collect, each_ballot, each_learn}
 use Rattle.protocol.proofs.Tables.{put_each}
@@ -32,7 +32,7 @@ use Rattle.view_laws.proofs.Histories.{ViewWorld, IsSent, IsNamed, named_in, acc
 use Rattle.view_laws.proofs.Agreeing.{IsSafeIn, Agreed, KeepsViews, Turn, turned, sending_more}
 use Rattle.view_laws.proofs.Calling.{Called, OfBallot}
 use Rattle.view_laws.proofs.CallSteps.{phase_names_none}
-use Rattle.view_laws.proofs.Owning.{SameCall, KeepsView, taught_own, reply_view_kept}
+use Rattle.view_laws.proofs.Owning.{SameCall, KeepsView, taught_own, reply_view_kept, fresh_of}
 use Rattle.view_laws.proofs.Voices.{refused_sends_none}
 use Rattle.view_laws.proofs.Votings.{voting_each}
 use Rattle.view_laws.proofs.Drafting.{DraftSays, Drafting, draft_stays, still_unproposed, AcceptsNone, StepSays, BodySays, body_own, step_extends}
@@ -223,7 +223,7 @@ replied_keeps setting me now from node call said None =
     proposal_keeps setting.layout me from (with_known (with_round node said) (known_after node.known said)) call said node.proposal
 replied_keeps setting me now from node call said (Some c) =
     carried_keeps setting me (with_round node said) (known_after node.known said) c
-    (on_reply setting.layout.block setting.code (fresh_stamp me c.call.view now node.boot (known_after node.known said)) c from call said)
+    (on_reply setting.layout.block setting.code (fresh_stamp me c.stamp.view now node.boot (known_after node.known said)) c from call said)
 
 module _ (setting : Setting) (limits : HasLimits setting.layout) (v : ViewWorld) (called : Called v.packets v.nodes) (agreed : Agreed setting.layout v)
     (drafting : Drafting setting.layout v) (me from : BrickId) (call : Call) (said : Reply)
@@ -291,7 +291,7 @@ module _ (setting : Setting) (limits : HasLimits setting.layout) (v : ViewWorld)
   phase_sends : (d : Coordinator) → OfEach (IsQuiet setting.layout) (phase_packets setting me d)
   phase_sends d =
       each_member (IsQuiet setting.layout) me d.call (request_of setting.code d) (λ seat to. phase_quiet setting.layout setting.code me to d.call d seat) 0
-      d.group.members
+      (asked_group d).members
 
   -- what an operation decided is carried out
   carried_body : (mid : Node) → mid.calls ≡ (v.nodes me.0).calls → mid.proposal ≡ (v.nodes me.0).proposal → (known : ℕ) (c : Coordinator)
@@ -583,8 +583,9 @@ module _ (setting : Setting) (limits : HasLimits setting.layout) (v : ViewWorld)
       ballot_body (with_known (with_round (v.nodes me.0) said) (known_after (v.nodes me.0).known said)) refl refl (v.nodes me.0).proposal refl
   call_body now (Some c) is =
       carried_body (with_round (v.nodes me.0) said) refl refl (known_after (v.nodes me.0).known said) c (known_calls call.seq c is)
-      (on_reply setting.layout.block setting.code (fresh_stamp me c.call.view now (v.nodes me.0).boot (known_after (v.nodes me.0).known said)) c from call said)
-      (reply_view_kept setting.layout.block setting.code (fresh_stamp me c.call.view now (v.nodes me.0).boot (known_after (v.nodes me.0).known said)) c from call said)
+      (on_reply setting.layout.block setting.code (fresh_stamp me c.stamp.view now (v.nodes me.0).boot (known_after (v.nodes me.0).known said)) c from call said)
+      (reply_view_kept setting.layout.block setting.code (fresh_stamp me c.stamp.view now (v.nodes me.0).boot (known_after (v.nodes me.0).known said)) c from call said
+      (fresh_of me c.stamp.view now (v.nodes me.0).boot (known_after (v.nodes me.0).known said)))
 
 -- what a brick owes when it handles a reply
 pub heard_says : (setting : Setting) → HasLimits setting.layout → (v : ViewWorld) → Called v.packets v.nodes → Agreed setting.layout v → Drafting setting.layout v

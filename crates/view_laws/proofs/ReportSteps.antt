@@ -38,7 +38,7 @@ use Rattle.view_laws.proofs.Histories.{ViewWorld, view_world, IsSent, history, s
 use Rattle.view_laws.proofs.Agreeing.{Turn, turned, turn_extends, placed, sending_more}
 use Rattle.view_laws.proofs.Calling.{StepCalls, Called}
 use Rattle.view_laws.proofs.CallSteps.{Calls, always_calls, append_none, invoked_calls, proposed_calls, received_calls, stopped_calls, restarted_calls, found_calls, found_called}
-use Rattle.view_laws.proofs.Owning.{requested_own, taught_own, learnt_own}
+use Rattle.view_laws.proofs.Owning.{requested_own, taught_own, learnt_own, synced_own}
 use Rattle.view_laws.proofs.Voices.{voice_counts, unrefused, acceptance_of}
 use Rattle.view_laws.proofs.Votings.{voting_each}
 use Rattle.view_laws.proofs.Drafting.{DraftSays, step_extends}
@@ -324,7 +324,7 @@ module _ (setting : Setting) (limits : HasLimits setting.layout) (w : World) (ca
           me.0 step.node.proposal (reports_of me step.reports))
       coordinator_voices z =
           carried_voices (with_round (w.nodes me.0) said) refl (known_after (w.nodes me.0).known said) c
-          (on_reply setting.layout.block setting.code (fresh_stamp me c.call.view now (w.nodes me.0).boot (known_after (w.nodes me.0).known said)) c from call said)
+          (on_reply setting.layout.block setting.code (fresh_stamp me c.stamp.view now (w.nodes me.0).boot (known_after (w.nodes me.0).known said)) c from call said)
 
 -- two choices by one test
 cond_two : {A B : Type 0} (t : Bool) (a b : A) (c d : B) (P : A → B → Type 0) → (t ≡ true → P a c) → (t ≡ false → P b d) → P (cond t a b) (cond t c d)
@@ -402,7 +402,7 @@ received_voices setting limits w calls agreement was packet sent some next turn 
         heard_voices setting limits w calls agreement was packet.to packet.from (w.clocks packet.to.0) call said
         (subst (λ (z : Message). IsSent w.packets (record { from = packet.from; to = packet.to; message = z })) is sent) some next turn
     by (Message.Learn group view) is = quiet _ _ _ (learnt_own setting.layout (w.nodes packet.to.0) group view).proposal refl
-    by (Message.Synced group view) is = quiet _ _ _ refl refl
+    by (Message.Synced group number) is = quiet _ _ _ (synced_own setting.layout (w.nodes packet.to.0) group number).proposal refl
     by (Message.Client ask) is = quiet _ _ _ refl refl
     by (Message.ClientReply id answered) is = quiet _ _ _ refl refl
 
