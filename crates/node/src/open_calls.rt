@@ -43,7 +43,7 @@ fn after_reply(mut stamps: StampSource, reply: &Reply) -> StampSource
 }
 
 /// The stamp that a new round of ordering would have in a view, at this time of the brick's clock. None where no later time is left.
-fn fresh_stamp(mut stamps: StampSource, now: u64, view: ViewNo, me: BrickId) -> Option<Stamp>
+pub(crate) fn fresh_stamp(mut stamps: StampSource, now: u64, view: ViewNo, me: BrickId) -> Option<Stamp>
     ensures stamp { result ≡ fresh_stamp me view now stamps.boot stamps.known }
     ensures view { IfSome result (λ stamp. stamp.view ≡ view) }
 {
@@ -238,6 +238,30 @@ impl OpenCalls {
         if made {
             self.seq += 1;
         }
+    }
+
+    /// Where new stamps come from, once a reply made a time known.
+    pub(crate) fn stamps_after(&self, reply: &Reply) -> StampSource
+        ensures boot { result.boot ≡ self.now.stamps.boot }
+        ensures known { result.known ≡ known_after self.now.stamps.known reply.now }
+    {
+        after_reply(self.stamps, reply)
+    }
+
+    /// Takes note of these stamps, and that the next call was made for a synchronisation, if it was.
+    pub(crate) fn made_read(&mut self, stamps: StampSource, made: bool)
+        requires seq { made ≡ true → self.old.seq + 1 < 2 ^ 64 }
+        requires boot { stamps.boot ≡ self.old.stamps.boot }
+        ensures state { (parts : OtherParts) → state_with parts self.new ≡ record (state_with parts self.old) {
+          seq = if made then self.old.seq + 1 else self.old.seq;
+          known = stamps.known;
+        } }
+        ensures same { (layout : layouts.Layout) → AreSameCalls layout self.old self.new }
+    {
+        if made {
+            self.seq += 1;
+        }
+        self.stamps = stamps;
     }
 
     /// Takes note of a time that a reply makes known.
