@@ -4,6 +4,7 @@
 #![tactic(auto)]
 
 pub mod faults;
+pub mod jobs;
 mod learnt_views;
 pub mod nodes;
 mod numbered;

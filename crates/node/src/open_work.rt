@@ -1,19 +1,23 @@
-//! What a brick has under way: the operations that it coordinates, and its proposal.
+//! What a brick has under way: the operations that it coordinates, its proposal, and its synchronisation.
 
+use crate::jobs::{Followed, OpenJob, ReadTurn, follow};
 use crate::open_calls::OpenCalls;
-use crate::outs::Outs;
+use crate::outs::{Outs, ReadsTold};
 use crate::proposals::{Heard, Proposals};
 use fab_base::{Answer, BrickId, GroupId, NoMem, Refusal, View, ViewNo};
 use layout::{Group, Layout};
 use messages::{Call, Messages, Packet, Reply};
+use protocol::{Report, Told};
 use quorum::is_membership;
 use std::alloc::Global;
+use view_sync::Job;
 
-/// The operations that a brick has open, and its proposals.
+/// The operations that a brick has open, its proposals, and its synchronisation, at most one.
 #[derive(Drop)]
 pub struct OpenWork {
     pub(crate) calls: OpenCalls,
     pub(crate) proposals: Proposals,
+    pub(crate) job: Option<OpenJob>,
 }
 
 /// What a reply that counts, and tells a later view, comes to.
@@ -25,6 +29,10 @@ pub(crate) enum Turn {
     Ends(Answer),
     /// The proposal is to go on so.
     Goes(Heard),
+    /// The read of the synchronisation has counted it, and waits for more.
+    CountedRead,
+    /// The read of the synchronisation is to end, which is told so, and this comes after it.
+    Follows(Told, Followed),
 }
 
 impl OpenWork {
@@ -54,6 +62,7 @@ impl OpenWork {
         OpenWork {
             calls: OpenCalls::new(alloc, me, boot),
             proposals: Proposals::new(),
+            job: None,
         }
     }
 
@@ -139,12 +148,115 @@ impl OpenWork {
             self.proposals.heard(&packet.message);
             return Ok(outs);
         }
+        if self.reads(call.seq) {
+            let outs = self.on_read_reply(alloc, layout, now, packet, reply)?;
+            self.proposals.heard(&packet.message);
+            return Ok(outs);
+        }
         let heard = self
             .proposals
             .hear(alloc, layout, packet.from, call, &packet.message)?;
         self.calls.heard(reply);
         self.proposals.heard(&packet.message);
         Ok(self.proposals.go_on(heard))
+    }
+
+    /// Whether the brick has a synchronisation under way.
+    pub(crate) fn synchronises(&self) -> bool {
+        self.job.is_some()
+    }
+
+    /// Whether the read of the synchronisation has the call of this number.
+    fn reads(&self, seq: u64) -> bool {
+        match &self.job {
+            Some(open) => open.reads(seq),
+            None => false,
+        }
+    }
+
+    /// Begins to synchronise this view of a group, which the brick has learnt, at this time of its clock. If all stripes are known to be kept in it already,
+    /// `synced`, that ends at once: it is reported, and nothing is sent.
+    ///
+    /// # Errors
+    ///
+    /// `NoMemory` where no memory was left; then nothing has changed.
+    pub(crate) fn sync(
+        &mut self,
+        alloc: Global,
+        layout: &Layout,
+        kept: &Group,
+        group: GroupId,
+        view: View,
+        synced: bool,
+        now: u64,
+    ) -> Result<Outs, NoMem> {
+        let (job, next) = Job::start(group, kept.stripes(), view.number, synced);
+        let stamps = self.calls.stamps();
+        if synced {
+            return Ok(Outs::reporting(Vec::new(alloc), Report::Sync { group, answer: SyncAnswer::Synced { view: view.number } }));
+        }
+        let followed = follow(alloc, layout, &self.calls, job, next, view, now, stamps)?;
+        Ok(self.take_up(group, None, None, followed))
+    }
+
+    /// The synchronisation of a group goes on so, once a read of it has ended that told this of its version, if one has. What is sent, told and reported.
+    fn take_up(
+        &mut self,
+        group: GroupId,
+        told: Option<Told>,
+        closed: Option<Told>,
+        followed: Followed,
+    ) -> Outs {
+        let Followed {
+            messages,
+            began,
+            end,
+            left,
+            stamps,
+        } = followed;
+        self.calls.made_read(stamps, began.is_some());
+        self.job = left;
+        Outs {
+            messages,
+            told,
+            reads: Some(ReadsTold {
+                closed,
+                began: began.map(|call| Told::Began { call }),
+            }),
+            answer: None,
+            report: end.map(|answer| Report::Sync { group, answer }),
+        }
+    }
+
+    /// Handles a reply to the read of the synchronisation, which teaches no view, at this time of the brick's clock.
+    fn on_read_reply(
+        &mut self,
+        alloc: Global,
+        layout: &Layout,
+        now: u64,
+        packet: &Packet,
+        reply: &Reply,
+    ) -> Result<Outs, NoMem> {
+        let stamps = self.calls.stamps_after(reply);
+        let Some(open) = &mut self.job else {
+            unreachable!()
+        };
+        let group = open.group();
+        match open.on_reply(alloc, layout, &self.calls, packet, now, stamps)? {
+            ReadTurn::Goes(messages, told, stamps) => {
+                self.calls.made_read(stamps, false);
+                Ok(Outs {
+                    messages,
+                    told,
+                    reads: None,
+                    answer: None,
+                    report: None,
+                })
+            }
+            ReadTurn::Ends(told, closed, followed) => {
+                Ok(self.take_up(group, told, Some(closed), followed))
+            }
+        }
     }
 
     /// Whether a reply counts in the open operation of its call, or, if there is none, in the proposal.
@@ -224,15 +336,20 @@ impl OpenWork {
     }
 
     /// At a tick of the brick's clock each open operation, in the order of beginning, sends its present phase again to each member without a reply that
-    /// counts, and then the proposal. Each message of a later view than view 1 goes right after one that teaches its receiver that view.
+    /// counts, then the proposal, and last the read of the synchronisation. Each message of a later view than view 1 goes right after one that teaches its receiver
+    /// that view.
     pub(crate) fn on_tick(&self, alloc: Global) -> Result<Messages, NoMem>
         ensures packets { IfOk result (λ messages. (layout : layouts.Layout) (kept : KeptParts) → IsWorkOf layout self.now
             → packets_from self.now.calls.me messages.items ≡ ticked (coding layout) self.now.calls.me (state_in kept self.now)) }
-        ensures few { IfOk result (λ messages. vec_len messages ≤ 4160) }
+        ensures few { IfOk result (λ messages. vec_len messages ≤ 4224) }
     {
         let mut messages = self.calls.on_tick(alloc)?;
-        let mut last = self.proposals.on_tick(alloc)?;
-        messages.append(&mut last)?;
+        let mut ballots = self.proposals.on_tick(alloc)?;
+        messages.append(&mut ballots)?;
+        if let Some(open) = &self.job {
+            let mut last = open.on_tick(alloc)?;
+            messages.append(&mut last)?;
+        }
         Ok(messages)
     }
 }

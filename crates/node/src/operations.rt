@@ -67,7 +67,9 @@ pub struct Operation {
 }
 
 impl Operation {
-    ghost use Rattle.std.specs.Prelude.{◌≡◌, ◌≤◌, true, None, IfOk, IfSome, OnOk, OnErr, [], ◌∷◌, length, vec_len, vec_capacity};
+    ghost use Rattle.fab_base.specs.declared.stamps.Stamp as machine_stamp;
+    ghost use Rattle.fab_base.specs.declared.answers.Answer as machine_answer;
+    ghost use Rattle.std.specs.Prelude.{◌≡◌, ◌≢◌, ◌≤◌, true, false, Option, None, IfOk, IfSome, OnOk, OnErr, [], ◌∷◌, length, vec_len, vec_capacity};
     ghost use Rattle.quorum.specs.Quorums.{IsWithinLimits};
     ghost use Rattle.fab_base.specs.Layouts.{Layout};
     ghost use Rattle.protocol.specs.Nodes.{has_block, has_length, seen_told};
@@ -337,6 +339,7 @@ impl Operation {
                     stamp,
                     base: op.base(),
                 }),
+                reads: None,
                 answer: None,
                 report: None,
             },
@@ -367,6 +370,7 @@ impl Operation {
         Outs {
             messages: put_collects(room, self.group(), call, self.shown().made()),
             told,
+            reads: None,
             answer: Some(Answered { seq, answer }),
             report: None,
         }
@@ -407,6 +411,15 @@ impl Operation {
             Next::End(answer) => Ok(self.end(room, call, answer)),
             Next::Recover(_) => unreachable!(),
         }
+    }
+
+    /// Whether a message may end the operation: it counts, and as many replies count then as decide the phase.
+    pub(crate) fn may_end(&self, from: BrickId, message: &Message) -> bool
+        ensures { result ≡ false → (fresh : Option machine_stamp.Stamp) (answer : machine_answer.Answer) (seen stored : Option machine_stamp.Stamp)
+            → decided_on fresh (shown_of self.now) from message.now ≢ machine.Ends answer seen stored }
+    {
+        self.counts(from, message)
+            && self.shown().counted().len() + 1 >= usize::from(self.shown().asked().quorum())
     }
 
     /// Counts a reply on which the operation waits for more.

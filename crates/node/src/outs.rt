@@ -8,29 +8,41 @@ use protocol::{Answered, Report, Told};
 use std::alloc::Global;
 use std::marker::Model;
 
-/// What a step sends, in order, what it tells of an operation's version, the operation that it answers, and what it reports of the brick's
-/// proposal. A clause sees each as a list, as the machine has it. No step tells, answers or reports more than one, so one of each is held.
+/// What a step tells of the reads of the brick's synchronisation: that one has ended, and that the next began.
+#[derive(Clone, Copy)]
+pub struct ReadsTold {
+    /// The read that has ended, if one has.
+    pub closed: Option<Told>,
+    /// The read that began, if one did.
+    pub began: Option<Told>,
+}
+
+/// What a step sends, in order, what it tells of an operation's version and of the reads of the brick's synchronisation, the operation that it answers, and what
+/// it reports of the brick's proposal or its synchronisation. A clause sees each as a list, as the machine has it. No step tells more than one version, answers or
+/// reports more than one, so one of each is held.
 #[derive(Drop)]
 pub struct Outs {
     /// The messages, each with its receiver, in the order of sending.
     pub messages: Messages,
-    /// What is told, if anything.
+    /// What is told of an operation's version, if anything.
     pub told: Option<Told>,
+    /// What is told of the reads of the brick's synchronisation, if anything.
+    pub reads: Option<ReadsTold>,
     /// The answer that is given, if one is.
     pub answer: Option<Answered>,
-    /// What is reported of the brick's proposal, if it ended.
+    /// What is reported of the brick's proposal or its synchronisation, if it ended.
     pub report: Option<Report>,
 }
 
 impl Model for Outs {
     ghost use Rattle.std.specs.Prelude.{option_to_list};
-    ghost use Rattle.node.specs.Outcomes.{Outcome};
+    ghost use Rattle.node.specs.Outcomes.{Outcome, told_with};
 
     ghost Value = { Outcome };
 
     ghost view = { λ outs. record {
       messages = outs.messages.items;
-      told = option_to_list outs.told;
+      told = told_with outs.reads outs.told;
       answers = option_to_list outs.answer;
       reports = option_to_list outs.report;
     } };
@@ -60,6 +72,7 @@ impl Outs {
         Outs {
             messages,
             told: None,
+            reads: None,
             answer: None,
             report: None,
         }
@@ -72,6 +85,7 @@ impl Outs {
         Outs {
             messages: Vec::new(alloc),
             told: None,
+            reads: None,
             answer: Some(Answered { seq, answer }),
             report: None,
         }
@@ -84,24 +98,33 @@ impl Outs {
         Outs {
             messages,
             told: None,
+            reads: None,
             answer: None,
             report: Some(report),
         }
     }
 
-    /// The messages, what is told, the answer, and the report.
-    pub fn into_parts(self) -> (Messages, Option<Told>, Option<Answered>, Option<Report>)
+    /// The messages, what is told of a version and of reads, the answer, and the report.
+    pub fn into_parts(
+        self,
+    ) -> (
+        Messages,
+        (Option<Told>, Option<ReadsTold>),
+        Option<Answered>,
+        Option<Report>,
+    )
         ensures messages { result.0.items ≡ self.messages }
-        ensures told { option_to_list result.1 ≡ self.told }
+        ensures told { told_with result.1.1 result.1.0 ≡ self.told }
         ensures answers { option_to_list result.2 ≡ self.answers }
         ensures reports { option_to_list result.3 ≡ self.reports }
     {
         let Outs {
             messages,
             told,
+            reads,
             answer,
             report,
         } = self;
-        (messages, told, answer, report)
+        (messages, (told, reads), answer, report)
     }
 }
