@@ -1,20 +1,21 @@
 -- The synchronisation of a brick, as the machine sees it.
-use Rattle.std.specs.Prelude.{◌≡◌, ℕ, ◌≤◌, length, List, [], ◌∷◌, ◌++◌, Option, Some, None}
+use Rattle.std.specs.Prelude.{◌≡◌, ℕ, ◌≤◌, length, List, [], ◌∷◌, Option, Some, None}
 use Rattle.std.specs.Option.{option_map}
 use Rattle.std.specs.Ordering.{nat_cmp}
 use Rattle.std.specs.BTreeMap.{get}
-use Rattle.fab_base.specs.declared.answers.Cause.{Cause}
 use Rattle.fab_base.specs.declared.identities.BrickId.{BrickId}
-use Rattle.fab_base.specs.Layouts.{Layout, group_of}
-use Rattle.messages.specs.declared.packets.Message.{Message}
+use Rattle.fab_base.specs.declared.identities.GroupId.{GroupId}
+use Rattle.fab_base.specs.Layouts.{Layout}
+use Rattle.messages.specs.declared.calls.Call.{Call}
 use Rattle.quorum.specs.Quorums.{IsWithinLimits}
 use Rattle.protocol.specs.Views.{group_kept}
 use Rattle.protocol.specs.Coordinators.{Coordinator}
-use Rattle.protocol.specs.Jobs.{Job, job_after}
-use Rattle.protocol.specs.Nodes.{Node, NodeStep, put, job_goes}
+use Rattle.protocol.specs.Jobs.{Job, SyncAnswer}
+use Rattle.protocol.specs.Nodes.{Node, NodeStep, Report, Told, Began, put, with_job}
 use Rattle.coord_phase.specs.Messages.{packets_from}
 use Rattle.coord_phase.specs.Operations.{PriorIsWithinLimits}
 use Rattle.node.specs.declared.jobs.OpenJob.{OpenJob}
+use Rattle.node.specs.declared.jobs.Followed.{Followed}
 use Rattle.node.specs.declared.open_calls.OpenCalls.{OpenCalls}
 use Rattle.node.specs.Operations.{coordinator_of, IsOperationOf}
 

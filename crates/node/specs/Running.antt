@@ -1,5 +1,6 @@
 -- A running brick over its durable store, and what its disk shows.
-use Rattle.std.specs.Prelude.{◌≡◌, ◌⊎◌, ℕ, ◌+◌, List, length, map, Option, None}
+use Rattle.std.specs.Prelude.{◌≡◌, ◌⊎◌, ℕ, ◌+◌, List, length, map, Option}
+use Rattle.std.specs.Option.{option_map}
 use Rattle.std.specs.Ordering.{nat_cmp}
 use Rattle.std.specs.Map.{lookup}
 use Rattle.std.specs.BTreeMap.{BTreeMap, is_at}
@@ -16,13 +17,14 @@ use Rattle.protocol.specs.Nodes as machine
 use Rattle.protocol.specs.Proposals.{Proposal}
 use Rattle.replica.specs.Parts.{part_in, learnt_in, ballots_in, live_at, IsPartsOf, ListsStand}
 use Rattle.node.specs.Proposals.{proposal_in}
+use Rattle.node.specs.Jobs.{Reading, calls_with, reading_in}
 use Rattle.node.specs.declared.open_work.OpenWork.{OpenWork}
 use Rattle.node.specs.declared.operations.Operation.{Operation}
 use Rattle.node.specs.Operations.{coordinator_of}
 use Rattle.node.specs.States.{IsWorkOf}
 
 -- A running brick: the disk's layout, its number, its last call number, the greatest time that it knows, the coordinators of its open operations
--- by their call numbers, which rise, the greatest round of a ballot that it knows, its proposal, and its store.
+-- by their call numbers, which rise, the greatest round of a ballot that it knows, its proposal, its synchronisation with the read of that, and its store.
 pub record Running (D : Type 0) : Type 0 where
   pub layout : Layout
   pub me : BrickId
@@ -31,6 +33,7 @@ pub record Running (D : Type 0) : Type 0 where
   pub calls : List (ℕ × Coordinator)
   pub round : ℕ
   pub proposal : Option Proposal
+  pub reading : Option Reading
   pub brick : Brick D
 
 -- what the machine sees of it
@@ -47,9 +50,9 @@ state_of node =
       learnt = learnt_in node.layout node.brick.state;
       ballots = ballots_in node.brick.state;
       replicas = part_in node.layout.block node.brick.state;
-      calls = λ k. lookup (is_at (nat_cmp k)) node.calls;
+      calls = calls_with node.reading (λ k. lookup (is_at (nat_cmp k)) node.calls);
       proposal = node.proposal;
-      job = None;
+      job = option_map (λ r. r.job) node.reading;
     }
 
 -- the coordinators of operations by number
@@ -67,6 +70,7 @@ running layout work store =
       calls = coordinators work.calls.operations;
       round = work.proposals.rounds;
       proposal = proposal_in work.proposals.under_way;
+      reading = reading_in work.job;
       brick = store;
     }
 

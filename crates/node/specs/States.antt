@@ -19,6 +19,7 @@ use Rattle.synod_laws.specs.Synods.{Kept}
 use Rattle.node.specs.declared.proposals.Proposals.{Proposals}
 use Rattle.node.specs.declared.open_work.OpenWork.{OpenWork}
 use Rattle.node.specs.Proposals.{proposal_in, AreProposalsOf}
+use Rattle.node.specs.Jobs.{reading_in, with_reading, IsJobIn}
 use Rattle.protocol.specs.Replicas.{Replica}
 use Rattle.node.specs.declared.operations.Operation.{Operation}
 use Rattle.node.specs.Operations.{coordinator_of, IsOperationOf}
@@ -81,9 +82,9 @@ state_with parts calls =
       job = None;
     }
 
--- the state of a brick that keeps this, and has these operations and this proposal under way
+-- the state of a brick that keeps this, and has these operations, this proposal and this synchronisation under way
 abbrev pub state_in : KeptParts → OpenWork → machine.Node
-state_in kept work = state_with (parts_with kept work.proposals) work.calls
+state_in kept work = with_reading (reading_in work.job) (state_with (parts_with kept work.proposals) work.calls)
 
 -- the state of a brick that has these parts, whose store was opened so many times, and that has made no call and knows no time since
 abbrev pub with_parts : ℕ → OtherParts → machine.Node
@@ -153,10 +154,11 @@ abbrev pub AreCallsAfter : {X : Type 0} → List Answered → ℕ → BTreeMap �
 AreCallsAfter [] k before after = after ≡ before
 AreCallsAfter (answered ∷ answers) k before after = IsClosed k before after
 
--- the operations and the proposal are of a brick of this layout
+-- the operations, the proposal and the synchronisation are of a brick of this layout
 pub record IsWorkOf (layout : Layout) (work : OpenWork) : Type 0 where
   pub calls : AreCallsOf layout work.calls
   pub proposing : AreProposalsOf layout work.proposals
+  pub job : IsJobIn layout work.calls work.job
 
 -- they are of the same opening of the same brick's store; if those before were of this layout, so are those after
 pub record IsSameWork (layout : Layout) (before after : OpenWork) : Type 0 where

@@ -32,11 +32,11 @@ pub struct OpenJob {
 /// of it; and the stamps of the brick then.
 #[derive(Drop)]
 pub(crate) struct Followed {
-    messages: Messages,
-    began: Option<Call>,
-    end: Option<SyncAnswer>,
-    left: Option<OpenJob>,
-    stamps: StampSource,
+    pub messages: Messages,
+    pub began: Option<Call>,
+    pub end: Option<SyncAnswer>,
+    pub left: Option<OpenJob>,
+    pub stamps: StampSource,
 }
 
 /// What a reply to a read comes to.

@@ -34,6 +34,21 @@ pub(crate) fn learnt_view<D: Disk>(store: &BrickStore<D>, number: GroupId, group
     }
 }
 
+/// The view that a brick has learnt of a group of the layout, and whether all its stripes are known to be kept in it.
+pub(crate) fn learnt<D: Disk>(
+    store: &BrickStore<D>,
+    number: GroupId,
+    group: &Group,
+) -> (View, bool)
+    requires few { number.0 < most_groups }
+    ensures view { (layout : layouts.Layout) → group_of layout number.0 ≡ Some group.now → record { view = result.0; synced = result.1 } ≡ learnt_in layout store.now.state number.0 }
+{
+    match store.known_view(number) {
+        Some(known) => known,
+        None => (group.first_view(), true),
+    }
+}
+
 /// The number of the view that a brick has learnt of a group.
 pub(crate) fn learnt_number<D: Disk>(store: &BrickStore<D>, group: GroupId) -> ViewNo
     ensures { (layout : layouts.Layout) → result.0 ≡ (learnt_in layout store.now.state group.0).view.number.0 }

@@ -11,7 +11,7 @@ ghost use Rattle.brick_state.specs.States.{StateOf};
 ghost use Rattle.brick_store.specs.Images.{IsFound};
 ghost use Rattle.brick_store.specs.Openings.{IsCounted, IsListedOnOpening, IsWornOut};
 ghost use Rattle.protocol.specs.Nodes as machine;
-ghost use Rattle.protocol.specs.Nodes.{view_at, refusal_of, invoked, heard, node_learnt, proposal_refusal, proposed, received, absorbed, ticked, restarted};
+ghost use Rattle.protocol.specs.Nodes.{view_at, refusal_of, invoked, heard, node_learnt, proposal_refusal, proposed, sync_refusal, synced_at, received, absorbed, ticked, restarted};
 ghost use Rattle.protocol.specs.Proposals.{Proposal};
 ghost use Rattle.protocol.specs.Views.{view_told};
 ghost use Rattle.fab_base.specs.Layouts.{Group, group_of};
@@ -31,7 +31,7 @@ ghost use Rattle.node.specs.Running.{shape_at, state_of, IsKept, ImageShows, IsS
 ghost use Rattle.node.specs.Teaching.{is_taught};
 
 use crate::faults::NodeFault;
-use crate::learnt_views::{do_lists_stand, learnt_number, learnt_view};
+use crate::learnt_views::{do_lists_stand, learnt, learnt_number, learnt_view};
 use crate::open_work::OpenWork;
 use crate::outs::{Begun, Outs};
 use crate::sending::answer_messages;
@@ -201,16 +201,50 @@ impl<D: Disk> Node<D> {
         )
     }
 
+    /// Begins to synchronise the view that the brick has learnt of a group, at this time of its clock: it reads each stripe in that, and tells all bricks in the
+    /// end. If all stripes are known to be kept in the view already, it ends at once: that is reported, and nothing is sent. So it does if no later time or no further
+    /// call is left for the first read.
+    ///
+    /// # Errors
+    ///
+    /// `Halted` exactly where an earlier call answered `Disk`. `Refused` exactly where the brick does not begin it, with the first reason
+    /// there is: there is no such group; it has a synchronisation. `NoMemory` where no memory was left.
+    pub fn sync(&mut self, now: u64, group: GroupId) -> Result<Outs, NodeFault>
+        ensures refused { RefusesAs result (sync_refusal self.old.layout (state_of self.old) group.0) }
+        ensures step { IfOk result (StepsAs self.old.me (state_of self.new) (synced_at (coding self.old.layout) self.old.me now (state_of self.old) group)) }
+        ensures err { OnErr result (state_of self.new ≡ state_of self.old) }
+        ensures few { IfOk result (λ outs. length outs.messages ≤ 32) }
+        ensures same { IsSameBrick self.old self.new }
+        ensures brick { self.new.brick ≡ self.old.brick }
+        ensures halted { self.old.brick.halted ≡ true → result ≡ Err NodeFault.Halted }
+        ensures only_halted { result ≡ Err NodeFault.Halted → self.old.brick.halted ≡ true }
+        ensures not_disk { result ≢ Err NodeFault.Disk }
+    {
+        if self.is_halted() {
+            return Err(NodeFault::Halted);
+        }
+        let Some(kept) = self.layout.group(group) else {
+            return Err(NodeFault::Refused(Refusal::NoStripe));
+        };
+        if self.work.synchronises() {
+            return Err(NodeFault::Refused(Refusal::Busy));
+        }
+        let (view, synced) = learnt(&self.store, group, kept);
+        Ok(self
+            .work
+            .sync(self.alloc, &self.layout, kept, group, view, synced, now)?)
+    }
+
     /// At a tick of the brick's clock each open operation, in the order of beginning, sends its present phase again to each member
-    /// without a reply that counts, and then the proposal. Each message of a later view than view 1 goes right after one that teaches its
-    /// receiver that view.
+    /// without a reply that counts, then the proposal, and last the read of the synchronisation. Each message of a later view than view 1 goes right after one that
+    /// teaches its receiver that view.
     ///
     /// # Errors
     ///
     /// `Halted` exactly where an earlier call answered `Disk`. `NoMemory` where no memory was left.
     pub fn on_tick(&self) -> Result<Messages, NodeFault>
         ensures packets { IfOk result (λ messages. packets_from self.now.me messages.items ≡ ticked (coding self.now.layout) self.now.me (state_of self.now)) }
-        ensures few { IfOk result (λ messages. vec_len messages ≤ 4160) }
+        ensures few { IfOk result (λ messages. vec_len messages ≤ 4224) }
         ensures halted { self.now.brick.halted ≡ true → result ≡ Err NodeFault.Halted }
         ensures only { OnErr result ((result ≡ Err NodeFault.Halted × (self.now.brick.halted ≡ true)) ⊎ (result ≡ Err NodeFault.NoMemory)) }
     {
@@ -231,7 +265,7 @@ impl<D: Disk> Node<D> {
     #[tactic(auto, unfolding(protocol::specs::Nodes::received, protocol::specs::Nodes::requested, protocol::specs::Nodes::absorbed))]
     pub fn on_message(&mut self, now: u64, packet: &Packet) -> Result<Outs, NodeFault>
         ensures step { IfOk result (StepsAs self.old.me (state_of self.new) (received (coding self.old.layout) self.old.me now (state_of self.old) packet.now)) }
-        ensures few { IfOk result (λ outs. length outs.messages ≤ 64) }
+        ensures few { IfOk result (λ outs. length outs.messages ≤ 96) }
         ensures err { OnErr result (state_of self.new ≡ state_of self.old) }
         ensures same { IsSameBrick self.old self.new }
         // A message that makes no call of the disk changes nothing that is kept, and does not touch the disk. None is made where what is kept stays as it is.
@@ -264,7 +298,7 @@ impl<D: Disk> Node<D> {
         requires stands { IsShown D.Disk self.old }
         ensures step { IfOk result (StepsAs self.old.me (state_of self.new)
             (member_step self.old.layout self.old.me from (state_of self.old) message.now)) }
-        ensures few { IfOk result (λ outs. length outs.messages ≤ 64) }
+        ensures few { IfOk result (λ outs. length outs.messages ≤ 96) }
         ensures err { OnErr result (state_of self.new ≡ state_of self.old) }
         ensures same { IsSameBrick self.old self.new }
         ensures still { message_calls self.old.layout self.old.me from (shape_at self.old.layout self.old.me) self.old.brick.listed (state_of self.old) message.now ≡ 0
@@ -298,7 +332,7 @@ impl<D: Disk> Node<D> {
         requires runs { self.old.brick.halted ≡ false }
         requires stands { IsShown D.Disk self.old }
         ensures step { IfOk result (StepsAs self.old.me (state_of self.new) (received (coding self.old.layout) self.old.me now (state_of self.old) packet.now)) }
-        ensures few { IfOk result (λ outs. length outs.messages ≤ 64) }
+        ensures few { IfOk result (λ outs. length outs.messages ≤ 96) }
         ensures err { OnErr result (state_of self.new ≡ state_of self.old) }
         ensures same { IsSameBrick self.old self.new }
         ensures still { packet_calls self.old.layout self.old.me (state_of self.old) packet.now self.old.brick.listed ≡ 0 → OnOk result
@@ -315,7 +349,7 @@ impl<D: Disk> Node<D> {
         if !self.is_taught_by(packet, call, &view) {
             return Ok(Outs::nothing(self.alloc));
         }
-        self.on_moved(packet, call, reply, view)
+        self.on_moved(now, packet, call, reply, view)
     }
 
     /// Handles a reply that teaches no view, at this time of the brick's clock: the operation of its call, or else the proposal, counts it,
@@ -331,7 +365,7 @@ impl<D: Disk> Node<D> {
         requires untaught { view_told reply.now ≡ None }
         ensures step { IfOk result (StepsAs self.old.me (state_of self.new) (heard (coding self.old.layout) self.old.me now packet.now.from
             (state_of self.old) call reply.now)) }
-        ensures few { IfOk result (λ outs. length outs.messages ≤ 64) }
+        ensures few { IfOk result (λ outs. length outs.messages ≤ 96) }
         ensures err { OnErr result (state_of self.new ≡ state_of self.old) }
         ensures same { IsSameBrick self.old self.new }
         ensures brick { self.new.brick ≡ self.old.brick }
@@ -359,6 +393,7 @@ impl<D: Disk> Node<D> {
     /// Handles a reply that counts and teaches a view: it counts, and the brick learns the view.
     fn on_moved(
         &mut self,
+        now: u64,
         packet: &Packet,
         call: Call,
         reply: &Reply,
@@ -369,9 +404,9 @@ impl<D: Disk> Node<D> {
         requires taught { is_taught self.old.layout (state_of self.old) packet.now.from call reply.now ≡ true }
         requires runs { self.old.brick.halted ≡ false }
         requires stands { IsShown D.Disk self.old }
-        ensures step { (now : ℕ) → IfOk result (StepsAs self.old.me (state_of self.new) (heard (coding self.old.layout) self.old.me now packet.now.from
+        ensures step { IfOk result (StepsAs self.old.me (state_of self.new) (heard (coding self.old.layout) self.old.me now packet.now.from
             (state_of self.old) call reply.now)) }
-        ensures few { IfOk result (λ outs. length outs.messages ≤ 64) }
+        ensures few { IfOk result (λ outs. length outs.messages ≤ 96) }
         ensures err { OnErr result (state_of self.new ≡ state_of self.old) }
         ensures same { IsSameBrick self.old self.new }
         ensures still { message_calls self.old.layout self.old.me self.old.me (shape_at self.old.layout self.old.me) self.old.brick.listed (state_of self.old)
@@ -387,7 +422,7 @@ impl<D: Disk> Node<D> {
         let (alloc, seq) = (self.alloc, call.seq);
         let turn = self
             .work
-            .hear_moved(alloc, &self.layout, packet, call, reply, view.number)?;
+            .hear_moved(alloc, &self.layout, now, packet, call, reply, view.number)?;
         match replica::learn(&mut self.store, &self.layout, call.group, &view) {
             Ok(()) => Ok(self.work.finish(alloc, seq, turn)),
             Err(fault) => {

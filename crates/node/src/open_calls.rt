@@ -240,6 +240,13 @@ impl OpenCalls {
         }
     }
 
+    /// Where new stamps come from.
+    pub(crate) fn stamps(&self) -> StampSource
+        ensures { result ≡ self.now.stamps }
+    {
+        self.stamps
+    }
+
     /// Where new stamps come from, once a reply made a time known.
     pub(crate) fn stamps_after(&self, reply: &Reply) -> StampSource
         ensures boot { result.boot ≡ self.now.stamps.boot }

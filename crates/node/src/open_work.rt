@@ -6,11 +6,11 @@ use crate::outs::{Outs, ReadsTold};
 use crate::proposals::{Heard, Proposals};
 use fab_base::{Answer, BrickId, GroupId, NoMem, Refusal, View, ViewNo};
 use layout::{Group, Layout};
-use messages::{Call, Messages, Packet, Reply};
+use messages::{Call, Message, Messages, Packet, Reply};
 use protocol::{Report, Told};
 use quorum::is_membership;
 use std::alloc::Global;
-use view_sync::Job;
+use view_sync::{Job, JobNext};
 
 /// The operations that a brick has open, its proposals, and its synchronisation, at most one.
 #[derive(Drop)]
@@ -191,10 +191,13 @@ impl OpenWork {
         now: u64,
     ) -> Result<Outs, NoMem> {
         let (job, next) = Job::start(group, kept.stripes(), view.number, synced);
-        let stamps = self.calls.stamps();
-        if synced {
-            return Ok(Outs::reporting(Vec::new(alloc), Report::Sync { group, answer: SyncAnswer::Synced { view: view.number } }));
+        if let JobNext::End(answer) = next {
+            return Ok(Outs::reporting(
+                Vec::new(alloc),
+                Report::Sync { group, answer },
+            ));
         }
+        let stamps = self.calls.stamps();
         let followed = follow(alloc, layout, &self.calls, job, next, view, now, stamps)?;
         Ok(self.take_up(group, None, None, followed))
     }
@@ -226,6 +229,15 @@ impl OpenWork {
             answer: None,
             report: end.map(|answer| Report::Sync { group, answer }),
         }
+    }
+
+    /// The synchronisation goes on so, once a read of it was aborted, which is told so.
+    fn go_on_reading(&mut self, alloc: Global, closed: Told, followed: Followed) -> Outs {
+        let Some(open) = &self.job else {
+            return Outs::nothing(alloc);
+        };
+        let group = open.group();
+        self.take_up(group, None, Some(closed), followed)
     }
 
     /// Handles a reply to the read of the synchronisation, which teaches no view, at this time of the brick's clock.
@@ -263,6 +275,11 @@ impl OpenWork {
     pub(crate) fn counts(&self, call: Call, packet: &Packet) -> bool
         ensures { result ≡ counts_at self.now call.seq packet.now.from packet.now.message }
     {
+        if let Some(open) = &self.job
+            && open.reads(call.seq)
+        {
+            return open.counts(packet.from, &packet.message);
+        }
         if self.calls.is_open(call.seq) {
             self.calls.counts(call.seq, packet.from, &packet.message)
         } else {
@@ -280,6 +297,7 @@ impl OpenWork {
         &mut self,
         alloc: Global,
         layout: &Layout,
+        now: u64,
         packet: &Packet,
         call: Call,
         reply: &Reply,
@@ -294,6 +312,9 @@ impl OpenWork {
         ensures same { IsSameWork layout.now self.old self.new }
     {
         let (seq, from) = (call.seq, packet.from);
+        if self.reads(seq) {
+            return self.hear_moved_read(alloc, layout, now, from, &packet.message, view);
+        }
         if !self.calls.is_open(seq) {
             let heard = self
                 .proposals
@@ -307,14 +328,43 @@ impl OpenWork {
         Ok(Turn::Counted)
     }
 
+    /// The same, of a reply to the read of the synchronisation.
+    fn hear_moved_read(
+        &mut self,
+        alloc: Global,
+        layout: &Layout,
+        now: u64,
+        from: BrickId,
+        message: &Message,
+        view: ViewNo,
+    ) -> Result<Turn, NoMem> {
+        let stamps = self.calls.stamps();
+        let Some(open) = &mut self.job else {
+            unreachable!()
+        };
+        if let Some((closed, followed)) =
+            open.moved(alloc, layout, &self.calls, from, view, now, stamps)?
+        {
+            return Ok(Turn::Follows(closed, followed));
+        }
+        open.count(from, message)?;
+        Ok(Turn::CountedRead)
+    }
+
     /// Takes back what was done already on a reply to the call of this number: nothing has changed then.
     pub(crate) fn take_back(&mut self, seq: u64, turn: &Turn)
         ensures state { (layout : layouts.Layout) (from : BrickId) (call : Call) (reply : Reply) (before : OpenWork) → call.seq ≡ seq
             → IsTurn layout from call reply before turn.now self.old → (kept : KeptParts) → state_in kept self.new ≡ state_in kept before }
         ensures same { (layout : layouts.Layout) → IsSameWork layout self.old self.new }
     {
-        if let Turn::Counted = turn {
-            self.calls.take_back(seq);
+        match turn {
+            Turn::Counted => self.calls.take_back(seq),
+            Turn::CountedRead => {
+                if let Some(open) = &mut self.job {
+                    open.take_back();
+                }
+            }
+            Turn::Ends(_) | Turn::Goes(_) | Turn::Follows(_, _) => {}
         }
     }
 
@@ -332,6 +382,8 @@ impl OpenWork {
             Turn::Counted => Outs::nothing(alloc),
             Turn::Ends(answer) => self.calls.close(alloc, seq, answer),
             Turn::Goes(heard) => self.proposals.go_on(heard),
+            Turn::CountedRead => Outs::nothing(alloc),
+            Turn::Follows(closed, followed) => self.go_on_reading(alloc, closed, followed),
         }
     }
 
