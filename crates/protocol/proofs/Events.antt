@@ -133,23 +133,26 @@ onward P setting all events more = subst P (run-append setting (first_world sett
 
 -- A brick's step keeps a fact that is not of bricks, of what they have held, of choices or of packets, where what it tells and what it answers do.
 pub stepped_each : (P : World → Type 0) (setting : Setting) (me : BrickId) (step : NodeStep)
-    → (made : (x : World) (seq : ℕ) (t : Stamp) (base : Option Stamp) → P x → P (world_told setting x me (Made seq t base)))
-    → (seen : (x : World) (seq : ℕ) (v : Stamp) → P x → P (world_told setting x me (Seen seq v)))
-    → (began : (x : World) (call : Call) → P x → P (world_told setting x me (Began call)))
-    → (closed : (x : World) (seq : ℕ) (cause : Option Cause) → P x → P (world_told setting x me (Closed seq cause)))
+    → (made : (x : World) (seq : ℕ) (t : Stamp) (base : Option Stamp) → P x → P (world_told setting x.nodes x me (Made seq t base)))
+    → (seen : (x : World) (seq : ℕ) (v : Stamp) → P x → P (world_told setting x.nodes x me (Seen seq v)))
+    → (began : (x : World) (nodes : ℕ → Node) (call : Call) → P x → P (world_told setting nodes x me (Began call)))
+    → (closed : (x : World) (seq : ℕ) (cause : Option Cause) → P x → P (world_told setting x.nodes x me (Closed seq cause)))
     → (answers : (x : World) (answered : Answered) → P x → P (world_answered x me answered))
     → (keeps : (x : World) (nodes : ℕ → Node) (held : ℕ → ℕ → ℕ → Stamp → Bool) (packets : List Packet) (choices : Choices) → P x
     → P (record x { nodes = nodes; held = held; packets = packets; choices = choices }))
     → (w : World) → P w → P (world_stepped setting w me step)
 stepped_each P setting me step made seen began closed answers keeps w holds =
-    keeps (world_answers (world_tells setting w me step.told) me step.answers) _ _ _ _ (answer step.answers _ (tell step.told w holds))
+    keeps (world_answers (world_tells setting nodes w me step.told) me step.answers) _ _ _ _ (answer step.answers _ (tell step.told w holds))
   where
-    tell : (told : List Told) (x : World) → P x → P (world_tells setting x me told)
+    nodes : ℕ → Node
+    nodes = put w.nodes me.0 step.node
+
+    tell : (told : List Told) (x : World) → P x → P (world_tells setting nodes x me told)
     tell [] x now = now
-    tell (Made seq t base ∷ more) x now = tell more (world_told setting x me (Made seq t base)) (made x seq t base now)
-    tell (Seen seq v ∷ more) x now = tell more (world_told setting x me (Seen seq v)) (seen x seq v now)
-    tell (Began call ∷ more) x now = tell more (world_told setting x me (Began call)) (began x call now)
-    tell (Closed seq cause ∷ more) x now = tell more (world_told setting x me (Closed seq cause)) (closed x seq cause now)
+    tell (Made seq t base ∷ more) x now = tell more (world_told setting nodes x me (Made seq t base)) (made x seq t base now)
+    tell (Seen seq v ∷ more) x now = tell more (world_told setting nodes x me (Seen seq v)) (seen x seq v now)
+    tell (Began call ∷ more) x now = tell more (world_told setting nodes x me (Began call)) (began x nodes call now)
+    tell (Closed seq cause ∷ more) x now = tell more (world_told setting nodes x me (Closed seq cause)) (closed x seq cause now)
 
     answer : (list : List Answered) (x : World) → P x → P (world_answers x me list)
     answer [] x now = now

@@ -244,9 +244,9 @@ with_votes votes i node = put votes i (λ group view ballot. vote_with (votes i 
 abbrev pub number_of : World → ℕ → ℕ → ℕ
 number_of w i seq = w.numbers i (w.nodes i).boot seq
 
--- a read of a brick's synchronisation, which has this call, as it begins: an operation without marks
-abbrev pub read_of_call : World → BrickId → Call → Operation
-read_of_call w brick call =
+-- a read of a brick's synchronisation, which has this call, as it begins, the bricks being these: an operation without marks
+abbrev pub read_of_call : (ℕ → Node) → World → BrickId → Call → Operation
+read_of_call nodes w brick call =
     record {
       brick = brick;
       boot = call.boot;
@@ -260,7 +260,7 @@ read_of_call w brick call =
       mark = 0;
       closed = None;
       view = call.view.0;
-      floor = λ i. top_at (w.nodes i) call.group.0 call.stripe.0;
+      floor = λ i. top_at (nodes i) call.group.0 call.stripe.0;
     }
 
 -- the numbers of calls, with that of this call of brick i
@@ -272,28 +272,28 @@ abbrev pub with_closed : Option Cause → Option Operation → Option Operation
 with_closed cause None = None
 with_closed cause (Some o) = Some (record o { closed = Some cause; answered = not (is_some cause) })
 
--- the world once a brick told this of an operation
-abbrev pub world_told : Setting → World → BrickId → Told → World
-world_told setting w brick (Made seq t base) =
+-- The world once a brick told this of an operation, in a step that leaves these bricks: a read that begins in a step begins after all else in it.
+abbrev pub world_told : Setting → (ℕ → Node) → World → BrickId → Told → World
+world_told setting nodes w brick (Made seq t base) =
     record w {
       operations = put w.operations (number_of w brick.0 seq) (with_made t base (w.operations (number_of w brick.0 seq)));
       contents = with_content setting.layout.block w.contents t base (w.operations (number_of w brick.0 seq));
     }
-world_told setting w brick (Seen seq v) =
+world_told setting nodes w brick (Seen seq v) =
     record w { operations = put w.operations (number_of w brick.0 seq) (with_seen v (w.operations (number_of w brick.0 seq))) }
-world_told setting w brick (Began call) =
+world_told setting nodes w brick (Began call) =
     record w {
       begun = w.begun + 1;
-      operations = put w.operations (w.begun + 1) (Some (read_of_call w brick call));
+      operations = put w.operations (w.begun + 1) (Some (read_of_call nodes w brick call));
       numbers = with_call_number w.numbers brick.0 call (w.begun + 1);
     }
-world_told setting w brick (Closed seq cause) =
+world_told setting nodes w brick (Closed seq cause) =
     record w { operations = put w.operations (number_of w brick.0 seq) (with_closed cause (w.operations (number_of w brick.0 seq))) }
 
 -- the same of several, in order
-abbrev pub world_tells : Setting → World → BrickId → List Told → World
-world_tells setting w brick [] = w
-world_tells setting w brick (told ∷ more) = world_tells setting (world_told setting w brick told) brick more
+abbrev pub world_tells : Setting → (ℕ → Node) → World → BrickId → List Told → World
+world_tells setting nodes w brick [] = w
+world_tells setting nodes w brick (told ∷ more) = world_tells setting nodes (world_told setting nodes w brick told) brick more
 
 -- the number of the marks of operation n
 abbrev pub own_mark : ℕ → Option Operation → ℕ
@@ -330,7 +330,7 @@ choices_after choices brick node reports =
 -- the world after a brick's step
 abbrev pub world_stepped : Setting → World → BrickId → NodeStep → World
 world_stepped setting w brick step =
-    (let told : World = world_answers (world_tells setting w brick step.told) brick step.answers in
+    (let told : World = world_answers (world_tells setting (put w.nodes brick.0 step.node) w brick step.told) brick step.answers in
     record told {
       nodes = put w.nodes brick.0 step.node;
       held = with_held w.held brick.0 step.node;
