@@ -90,7 +90,7 @@ pieces_same : (v : Stamp) (g h : Seated → Option Version) (xs : List Seated) �
 pieces_same v g h [] same = refl
 pieces_same v g h (x ∷ xs) same =
     ap (λ (z : Option Version). pieces_of (cond (finds v (told_old z)) (told_old z ∷ old_rest) old_rest)) same.0
-    ∙ either (finds v (counted_of (finding h) x))
+    ∙ either (finds v (counted_of (finding h) x)) (pieces_same v g h xs same.1)
   where
     told_old : Option Version → Counted
     told_old z = record { seat = x.seat; brick = x.brick; reply = Old z }
@@ -101,13 +101,14 @@ pieces_same v g h (x ∷ xs) same =
     own_rest : List Counted
     own_rest = filter (finds v) (map (counted_of (finding h)) xs)
 
-    either : (b : Bool) → pieces_of (cond b (told_old (h x) ∷ old_rest) old_rest) ≡ pieces_of (cond b (counted_of (finding h) x ∷ own_rest) own_rest)
-    either true = ap (λ (l : List Piece). (let one : Piece = record { seat = x.seat; bytes = bytes (h x) } in one) ∷ l) (pieces_same v g h xs same.1)
+    either : (b : Bool) → pieces_of old_rest ≡ pieces_of own_rest
+        → pieces_of (cond b (told_old (h x) ∷ old_rest) old_rest) ≡ pieces_of (cond b (counted_of (finding h) x ∷ own_rest) own_rest)
+    either true rest = ap (λ (l : List Piece). (let one : Piece = record { seat = x.seat; bytes = bytes (h x) } in one) ∷ l) rest
       where
         bytes : Option Version → List ℕ
         bytes None = []
         bytes (Some version) = version.block
-    either false = pieces_same v g h xs same.1
+    either false rest = rest
 
 -- a version that is wanted whole is told so
 told_whole : (z : Option Version) → z ≡ told_version true z

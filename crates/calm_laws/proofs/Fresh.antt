@@ -1,6 +1,5 @@
 -- An operation of which no message was delivered is as it began: its coordinator is in its first phase, with no reply that counts, and its packets are
 -- that phase's, once for its beginning and once more for each tick since.
-use Rattle.protocol_laws.proofs.BooksEvents.{books}
 use Rattle.std.proofs.Common.{◌≡◌, ◌≢◌, ℕ, zero, suc, ◌≤◌, ◌<◌, Bool, true, false, ◌&&◌, List, [], ◌∷◌, ◌++◌, length, Option, Some, None, refl, sym, ap, ◌∙◌, ◌+◌, ⊎_elim, arith}
 use Rattle.std.specs.Prelude.{slice_get, nat_eq, filter, if◌then◌else◌}
 use Rattle.std.proofs.lemmas.Bool.{cond_both, cond-true, cond-false, eq-eqb, eqb-true, ne_eqb, and_parts, cases_lt, false≢true, and_from}

@@ -28,6 +28,8 @@ pub record KnownCall (setting : Setting) (w : World) (n : ℕ) (o : Operation) (
   pub brick : is_brick setting.layout o.brick ≡ true
   pub ask : c.ask ≡ o.ask
   pub number : w.numbers o.brick.0 o.boot o.seq ≡ n
+  pub begun : n ≤ w.begun
+  pub called : o.seq ≤ (w.nodes o.brick.0).seq
   pub boot : c.call.boot ≡ o.boot
   pub seq : c.call.seq ≡ o.seq
   pub of_group : c.call.group ≡ c.ask.group
