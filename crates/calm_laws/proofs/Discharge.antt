@@ -49,7 +49,9 @@ use Rattle.protocol_laws.proofs.Logs.{IsKept, IsUnder, held_stands, nothing_kept
 use Rattle.protocol_laws.proofs.Said.{Stamping, Said, Stands, WasCollected, IsMadeOrFirst, IsStamped, IsBottom, SyncedSays}
 use Rattle.protocol_laws.proofs.SaidAlways.{always_said}
 use Rattle.protocol_laws.proofs.OwnStamps.{not_made_yet}
-use Rattle.calm_laws.specs.Laws.{EncodesBlocks, CalmOperationsEnd, AsksNoPrior, most_records}
+use Rattle.calm_laws.specs.Laws.{EncodesBlocks, CalmOperationsEnd, HasStripe, most_records}
+use Rattle.calm_laws.specs.Logs.{is_stripe}
+use Rattle.protocol.specs.Happenings.{is_marked}
 use Rattle.calm_laws.proofs.Known.{Known, KnownCall, KnownMessages, KnownLogs, repeated, KeepsFrom, StandsIn, KnownFloor, KnownBack}
 use Rattle.calm_laws.proofs.Fresh.{IsFresh, IsNumbered, IsOpenAt, opens_at}
 use Rattle.calm_laws.proofs.FreshRuns.{always_fresh}
@@ -57,6 +59,7 @@ use Rattle.calm_laws.proofs.Lives.{CountsLives, always_count, log_within}
 
 module _ (setting : Setting) (sound : IsSound setting) (encodes : EncodesBlocks setting) (small : setting.layout.records ≤ most_records) (w : World)
     (stamps : Stamping) (books : Books setting w) (said : Said setting (views_in setting.layout w.packets) w stamps) (n : ℕ) (o : Operation) (c : Coordinator) (is : IsOperation w n o)
+    (has_stripe : HasStripe setting o)
     (at : IsOpenAt w n c) (in_views : StampViews setting.layout w) (follows : Follows setting.layout (views_in setting.layout w.packets) w)
     (fresh : IsFresh setting w n c) (numbered : IsNumbered w) (counts : (i : ℕ) → CountsLives setting.layout (w.nodes i))
     (bricks : List BrickId) (synced : IsSaidSynced w c.call.group.0 c.stamp.view.0 ⊎ ((may_ask_prior w c bricks ≡ true) × IsSaidSynced w c.call.group.0 (c.stamp.view.0 - 1))) where
@@ -131,11 +134,21 @@ module _ (setting : Setting) (sound : IsSound setting) (encodes : EncodesBlocks 
   same_stripes : its_books.group.stripes ≡ c.group.stripes
   same_stripes = ap (λ (z : Group). z.stripes) group_same ∙ ap (λ (z : Group). z.stripes) (sym layout_group.2)
 
+  -- its stripe is one of the group's
+  asked_within : o.ask.stripe.0 < its_books.group.stripes
+  asked_within = ⊎_elim
+      (λ (marked : is_marked o ≡ true). its_books.stripe (ltb-true 0 o.mark marked))
+      (λ (there : is_stripe (group_of setting.layout o.ask.group.0) o.ask.stripe.0 ≡ true).
+      ltb-true o.ask.stripe.0 its_books.group.stripes (ap (λ (z : Option Group). is_stripe z o.ask.stripe.0) (sym its_books.group_is) ∙ there))
+      has_stripe
+
   known_call : KnownCall setting w n o c
   known_call = record {
     brick = subst (λ (b : BrickId). is_brick setting.layout b ≡ true) (its.stamp_brick ∙ ap (λ (z : Operation). z.brick) the_operation) fresh.there;
     ask = ask;
     number = its_books.number;
+    begun = its_books.begun;
+    called = its_books.called.1 (sym boot);
     boot = its.call_boot ∙ boot;
     seq = its.call_seq;
     of_group = its.call_group;
@@ -148,7 +161,7 @@ module _ (setting : Setting) (sound : IsSound setting) (encodes : EncodesBlocks 
     groups = λ i same.
         ap (λ (members : List BrickId). group_kept setting.layout members c.call.group.0) (follows.learnt i c.call.group.0)
         ∙ group_at_view (view_at (w.nodes i) c.call.group.0) same;
-    within = subst (λ (a : Ask). a.stripe.0 < c.group.stripes) (sym ask) (subst (λ (k : ℕ). o.ask.stripe.0 < k) same_stripes its_books.stripe);
+    within = subst (λ (a : Ask). a.stripe.0 < c.group.stripes) (sym ask) (subst (λ (k : ℕ). o.ask.stripe.0 < k) same_stripes asked_within);
     block_fits =
         subst (λ (a : Ask). has_block c.group.m a.op ≡ true) (sym ask)
         (subst (λ (k : ℕ). has_block k o.ask.op ≡ true) same_m its_books.block_fits);
@@ -179,7 +192,7 @@ module _ (setting : Setting) (sound : IsSound setting) (encodes : EncodesBlocks 
   stripe_within =
       subst (λ s. s.0 < base.stripes) (sym its.call_stripe)
       (subst (λ (a : Ask). a.stripe.0 < base.stripes) (sym ask)
-      (subst (λ (z : Group). o.ask.stripe.0 < z.stripes) group_same its_books.stripe))
+      (subst (λ (z : Group). o.ask.stripe.0 < z.stripes) group_same asked_within))
 
   abbrev g : ℕ
   g = c.call.group.0
@@ -402,20 +415,20 @@ said_synced setting events n bricks sound calm from_one = by (nat_lt 1 c.stamp.v
 -- what is known of an operation that may run alone
 pub known_of : (setting : Setting) (events : List Event) (n : ℕ) (bricks : List BrickId) → IsSound setting → EncodesBlocks setting
     → setting.layout.records ≤ most_records → (calm : IsCalm setting (run setting events (first_world setting.layout)) n bricks)
-    → Known setting (run setting events (first_world setting.layout)) n calm.operation calm.coordinator bricks
-known_of setting events n bricks sound encodes small calm =
+    → HasStripe setting calm.operation → Known setting (run setting events (first_world setting.layout)) n calm.operation calm.coordinator bricks
+known_of setting events n bricks sound encodes small calm has_stripe =
     let w : World = run setting events (first_world setting.layout) in
     let said = always_said setting (views_in setting.layout w.packets) events sound (every_run_follows setting events sound) in
     let always = always_fresh setting events in
     let at : IsOpenAt w n calm.coordinator = opens_at w n calm.coordinator calm.open_is in
     let fresh : IsFresh setting w n calm.coordinator = always.1 n calm.coordinator calm.open_is calm.untouched in
-    known setting sound encodes small w said.0 (books setting events) said.1 n calm.operation calm.coordinator calm.is at (always_views setting events)
+    known setting sound encodes small w said.0 (books setting events) said.1 n calm.operation calm.coordinator calm.is has_stripe at (always_views setting events)
     (every_run_follows setting events sound events [] (sym (append-nil events))) fresh always.0 (always_count setting events) bricks
     (said_synced setting events n bricks sound calm
     (view_from_one setting w said.0 (books setting events) said.1 n calm.operation calm.coordinator calm.is at))
 
 -- so it ends
 pub calm_ends : CalmOperationsEnd
-calm_ends setting events n bricks sound encodes small calm =
+calm_ends setting events n bricks sound encodes small calm has_stripe =
     ends_alone setting sound encodes (run setting events (first_world setting.layout)) n bricks calm
-    (known_of setting events n bricks sound encodes small calm)
+    (known_of setting events n bricks sound encodes small calm has_stripe)
