@@ -17,7 +17,7 @@ use Rattle.protocol_laws.proofs.StampViews.{StampViews, PartIsOf, always_views}
 use Rattle.protocol.specs.Views.{Views, Learnt, first_kept, group_in, views_in, group_kept, kept_by}
 use Rattle.view_laws.proofs.Followed.{every_run_follows}
 use Rattle.fab_base.proofs.StampOrder.{stamp_neither_below, stamp_below_first}
-use Rattle.protocol.specs.Calms.{IsCalm, knows_synced, may_ask_prior}
+use Rattle.protocol.specs.Calms.{IsCalm, has_mark, knows_synced, may_ask_prior, number_marked, operation_marked}
 use Rattle.protocol.specs.declared.phases.Phase.{Phase}
 use Rattle.fab_base.specs.declared.asks.Op.{Op}
 use Rattle.calm_laws.proofs.Calmness.{ends_alone}
@@ -432,3 +432,24 @@ pub calm_ends : CalmOperationsEnd
 calm_ends setting events n bricks sound encodes small calm has_stripe =
     ends_alone setting sound encodes (run setting events (first_world setting.layout)) n bricks calm
     (known_of setting events n bricks sound encodes small calm has_stripe)
+
+-- an operation that marks of a number are of has marks
+is_of_mark : (operations : ℕ → Option Operation) (mark k : ℕ) (o : Operation) → operations 0 ≡ None → operations (number_marked operations mark k) ≡ Some o
+    → is_marked o ≡ true
+is_of_mark operations mark zero o none is = absurd (let never : None ≡ Some o = sym none ∙ is in cc)
+is_of_mark operations mark (suc k) o none is =
+    cond_both (has_mark mark (operations (suc k))) (suc k) (number_marked operations mark k) (λ (m : ℕ). operations m ≡ Some o → is_marked o ≡ true)
+    (λ has its. (and_parts (is_marked o) (nat_eq o.mark mark) (ap (λ (z : Option Operation). has_mark mark z) (sym its) ∙ has)).0)
+    (λ hasnt its. is_of_mark operations mark k o none its) is
+
+-- so its stripe is one of its group's
+pub marked_has_stripe : (setting : Setting) (events : List Event) (mark : ℕ) (o : Operation)
+    → (let w : World = run setting events (first_world setting.layout) in w.operations (operation_marked w mark) ≡ Some o) → HasStripe setting o
+marked_has_stripe setting events mark o is = inl (is_of_mark w.operations mark w.begun o (at (w.operations 0) refl) is)
+  where
+    w : World
+    w = run setting events (first_world setting.layout)
+
+    at : (z : Option Operation) → w.operations 0 ≡ z → w.operations 0 ≡ None
+    at None none = none
+    at (Some p) some = absurd (let from = ((books setting events).operations 0 p some).from_one in omega (arith, from))
