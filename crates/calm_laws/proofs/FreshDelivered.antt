@@ -345,7 +345,7 @@ module _ (setting : Setting) (w : World) (books : Books setting w) (calls : Call
       stepped_numbered packet.to step key.0 key.1 key.2 is key_made own (replies_with setting w packet) (voiced setting w packet) (put w.reached number true)
           (λ k. put_before w.reached number k) beyond,
       (λ n c opens untouched.
-      stepped_fresh packet.to step key.0 key.1 key.2 is key_made own (replies_with setting w packet) (voiced setting w packet) (put w.reached number true)
+          stepped_fresh packet.to step key.0 key.1 key.2 is key_made own (replies_with setting w packet) (voiced setting w packet) (put w.reached number true)
           (λ k. put_before w.reached number k) beyond n
           (apart step (is.numbers (replies_with setting w packet) (voiced setting w packet) (put w.reached number true)) n untouched) c opens untouched),
     )
@@ -454,9 +454,9 @@ module _ (setting : Setting) (w : World) (books : Books setting w) (calls : Call
     quiet_kept step is operations own = (
       stepped_numbered brick step 0 0 0 is none_made own w.replies w.choices w.reached (λ k unreached. unreached) numbered.reached,
       (λ n c opens untouched.
-      let at : IsOpenAt (world_stepped setting w brick step) n c = opens_at (world_stepped setting w brick step) n c opens in
-      let some : 1 ≤ n = (books.operations n at.operation (ap (λ f. f n) (sym operations) ∙ at.operation_is)).from_one in
-      stepped_fresh brick step 0 0 0 is none_made own w.replies w.choices w.reached (λ k unreached. unreached) numbered.reached n
+          let at : IsOpenAt (world_stepped setting w brick step) n c = opens_at (world_stepped setting w brick step) n c opens in
+          let some : 1 ≤ n = (books.operations n at.operation (ap (λ f. f n) (sym operations) ∙ at.operation_is)).from_one in
+          stepped_fresh brick step 0 0 0 is none_made own w.replies w.choices w.reached (λ k unreached. unreached) numbered.reached n
           (λ same. let none = none_numbered in omega (arith, some, same, none)) c opens untouched),
     )
 
