@@ -290,7 +290,7 @@ module _ (setting : Setting) (sound : IsSound setting) (encodes : EncodesBlocks 
     -- it has a floor, where it is said to be synced
     floor_at : IsSaidSynced w g f → KnownFloor w g st f group
     floor_at is =
-        let some = synced_stands setting views sound w stamps books said g f st base layout_group.1 stripe_within is in
+        let some = synced_stands setting views sound w stamps books said g f st base layout_group.1 (inr stripe_within) is in
         floor_in some.0 (stands_in some.0 some.1 some.2)
 
   -- what a recovery comes to at the latest
