@@ -13,7 +13,7 @@ use Rattle.calm_laws.proofs.Finds.{finding, total_below}
 use Rattle.calm_laws.proofs.Hearing.{IsStale, known_through, stale_pass}
 use Rattle.calm_laws.proofs.Ordering.{TameWith, told_below}
 use Rattle.calm_laws.proofs.PhaseRuns.{Cast, known_then, next_open_from, none_new, stale_then}
-use Rattle.calm_laws.proofs.Scenes.{AreApart, AsksBack, Closes, Each, IsBack, IsInView, IsSeatedBack, Part, Scene, Seated, Stage, asking, asks_before, found_back, made, of_same, replying, sends, sent, with_queue}
+use Rattle.calm_laws.proofs.Scenes.{AreApart, AsksBack, Closes, Each, IsBack, IsSeatedBack, Scene, Seated, Stage, asking, asks_before, found_back, made, of_same, replying, sends, sent, with_queue}
 use Rattle.calm_laws.proofs.StorePhases.{each_so, store_phase}
 use Rattle.fab_base.specs.Layouts.{seat_in, Group}
 use Rattle.fab_base.specs.Stamps.{first_stamp, stamp_below, stamp_same}
@@ -21,7 +21,7 @@ use Rattle.fab_base.specs.declared.identities.ViewNo.{ViewNo}
 use Rattle.fab_base.specs.declared.stamps.Stamp.{Stamp}
 use Rattle.messages.specs.declared.packets.Packet.{Packet}
 use Rattle.messages.specs.declared.replies.Reply.{Reply}
-use Rattle.messages.specs.declared.replies.Reply.TheVariants.{Old, OrderedRead}
+use Rattle.messages.specs.declared.replies.Reply.TheVariants.{Old}
 use Rattle.messages.specs.declared.requests.Version.{Version}
 use Rattle.messages.specs.declared.requests.Want.{Want}
 use Rattle.protocol.specs.Coordinators.{Coordinator, Makes, Next, Sends, answers_phase, finds, greater_stamp, greatest_found, in_phase, may_be_found, old_bound, pieces_at, pieces_of, read_back, restoring, told_stamp, lower_phase}
@@ -30,7 +30,7 @@ use Rattle.protocol.specs.Settings.{Piece}
 use Rattle.protocol.specs.Views.{floor_of, view_told}
 use Rattle.protocol.specs.declared.phases.Counted.{Counted}
 use Rattle.protocol.specs.declared.phases.Phase.{Phase}
-use Rattle.protocol.specs.declared.phases.Phase.TheVariants.{LooksBack, Stores}
+use Rattle.protocol.specs.declared.phases.Phase.TheVariants.{LooksBack}
 use Rattle.protocol_laws.proofs.Logs.{LogAscends}
 use Rattle.quorum.specs.Quorums.{quorum_of}
 use Rattle.reg_model.specs.Registers.{after_op}

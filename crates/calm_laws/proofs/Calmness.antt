@@ -34,11 +34,10 @@ use Rattle.calm_laws.proofs.StorePhases.{each_so}
 use Rattle.calm_laws.specs.Laws.{EncodesBlocks, EndsAlone, IsOver, most_records}
 use Rattle.fab_base.proofs.Seats.{brick_at_seat, seat_of_member, seat_within}
 use Rattle.fab_base.specs.Layouts.{Group, brick_at, seat_in}
-use Rattle.fab_base.specs.Stamps.{first_stamp, stamp_below}
+use Rattle.fab_base.specs.Stamps.{stamp_below}
 use Rattle.fab_base.specs.declared.asks.Op.{Op}
 use Rattle.fab_base.specs.declared.asks.Op.TheVariants.{ReadBlock, ReadStripe, WriteBlock, WriteStripe}
 use Rattle.fab_base.specs.declared.identities.BrickId.{BrickId}
-use Rattle.fab_base.specs.declared.identities.GroupId.{GroupId}
 use Rattle.fab_base.specs.declared.identities.StripeNo.{StripeNo}
 use Rattle.fab_base.specs.declared.stamps.Stamp.{Stamp}
 use Rattle.messages.specs.declared.packets.Packet.{Packet}
@@ -46,12 +45,11 @@ use Rattle.messages.specs.declared.requests.Version.{Version}
 use Rattle.messages.specs.declared.requests.Want.{Want}
 use Rattle.protocol.specs.Calms.{IsCalm, IsReady, early, goes_among, is_one_of, may_ask_prior, knows_synced}
 use Rattle.protocol.specs.Coordinators.{Coordinator, block_written, asked_group, looks_back}
-use Rattle.protocol.specs.Nodes.{first_phase, group_at, has_block, has_length, phase_packets, replica_at, view_at}
+use Rattle.protocol.specs.Nodes.{first_phase, has_block, has_length, phase_packets, replica_at, view_at}
 use Rattle.protocol.specs.Replicas.{Replica, below, is_held, newest_of, top_of}
 use Rattle.protocol.specs.Settings.{IsSound, Setting, are_bytes}
 use Rattle.protocol.specs.Worlds.{Operation, World}
-use Rattle.quorum.proofs.Counts.{count_full}
-use Rattle.quorum.specs.Quorums.{IsWithinLimits, count, quorum_of}
+use Rattle.quorum.specs.Quorums.{IsWithinLimits, quorum_of}
 
 -- a part whose times are early has come to an early one
 top_early : (b : ℕ) (replica : Replica) → replica.order.time ≤ b

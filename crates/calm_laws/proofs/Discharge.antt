@@ -5,37 +5,34 @@ use Rattle.calm_laws.proofs.Beginnings.{OpenFacts, open_facts}
 use Rattle.std.proofs.lemmas.List.{append-nil}
 use Rattle.std.specs.List.{list_any}
 use Rattle.view_laws.proofs.SyncedViews.{syncs_are_said}
-use Rattle.view_laws.specs.Syncs.{SyncedWasSent, IsSaidSynced}
+use Rattle.view_laws.specs.Syncs.{IsSaidSynced}
 use Rattle.view_laws.specs.Following.{Follows}
-use Rattle.quorum.proofs.Counts.{count_full}
 use Rattle.view_laws.proofs.Histories.{kept_is}
 use Rattle.fab_base.specs.declared.identities.ViewNo.{ViewNo}
 use Rattle.calm_laws.proofs.Scenes.{first_ahead, view_ahead}
 use Rattle.protocol_laws.specs.Laws.{part_in}
 use Rattle.protocol_laws.proofs.Reactions.{top_is, top_is_order}
 use Rattle.protocol_laws.proofs.StampViews.{StampViews, PartIsOf, always_views}
-use Rattle.protocol.specs.Views.{Views, Learnt, first_kept, group_in, views_in, group_kept, kept_by}
+use Rattle.protocol.specs.Views.{Views, first_kept, group_in, views_in, group_kept, kept_by}
 use Rattle.view_laws.proofs.Followed.{every_run_follows}
-use Rattle.fab_base.proofs.StampOrder.{stamp_neither_below, stamp_below_first}
 use Rattle.protocol.specs.Calms.{IsCalm, has_mark, knows_synced, may_ask_prior, number_marked, operation_marked}
 use Rattle.protocol.specs.declared.phases.Phase.{Phase}
 use Rattle.fab_base.specs.declared.asks.Op.{Op}
 use Rattle.calm_laws.proofs.Calmness.{ends_alone}
 use Rattle.protocol.specs.Views.{view_of}
 use Rattle.std.proofs.Common.{◌≡◌, ◌≢◌, ℕ, suc, ◌+◌, ◌≤◌, ◌<◌, ◌⊎◌, inl, inr, true, false, List, [], ◌∷◌, length, Some, refl, sym, ap, ◌∙◌, subst, ⊎_elim, arith, Option, None, Bool, not, ◌-◌, ltb-false, nat_lt, ◌&&◌}
-use Rattle.std.specs.Prelude.{if◌then◌else◌, max, nat_eq, slice_get, zero}
-use Rattle.std.proofs.lemmas.Bool.{cases_Bool, cases_eq, cond_both, cond-true, eq-eqb, eqb-true, false≢true, or_cases, cases_lt, and_parts, ltb-true}
+use Rattle.std.specs.Prelude.{nat_eq, slice_get, zero}
+use Rattle.std.proofs.lemmas.Bool.{cases_Bool, cond_both, cond-true, eq-eqb, eqb-true, false≢true, or_cases, cases_lt, and_parts, ltb-true}
 use Rattle.std.proofs.lemmas.Option.{same_Some}
 use Rattle.fab_base.specs.declared.identities.BrickId.{BrickId}
 use Rattle.fab_base.specs.declared.asks.Ask.{Ask}
 use Rattle.fab_base.specs.declared.stamps.Stamp.{Stamp}
 use Rattle.fab_base.specs.Stamps.{stamp_below, first_stamp}
-use Rattle.fab_base.specs.Layouts.{Group, group_of, brick_at}
+use Rattle.fab_base.specs.Layouts.{Group, group_of}
 use Rattle.messages.specs.declared.requests.Version.{Version}
 use Rattle.messages.specs.declared.packets.Message.TheVariants as Message
 use Rattle.messages.specs.declared.requests.Request.TheVariants as Request
 use Rattle.fab_base.specs.declared.asks.Op.TheVariants.{ReadBlock, WriteBlock, ReadStripe, WriteStripe}
-use Rattle.quorum.specs.Quorums.{count, quorum_of}
 use Rattle.protocol.specs.Settings.{Setting, IsSound}
 use Rattle.protocol.specs.Replicas.{Replica, is_held, top_of, newest_of, first_replica, fresh_replica}
 use Rattle.protocol.specs.Coordinators.{Coordinator, looks_back}
@@ -44,9 +41,8 @@ use Rattle.protocol.specs.Worlds.{World, Operation, first_world, number_of, run,
 use Rattle.protocol_laws.proofs.Books.{Books, CallBooks, OperationBooks, IsOperation, MadeInPhase}
 use Rattle.protocol_laws.proofs.BooksEvents.{books}
 use Rattle.protocol_laws.proofs.Blocking.{was_kept}
-use Rattle.protocol_laws.proofs.FirstViews.{first_group, group_first, others_empty}
-use Rattle.protocol_laws.proofs.Logs.{IsKept, IsUnder, held_stands, nothing_kept, LogAscends, newest_stands}
-use Rattle.protocol_laws.proofs.Said.{Stamping, Said, Stands, WasCollected, IsMadeOrFirst, IsStamped, IsBottom, SyncedSays}
+use Rattle.protocol_laws.proofs.Logs.{IsUnder, held_stands, newest_stands}
+use Rattle.protocol_laws.proofs.Said.{Stamping, Said, Stands, WasCollected, IsMadeOrFirst, IsStamped, IsBottom}
 use Rattle.protocol_laws.proofs.SaidAlways.{always_said}
 use Rattle.protocol_laws.proofs.OwnStamps.{not_made_yet}
 use Rattle.calm_laws.specs.Laws.{EncodesBlocks, CalmOperationsEnd, HasStripe, most_records}

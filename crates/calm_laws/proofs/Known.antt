@@ -7,7 +7,7 @@ use Rattle.std.specs.Prelude.{filter, nat_eq, slice_get, map, ◌-◌}
 use Rattle.protocol_laws.proofs.Logs.{LogAscends}
 use Rattle.calm_laws.specs.Laws.{most_records}
 use Rattle.fab_base.specs.Layouts.{brick_at, group_of, seat_in, Group}
-use Rattle.fab_base.specs.Stamps.{first_stamp, stamp_below}
+use Rattle.fab_base.specs.Stamps.{stamp_below}
 use Rattle.fab_base.specs.declared.stamps.Stamp.{Stamp}
 use Rattle.messages.specs.declared.requests.Version.{Version}
 use Rattle.protocol.specs.Calms.{operation_of, may_ask_prior}

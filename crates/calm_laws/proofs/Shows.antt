@@ -14,7 +14,6 @@ use Rattle.fab_base.specs.declared.identities.BrickId.{BrickId}
 use Rattle.messages.specs.declared.calls.Call.{Call}
 use Rattle.messages.specs.declared.packets.Packet.{Packet}
 use Rattle.protocol.specs.Calms.{goes_among, is_left, is_one_of, open_at}
-use Rattle.protocol.specs.Coordinators.{Coordinator}
 use Rattle.protocol.specs.Nodes.{Node, NodeStep, group_at, put, received, replica_at, view_at, has_accepted}
 use Rattle.protocol.specs.Views.{Learnt, group_kept}
 use Rattle.protocol.specs.Worlds.{Delivers, Operation, World, delivered, happens, is_up, packet_of, replies_with, voiced, world_stepped}

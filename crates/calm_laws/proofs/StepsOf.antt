@@ -1,7 +1,7 @@
 -- A brick's step on a message concerns the operation of that message alone: its packets, its coordinator, and what is told of it. Its other packets are of views
 -- alone.
 use Rattle.view_laws.proofs.Syncing.{synced_each}
-use Rattle.std.proofs.Common.{◌≡◌, ◌≢◌, ℕ, zero, suc, ◌+◌, List, [], ◌∷◌, Option, Some, None, refl, sym, ap, ◌∙◌, ◌⊎◌, inl, inr, subst, Bool, true, ◌≤◌, ◌++◌, arith, not}
+use Rattle.std.proofs.Common.{◌≡◌, ◌≢◌, ℕ, zero, suc, ◌+◌, List, [], ◌∷◌, Option, Some, None, refl, sym, ap, ◌∙◌, ◌⊎◌, inl, inr, subst, Bool, true, ◌≤◌, arith, not}
 use Rattle.std.specs.Prelude.{slice_get, is_some}
 use Rattle.std.proofs.Math.Nat.{le-max_left}
 use Rattle.fab_base.specs.declared.answers.Answer.{Answer}
