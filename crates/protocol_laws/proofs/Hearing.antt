@@ -12,14 +12,14 @@ use Rattle.messages.specs.declared.replies.Reply.{Reply}
 use Rattle.synod_laws.specs.Synods.{Kept, last_of, ballot_same}
 use Rattle.protocol.specs.Settings.{Setting}
 use Rattle.protocol.specs.declared.tellings.Told.{Told}
-use Rattle.protocol.specs.declared.tellings.Told.TheVariants.{Made, Seen}
+use Rattle.protocol.specs.declared.tellings.Told.TheVariants.{Made, Seen, Began, Closed}
 use Rattle.protocol.specs.declared.tellings.Answered.{Answered}
 use Rattle.protocol.specs.declared.tellings.Report.{Report}
 use Rattle.protocol.specs.Views.{Learnt, view_of}
 use Rattle.protocol.specs.Replicas.{Replica, is_held}
 use Rattle.protocol.specs.Coordinators.{Coordinator}
 use Rattle.protocol.specs.Nodes.{Node, NodeStep, put, no_step, with_known, with_round, known_after, node_taught_by, view_counted, replied_at, replied, lists_fit, heard}
-use Rattle.protocol.specs.Worlds.{World, Choices, with_made, with_seen, with_content, with_answer, mark_of, with_held, vote_with, accepted_in, with_votes, reports_of, choices_after, world_told, world_tells, world_answered, world_answers, world_stepped}
+use Rattle.protocol.specs.Worlds.{World, Choices, with_made, with_seen, with_content, with_answer, with_closed, mark_of, with_held, vote_with, accepted_in, with_votes, reports_of, choices_after, world_told, world_tells, world_answered, world_answers, world_stepped}
 use Rattle.protocol.proofs.Tables.{put_same, put_twice}
 use Rattle.protocol_laws.proofs.Left.{told_same}
 use Rattle.protocol_laws.proofs.Tops.{KeepsPlaces}
@@ -85,9 +85,9 @@ beside w nodes held choices = record w { nodes = nodes; held = held; choices = c
 
 -- what a step tells and answers leaves these aside, where the brick has the boot that it had
 module _ (setting : Setting) (me : BrickId) (nodes : ℕ → Node) (held : ℕ → ℕ → ℕ → Stamp → Bool) (choices : Choices) where
-  told_beside : (w : World) (told : Told) → (nodes me.0).boot ≡ (w.nodes me.0).boot
-      → world_told setting (beside w nodes held choices) me told ≡ beside (world_told setting w me told) nodes held choices
-  told_beside w (Made seq t base) same =
+  told_beside : (after : ℕ → Node) (w : World) (told : Told) → (nodes me.0).boot ≡ (w.nodes me.0).boot
+      → world_told setting after (beside w nodes held choices) me told ≡ beside (world_told setting after w me told) nodes held choices
+  told_beside after w (Made seq t base) same =
       ap (λ (b : ℕ). record w {
         nodes = nodes;
         held = held;
@@ -95,24 +95,34 @@ module _ (setting : Setting) (me : BrickId) (nodes : ℕ → Node) (held : ℕ �
         operations = put w.operations (w.numbers me.0 b seq) (with_made t base (w.operations (w.numbers me.0 b seq)));
         contents = with_content setting.layout.block w.contents t base (w.operations (w.numbers me.0 b seq));
       }) same
-  told_beside w (Seen seq v) same =
+  told_beside after w (Seen seq v) same =
       ap (λ (b : ℕ). record w {
         nodes = nodes;
         held = held;
         choices = choices;
         operations = put w.operations (w.numbers me.0 b seq) (with_seen v (w.operations (w.numbers me.0 b seq)));
       }) same
+  told_beside after w (Began call) same = refl
+  told_beside after w (Closed seq cause) same =
+      ap (λ (b : ℕ). record w {
+        nodes = nodes;
+        held = held;
+        choices = choices;
+        operations = put w.operations (w.numbers me.0 b seq) (with_closed cause (w.operations (w.numbers me.0 b seq)));
+      }) same
 
-  told_nodes : (w : World) (told : Told) → (world_told setting w me told).nodes ≡ w.nodes
-  told_nodes w (Made seq t base) = refl
-  told_nodes w (Seen seq v) = refl
+  told_nodes : (after : ℕ → Node) (w : World) (told : Told) → (world_told setting after w me told).nodes ≡ w.nodes
+  told_nodes after w (Made seq t base) = refl
+  told_nodes after w (Seen seq v) = refl
+  told_nodes after w (Began call) = refl
+  told_nodes after w (Closed seq cause) = refl
 
-  tells_beside : (told : List Told) (w : World) → (nodes me.0).boot ≡ (w.nodes me.0).boot
-      → world_tells setting (beside w nodes held choices) me told ≡ beside (world_tells setting w me told) nodes held choices
-  tells_beside [] w same = refl
-  tells_beside (one ∷ more) w same =
-      ap (λ (x : World). world_tells setting x me more) (told_beside w one same)
-      ∙ tells_beside more (world_told setting w me one) (same ∙ ap (λ (f : ℕ → Node). (f me.0).boot) (sym (told_nodes w one)))
+  tells_beside : (after : ℕ → Node) (told : List Told) (w : World) → (nodes me.0).boot ≡ (w.nodes me.0).boot
+      → world_tells setting after (beside w nodes held choices) me told ≡ beside (world_tells setting after w me told) nodes held choices
+  tells_beside after [] w same = refl
+  tells_beside after (one ∷ more) w same =
+      ap (λ (x : World). world_tells setting after x me more) (told_beside after w one same)
+      ∙ tells_beside after more (world_told setting after w me one) (same ∙ ap (λ (f : ℕ → Node). (f me.0).boot) (sym (told_nodes after w one)))
 
   answered_beside : (w : World) (answered : Answered) → (nodes me.0).boot ≡ (w.nodes me.0).boot
       → world_answered (beside w nodes held choices) me answered ≡ beside (world_answered w me answered) nodes held choices
@@ -132,56 +142,63 @@ module _ (setting : Setting) (me : BrickId) (nodes : ℕ → Node) (held : ℕ �
       ap (λ (x : World). world_answers x me more) (answered_beside w one same)
       ∙ answers_beside more (world_answered w me one) same
 
--- a step that leaves the places of a brick as they are, from a world in which the brick first kept them
-pub stepped_after : (setting : Setting) (w : World) (me : BrickId) (node : Node) (step : NodeStep) → node.boot ≡ (w.nodes me.0).boot
-    → KeepsPlaces node step.node → world_stepped setting (kept_world w me node) me step ≡ world_stepped setting w me step
-stepped_after setting w me node step boot same =
-    ap (λ (x : World). record x {
-      nodes = put (put w.nodes me.0 node) me.0 step.node;
-      held = with_held (with_held w.held me.0 node) me.0 step.node;
-      packets = w.packets ++ step.packets;
-      choices = choices_after (choices_after w.choices me node []) me step.node step.reports;
-    }) spoken
-    ∙ ap (λ (f : ℕ → Node). record said {
-      nodes = f;
-      held = with_held (with_held w.held me.0 node) me.0 step.node;
-      packets = w.packets ++ step.packets;
-      choices = choices_after (choices_after w.choices me node []) me step.node step.reports;
-    }) (put_twice w.nodes me.0 node step.node)
-    ∙ ap (λ (f : ℕ → ℕ → ℕ → Stamp → Bool). record said {
-      nodes = put w.nodes me.0 step.node;
-      held = f;
-      packets = w.packets ++ step.packets;
-      choices = choices_after (choices_after w.choices me node []) me step.node step.reports;
-    }) (held_twice w.held me.0 node step.node same.2)
-    ∙ ap (λ (f : ℕ → ℕ → ℕ → Ballot → Option (List BrickId)). record said {
-      nodes = put w.nodes me.0 step.node;
-      held = with_held w.held me.0 step.node;
-      packets = w.packets ++ step.packets;
-      choices = record w.choices { reports = (w.choices.reports ++ []) ++ reports_of me step.reports; votes = f };
-    }) (votes_twice w.choices.votes me.0 node step.node same.0 same.1)
-    ∙ ap (λ (l : List (BrickId × Report)). record said {
-      nodes = put w.nodes me.0 step.node;
-      held = with_held w.held me.0 step.node;
-      packets = w.packets ++ step.packets;
-      choices = record w.choices { reports = l ++ reports_of me step.reports; votes = with_votes w.choices.votes me.0 step.node };
-    }) (append-nil w.choices.reports)
-  where
-    said : World
-    said = world_answers (world_tells setting w me step.told) me step.answers
+-- A step that leaves the places of a brick as they are, from a world in which the brick first kept them. What it begins has the floors that the step leaves, so it
+-- begins alike.
+module _ (setting : Setting) (w : World) (me : BrickId) (node : Node) (step : NodeStep) where
+  abbrev after : ℕ → Node
+  after = put w.nodes me.0 step.node
 
-    own : (put w.nodes me.0 node me.0).boot ≡ (w.nodes me.0).boot
-    own = ap (λ (n : Node). n.boot) (put_same w.nodes me.0 node) ∙ boot
+  abbrev said : World
+  said = world_answers (world_tells setting after w me step.told) me step.answers
 
-    spoken : world_answers (world_tells setting (kept_world w me node) me step.told) me step.answers
-        ≡ beside said (put w.nodes me.0 node) (with_held w.held me.0 node) (choices_after w.choices me node [])
-    spoken =
-        ap (λ (x : World). world_answers x me step.answers)
-        (tells_beside setting me (put w.nodes me.0 node) (with_held w.held me.0 node) (choices_after w.choices me node []) step.told w own)
-        ∙ answers_beside setting me (put w.nodes me.0 node) (with_held w.held me.0 node) (choices_after w.choices me node []) step.answers
-        (world_tells setting w me step.told)
-        (own ∙ ap (λ (f : ℕ → Node). (f me.0).boot)
-        (sym (told_same setting (λ x. x.nodes) me (told_nodes setting me (put w.nodes me.0 node) (with_held w.held me.0 node) (choices_after w.choices me node [])) step.told w)))
+  spoken : node.boot ≡ (w.nodes me.0).boot
+      → world_answers (world_tells setting (put (put w.nodes me.0 node) me.0 step.node) (kept_world w me node) me step.told) me step.answers
+      ≡ beside said (put w.nodes me.0 node) (with_held w.held me.0 node) (choices_after w.choices me node [])
+  spoken boot =
+      let own : (put w.nodes me.0 node me.0).boot ≡ (w.nodes me.0).boot = ap (λ (n : Node). n.boot) (put_same w.nodes me.0 node) ∙ boot in
+      let kept = with_held w.held me.0 node in
+      let chosen : Choices = choices_after w.choices me node [] in
+      ap (λ (f : ℕ → Node). world_answers (world_tells setting f (kept_world w me node) me step.told) me step.answers)
+      (put_twice w.nodes me.0 node step.node)
+      ∙ ap (λ (x : World). world_answers x me step.answers)
+      (tells_beside setting me (put w.nodes me.0 node) kept chosen after step.told w own)
+      ∙ answers_beside setting me (put w.nodes me.0 node) kept chosen step.answers (world_tells setting after w me step.told)
+      (own ∙ ap (λ (f : ℕ → Node). (f me.0).boot)
+      (sym (told_same setting after (λ x. x.nodes) me (told_nodes setting me (put w.nodes me.0 node) kept chosen after) step.told w)))
+
+  pub stepped_after : node.boot ≡ (w.nodes me.0).boot → KeepsPlaces node step.node
+      → world_stepped setting (kept_world w me node) me step ≡ world_stepped setting w me step
+  stepped_after boot same =
+      ap (λ (x : World). record x {
+        nodes = put (put w.nodes me.0 node) me.0 step.node;
+        held = with_held (with_held w.held me.0 node) me.0 step.node;
+        packets = w.packets ++ step.packets;
+        choices = choices_after (choices_after w.choices me node []) me step.node step.reports;
+      }) (spoken boot)
+      ∙ ap (λ (f : ℕ → Node). record said {
+        nodes = f;
+        held = with_held (with_held w.held me.0 node) me.0 step.node;
+        packets = w.packets ++ step.packets;
+        choices = choices_after (choices_after w.choices me node []) me step.node step.reports;
+      }) (put_twice w.nodes me.0 node step.node)
+      ∙ ap (λ (f : ℕ → ℕ → ℕ → Stamp → Bool). record said {
+        nodes = after;
+        held = f;
+        packets = w.packets ++ step.packets;
+        choices = choices_after (choices_after w.choices me node []) me step.node step.reports;
+      }) (held_twice w.held me.0 node step.node same.2)
+      ∙ ap (λ (f : ℕ → ℕ → ℕ → Ballot → Option (List BrickId)). record said {
+        nodes = after;
+        held = with_held w.held me.0 step.node;
+        packets = w.packets ++ step.packets;
+        choices = record w.choices { reports = (w.choices.reports ++ []) ++ reports_of me step.reports; votes = f };
+      }) (votes_twice w.choices.votes me.0 node step.node same.0 same.1)
+      ∙ ap (λ (l : List (BrickId × Report)). record said {
+        nodes = after;
+        held = with_held w.held me.0 step.node;
+        packets = w.packets ++ step.packets;
+        choices = record w.choices { reports = l ++ reports_of me step.reports; votes = with_votes w.choices.votes me.0 step.node };
+      }) (append-nil w.choices.reports)
 
 -- the brick once it was taught the view that a reply teaches it
 abbrev pub taught_by : Setting → World → BrickId → BrickId → Call → Reply → Node
