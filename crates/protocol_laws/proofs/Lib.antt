@@ -9,6 +9,7 @@ pub mod BooksKept
 pub mod BooksQuiet
 pub mod BooksTurns
 pub mod Chains
+pub mod Closing
 pub mod Counting
 pub mod Decisions
 pub mod Effects
