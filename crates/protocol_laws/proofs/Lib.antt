@@ -10,6 +10,7 @@ pub mod BooksQuiet
 pub mod BooksTurns
 pub mod ByMarks
 pub mod Chains
+pub mod Closing
 pub mod Counting
 pub mod Decisions
 pub mod Effects
