@@ -618,5 +618,10 @@ module _ (setting : Setting) (views : Views) (w next : World) (stamps later : St
       let goes = grows.operations shows.0 shows.1 shows.2 in (shows.0, goes.0, goes.1, goes.2.mark ∙ shows.3)
 
   -- and the stripes that a synchronisation has read stay read
-  pub stays_job : (job : Job) → JobSays setting views w job → JobSays setting views next job
-  stays_job job says s before = let had = says s before in (had.0, had.1, stays_standing job.group.0 s had.0 had.2)
+  pub stays_job : (i : ℕ) (job : Job) → JobSays setting views w i job → JobSays setting views next i job
+  stays_job i job says = record {
+    known = (says.known.0, (let rises = grows.parts.views i job.group.0 in let was = says.known.1 in omega (arith, rises, was)));
+    members = says.members;
+    prior = says.prior;
+    read = λ s before. let had = says.read s before in (had.0, had.1, stays_standing job.group.0 s had.0 had.2);
+  }

@@ -497,10 +497,13 @@ IsInOrder setting views w =
 abbrev pub IsBottom : World → ℕ → ℕ → ℕ → ℕ → Stamp → Type 0
 IsBottom w g e s i t = (d : Stamp) → view_of d ≡ e → stamp_below d t ≡ true → w.held i g s d ≡ true → ⊥
 
--- a synchronisation has read each stripe before that of its present try: of each of these a version of its view stands
-abbrev pub JobSays : Setting → Views → World → Job → Type 0
-JobSays setting views w job =
-    (s : ℕ) → s < job.attempt.stripe → (v : Stamp) × (view_of v ≡ job.view.number.0) × Stands setting views w job.group.0 s v
+-- The synchronisation of brick i is of a view that the brick has learnt, whose members and those before them are as they are assigned; and it has read each stripe
+-- before that of its present try: of each of these a version of its view stands.
+pub record JobSays (setting : Setting) (views : Views) (w : World) (i : ℕ) (job : Job) : Type 0 where
+  pub known : (1 ≤ job.view.number.0) × (job.view.number.0 ≤ view_at (w.nodes i) job.group.0)
+  pub members : job.view.members ≡ views job.group.0 job.view.number.0
+  pub prior : 1 < job.view.number.0 → job.view.prior ≡ views job.group.0 (job.view.number.0 - 1)
+  pub read : (s : ℕ) → s < job.attempt.stripe → (v : Stamp) × (view_of v ≡ job.view.number.0) × Stands setting views w job.group.0 s v
 
 -- The invariant.
 pub record Said (setting : Setting) (views : Views) (w : World) (stamps : Stamping) : Type 0 where
@@ -516,7 +519,7 @@ pub record Said (setting : Setting) (views : Views) (w : World) (stamps : Stampi
   pub packets : (k : ℕ) (packet : Packet) → slice_get w.packets k ≡ Some packet → PacketSays setting views w stamps packet
   pub operations : (n : ℕ) (o : Operation) → IsOperation w n o → OperationSays setting views w stamps n o
   pub calls : (i k : ℕ) (c : Coordinator) → IsCall w i k c → CallSays setting views w stamps i k c
-  pub jobs : (i : ℕ) (job : Job) → (w.nodes i).job ≡ Some job → JobSays setting views w job
+  pub jobs : (i : ℕ) (job : Job) → (w.nodes i).job ≡ Some job → JobSays setting views w i job
   pub ends : (k p n : ℕ) (answer : Answer) → slice_get w.marks k ≡ Some (End p n answer) → EndShows setting w n answer
   pub order : IsInOrder setting views w
   pub logged : LogsFit w
