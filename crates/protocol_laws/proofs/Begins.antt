@@ -421,8 +421,12 @@ module _ (setting : Setting) (views : Views) (w : World) (stamps : Stamping) (me
   abbrev begin_mark : Mark
   begin_mark = Begin (length w.marks) (w.marked + 1) me ask
 
+  -- the step
+  abbrev began_step : NodeStep
+  began_step = began_in setting me (w.nodes me.0) (new_coordinator group me (w.clocks me.0) (w.nodes me.0) ask)
+
   abbrev began_world : World
-  began_world = world_began w me ask (began_in setting me (w.nodes me.0) (new_coordinator group me (w.clocks me.0) (w.nodes me.0) ask))
+  began_world = world_began w me ask began_step
 
   -- the invariant holds when an operation began
   pub said_began : IsSaid setting views began_world
@@ -430,7 +434,7 @@ module _ (setting : Setting) (views : Views) (w : World) (stamps : Stamping) (me
       said_next setting views w stamps me (w.clocks me.0) ask ((w.nodes me.0).learnt ask.group.0).view group books some (omega arith) follows said group_is
       (follows.prior me.0 ask.group.0) ((w.nodes me.0).busy + 1) (w.nodes me.0).job w.held (w.marks ++ (begin_mark ∷ [])) (w.marked + 1) (w.marked + 1)
       (λ i. top_at (w.nodes i) ask.group.0 ask.stripe.0) w.choices
-      (parts_kept w began_world me.0 (began_world.nodes me.0) refl refl said.logged (refl, refl, refl))
+      (parts_kept w began_world me.0 began_step.node refl refl said.logged (refl, refl, refl))
       (new_none w began_world refl)
       (let longer : length (w.marks ++ (begin_mark ∷ [])) ≡ length w.marks + 1 = length-append w.marks (begin_mark ∷ []) in omega arith)
       (λ a. last_grows w.marks begin_mark a (λ k mark at. let place = books.places k mark at in omega (arith, place)) refl)
