@@ -8,6 +8,7 @@ pub mod BooksEvents
 pub mod BooksKept
 pub mod BooksQuiet
 pub mod BooksTurns
+pub mod ByMarks
 pub mod Chains
 pub mod Closing
 pub mod Counting
