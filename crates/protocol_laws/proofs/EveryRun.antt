@@ -27,8 +27,9 @@ use Rattle.protocol_laws.proofs.Guards.{writes_were_guarded}
 
 -- the laws, from the books, from what quorums show, and from the history of replies
 laws : (setting : Setting) (views : Views) (w : World) (stamps : Stamping) → Books setting w → Said setting views w stamps → Follows setting.layout views w
-    → OldVersionsAreFound setting w → DroppedAreReplaced setting views w → WritesWereGuarded setting views w → QuorumFacts setting views w → Tallied w → IsNumbered w → RefusalsWereTrue setting w → Laws setting views w
-laws setting views w stamps booked said follows old replaced guards facts history numbered truths = record {
+    → OldVersionsAreFound setting w → DroppedAreReplaced setting views w → WritesWereGuarded setting views w → QuorumFacts setting views w → Tallied w
+    → SyncsShow w → IsNumbered w → RefusalsWereTrue setting w → Laws setting views w
+laws setting views w stamps booked said follows old replaced guards facts history stopped numbered truths = record {
   one_content = one_content setting views w stamps said;
   first_is_zero = facts.first;
   contents_are_made = facts.contents;
@@ -38,6 +39,7 @@ laws setting views w stamps booked said follows old replaced guards facts histor
   collects = collects_stand setting views w stamps said;
   drops = drops_older setting views w stamps said;
   replaced = replaced;
+  synced = synced_stand setting views w stamps said;
   bases = bases_newest setting views w stamps said;
   bases_found = facts.bases_found;
   old_found = old;
@@ -45,7 +47,8 @@ laws setting views w stamps booked said follows old replaced guards facts histor
   lowest = λ g s. lowest_follows setting views w g s booked facts;
   real_time = facts.real_time;
   counted = history.counted;
-  aborts = λ k p n cause at. (let shown = history.aborts k p n cause at in (n, shown.0, shown.1, booked.own.each n shown.0 shown.1, shown.2));
+  aborts = history.aborts;
+  stopped = stopped;
   own_marks = booked.own;
   refusals = truths;
   full = facts.full;
@@ -68,6 +71,7 @@ every_run setting views events sound follows =
     (writes_were_guarded setting views events sound follows)
     (facts setting views sound w said.0 (books setting events) said.1)
     (tallied setting views events sound follows)
+    (syncs_show setting views events sound follows)
     (always_numbered setting events)
     (refusals_true setting events)
 

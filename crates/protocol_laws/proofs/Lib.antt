@@ -8,7 +8,9 @@ pub mod BooksEvents
 pub mod BooksKept
 pub mod BooksQuiet
 pub mod BooksTurns
+pub mod ByMarks
 pub mod Chains
+pub mod Closing
 pub mod Counting
 pub mod Decisions
 pub mod Effects
