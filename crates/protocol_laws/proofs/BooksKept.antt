@@ -48,7 +48,7 @@ pub operation_stays : (setting : Setting) (w later : World) (n : ℕ) (o : Opera
     → (w.nodes o.brick.0).boot ≤ (later.nodes o.brick.0).boot
     → (o.boot ≡ (later.nodes o.brick.0).boot → o.seq ≤ (later.nodes o.brick.0).seq)
     → LivesOn w later o
-    → ((life : Life) → life_of w.marks o.mark ≡ Some life → IsOpen (Some life)
+    → (1 ≤ o.mark → (life : Life) → life_of w.marks o.mark ≡ Some life → IsOpen (Some life)
     → (o.boot ≡ (later.nodes o.brick.0).boot) × ((d : Coordinator) × IsCall later o.brick.0 o.seq d))
     → OperationBooks setting later n o
 operation_stays setting w later n o books begun number boot called life call =
@@ -64,7 +64,7 @@ operation_stays setting w later n o books begun number boot called life call =
       block_fits = books.block_fits;
       length_fits = books.length_fits;
       answered_version = books.answered_version;
-      lived = λ from. life_stays w later o (books.lived from) (life from) call;
+      lived = λ from. life_stays w later o (books.lived from) (life from) (call from);
       unmarked = books.unmarked;
     }
 
@@ -104,6 +104,18 @@ HasNoRead node = (job : Job) → node.job ≡ Some job → node.calls job.seq �
 -- the brick's synchronisation is the same; or it had no read open
 abbrev pub KeepsRead : Node → Node → Type 0
 KeepsRead node later = (later.job ≡ node.job) ⊎ HasNoRead node
+
+-- the brick's synchronisation is the same, or has ended, with no read open
+abbrev pub KeepsJob : Node → Node → Type 0
+KeepsJob node later = (later.job ≡ node.job) ⊎ ((later.job ≡ None) × HasNoRead node)
+
+pub keeps_read : (node later : Node) → KeepsJob node later → KeepsRead node later
+keeps_read node later = ⊎_elim (λ (same : later.job ≡ node.job). inl same) (λ (ended : (later.job ≡ None) × HasNoRead node). inr ended.1)
+
+pub job_was : (node later : Node) (job : Job) → KeepsJob node later → later.job ≡ Some job → node.job ≡ Some job
+job_was node later job keeps is =
+    ⊎_elim (λ (same : later.job ≡ node.job). sym same ∙ is)
+    (λ (ended : (later.job ≡ None) × HasNoRead node). absurd (let never : None ≡ Some job = sym ended.0 ∙ is in cc)) keeps
 
 -- an open read of a synchronisation is still that of its brick's
 read_kept : (setting : Setting) (w : World) (i k : ℕ) (c : Coordinator) (later : Node) → IsCall w i k c → (books : CallBooks setting w i k c)

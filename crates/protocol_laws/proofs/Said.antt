@@ -381,10 +381,16 @@ module _ (setting : Setting) (views : Views) (w : World) where
 abbrev pub WritesWhole : World → Operation → Stamp → Type 0
 WritesWhole w o v = (o.base ≡ None) × (o.ask.op ≡ WriteStripe (w.contents o.ask.group.0 o.ask.stripe.0 v))
 
+-- a quorum of each view of a group before this one takes nothing below the first stamp of the next
+abbrev pub ArePassed : Setting → Views → World → ℕ → ℕ → Type 0
+ArePassed setting views w g most =
+    (e s : ℕ) (group : Group) → 1 ≤ e → e < most → group_in setting.layout views g e ≡ Some group → IsGuarded w g s group (floor_of (e + 1))
+
 -- operation n
 pub record OperationSays (setting : Setting) (views : Views) (w : World) (stamps : Stamping) (n : ℕ) (o : Operation) : Type 0 where
   pub begin : o.begin ≤ length w.marks
   pub view : (1 ≤ o.view) × (o.view ≤ view_at (w.nodes o.brick.0) o.ask.group.0)
+  pub passed : ArePassed setting views w o.ask.group.0 o.view
   pub floors : (i : ℕ) → stamp_below (top_in w o.ask.group.0 o.ask.stripe.0 i) (o.floor i) ≡ false
   pub floors_known : (i : ℕ) → IsKnown stamps (o.floor i) ⊎ ((o.floor i).time ≡ 0)
   pub fresh : (i p : ℕ) → IsStamped stamps o.brick.0 o.boot o.seq p (o.floor i) → ⊥
@@ -497,10 +503,14 @@ IsInOrder setting views w =
 abbrev pub IsBottom : World → ℕ → ℕ → ℕ → ℕ → Stamp → Type 0
 IsBottom w g e s i t = (d : Stamp) → view_of d ≡ e → stamp_below d t ≡ true → w.held i g s d ≡ true → ⊥
 
--- a synchronisation has read each stripe before that of its present try: of each of these a version of its view stands
-abbrev pub JobSays : Setting → Views → World → Job → Type 0
-JobSays setting views w job =
-    (s : ℕ) → s < job.attempt.stripe → (v : Stamp) × (view_of v ≡ job.view.number.0) × Stands setting views w job.group.0 s v
+-- The synchronisation of brick i is of a view that the brick has learnt, whose members and those before them are as they are assigned; and it has read each stripe
+-- before that of its present try: of each of these a version of its view stands.
+pub record JobSays (setting : Setting) (views : Views) (w : World) (i : ℕ) (job : Job) : Type 0 where
+  pub known : (1 ≤ job.view.number.0) × (job.view.number.0 ≤ view_at (w.nodes i) job.group.0)
+  pub members : job.view.members ≡ views job.group.0 job.view.number.0
+  pub prior : 1 < job.view.number.0 → job.view.prior ≡ views job.group.0 (job.view.number.0 - 1)
+  pub passed : ArePassed setting views w job.group.0 job.view.number.0
+  pub read : (s : ℕ) → s < job.attempt.stripe → (v : Stamp) × (view_of v ≡ job.view.number.0) × Stands setting views w job.group.0 s v
 
 -- The invariant.
 pub record Said (setting : Setting) (views : Views) (w : World) (stamps : Stamping) : Type 0 where
@@ -516,7 +526,7 @@ pub record Said (setting : Setting) (views : Views) (w : World) (stamps : Stampi
   pub packets : (k : ℕ) (packet : Packet) → slice_get w.packets k ≡ Some packet → PacketSays setting views w stamps packet
   pub operations : (n : ℕ) (o : Operation) → IsOperation w n o → OperationSays setting views w stamps n o
   pub calls : (i k : ℕ) (c : Coordinator) → IsCall w i k c → CallSays setting views w stamps i k c
-  pub jobs : (i : ℕ) (job : Job) → (w.nodes i).job ≡ Some job → JobSays setting views w job
+  pub jobs : (i : ℕ) (job : Job) → (w.nodes i).job ≡ Some job → JobSays setting views w i job
   pub ends : (k p n : ℕ) (answer : Answer) → slice_get w.marks k ≡ Some (End p n answer) → EndShows setting w n answer
   pub order : IsInOrder setting views w
   pub logged : LogsFit w

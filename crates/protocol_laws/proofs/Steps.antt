@@ -56,7 +56,7 @@ pub record Owes (setting : Setting) (views : Views) (w next : World) (stamps lat
   pub operations : (n : ℕ) (o : Operation) → IsOperation next n o → IsOperation w n o ⊎ OperationSays setting views next later n o
   pub calls : (i k : ℕ) (c : Coordinator) → IsCall next i k c
       → StaysOpen w stamps later i k c (next.nodes i).boot ⊎ CallSays setting views next later i k c
-  pub jobs : (i : ℕ) (job : Job) → (next.nodes i).job ≡ Some job → ((w.nodes i).job ≡ Some job) ⊎ JobSays setting views next job
+  pub jobs : (i : ℕ) (job : Job) → (next.nodes i).job ≡ Some job → ((w.nodes i).job ≡ Some job) ⊎ JobSays setting views next i job
   pub ends : (k p n : ℕ) (answer : Answer) → slice_get next.marks k ≡ Some (End p n answer)
       → (slice_get w.marks k ≡ Some (End p n answer)) ⊎ EndShows setting next n answer
   pub order : IsInOrder setting views next
@@ -106,8 +106,8 @@ said_after setting views w next stamps later books said grows owes = record {
       (λ (new : CallSays setting views next later i k c). new)
       (owes.calls i k c is);
   jobs = λ i job is. ⊎_elim
-      (λ (old : (w.nodes i).job ≡ Some job). stays_job setting views w next stamps later books grows job (said.jobs i job old))
-      (λ (new : JobSays setting views next job). new)
+      (λ (old : (w.nodes i).job ≡ Some job). stays_job setting views w next stamps later books grows i job (said.jobs i job old))
+      (λ (new : JobSays setting views next i job). new)
       (owes.jobs i job is);
   ends = λ k p n answer is. ⊎_elim
       (λ (old : slice_get w.marks k ≡ Some (End p n answer)).
@@ -344,11 +344,16 @@ calls_by setting views w next stamps later me node nodes boot k c own others i =
 
 -- what is owed for synchronisations, where one brick changes
 pub jobs_by : (setting : Setting) (views : Views) (w next : World) (me : ℕ) (node : Node) → next.nodes ≡ put w.nodes me node
-    → ((job : Job) → node.job ≡ Some job → ((w.nodes me).job ≡ Some job) ⊎ JobSays setting views next job) → (i : ℕ) (job : Job) → (next.nodes i).job ≡ Some job
-    → ((w.nodes i).job ≡ Some job) ⊎ JobSays setting views next job
+    → ((job : Job) → node.job ≡ Some job → ((w.nodes me).job ≡ Some job) ⊎ JobSays setting views next me job) → (i : ℕ) (job : Job)
+    → (next.nodes i).job ≡ Some job → ((w.nodes i).job ≡ Some job) ⊎ JobSays setting views next i job
 jobs_by setting views w next me node nodes own i job =
-    subst (λ (f : ℕ → Node). (f i).job ≡ Some job → ((w.nodes i).job ≡ Some job) ⊎ JobSays setting views next job) (sym nodes)
-    (put_each (λ j x. x.job ≡ Some job → ((w.nodes j).job ≡ Some job) ⊎ JobSays setting views next job) w.nodes me node (own job) (λ j other is. inl is) i)
+    subst (λ (f : ℕ → Node). (f i).job ≡ Some job → ((w.nodes i).job ≡ Some job) ⊎ JobSays setting views next i job) (sym nodes)
+    (put_each (λ j x. x.job ≡ Some job → ((w.nodes j).job ≡ Some job) ⊎ JobSays setting views next j job) w.nodes me node (own job) (λ j other is. inl is) i)
+
+-- where it keeps its synchronisation
+pub jobs_kept : (setting : Setting) (views : Views) (w next : World) (me : ℕ) (node : Node) → next.nodes ≡ put w.nodes me node
+    → node.job ≡ (w.nodes me).job → (i : ℕ) (job : Job) → (next.nodes i).job ≡ Some job → ((w.nodes i).job ≡ Some job) ⊎ JobSays setting views next i job
+jobs_kept setting views w next me node nodes same = jobs_by setting views w next me node nodes (λ job is. inl (sym same ∙ is))
 
 -- the world after a brick's step that is told of no operation
 abbrev pub quiet : World → BrickId → Node → List Packet → World
@@ -388,7 +393,7 @@ pub record QuietOwes (setting : Setting) (views : Views) (w : World) (stamps lat
   pub calls : (k : ℕ) (c : Coordinator) → node.calls k ≡ Some c
       → (((w.nodes me.0).calls k ≡ Some c) × KeepsStamps stamps later me.0 (w.nodes me.0).boot k)
       ⊎ CallSays setting views (quiet w me node more) later me.0 k c
-  pub jobs : (job : Job) → node.job ≡ Some job → ((w.nodes me.0).job ≡ Some job) ⊎ JobSays setting views (quiet w me node more) job
+  pub jobs : (job : Job) → node.job ≡ Some job → ((w.nodes me.0).job ≡ Some job) ⊎ JobSays setting views (quiet w me node more) me.0 job
   pub packets : (k : ℕ) (packet : Packet) → slice_get more k ≡ Some packet → PacketSays setting views (quiet w me node more) later packet
 
 pub said_quiet : (setting : Setting) (views : Views) (w : World) (stamps later : Stamping) (me : BrickId) (node : Node) (more : List Packet) → Books setting w
