@@ -31,10 +31,10 @@ use Rattle.protocol.specs.Worlds.{World, Operation, Choices, world_began, world_
 use Rattle.view_laws.proofs.SyncReads.{read_call}
 use Rattle.protocol_laws.proofs.Blocking.{PartsStay, NewIsLogged, stands_stays}
 use Rattle.protocol_laws.proofs.Books.{Books, IsOperation}
-use Rattle.protocol_laws.proofs.Said.{Begun, Stamping, Said, IsSaid, IsBegun, IsStamped, IsKnown, IsStampOf, IsCalled, FitsPhase, ReadSays, want_of, RequestSays, PacketSays, OperationSays, CallSays, IsInOrder, DescendsFrom, base_in, FloorsAbove, bound_in, JobSays}
+use Rattle.protocol_laws.proofs.Said.{Begun, Stamping, Said, IsSaid, IsBegun, IsStamped, IsKnown, IsStampOf, IsCalled, FitsPhase, ReadSays, want_of, RequestSays, PacketSays, OperationSays, CallSays, IsInOrder, DescendsFrom, base_in, FloorsAbove, bound_in, JobSays, ArePassed}
 use Rattle.protocol.proofs.Tables.{put_each, put_same, get_grown, get_one, sent_to_member}
 use Rattle.reg_model.proofs.GrowingLives.{last_grows}
-use Rattle.protocol_laws.proofs.Growth.{Grows, continues_same}
+use Rattle.protocol_laws.proofs.Growth.{Grows, continues_same, stay_passed, guarded_stays}
 use Rattle.protocol_laws.proofs.Steps.{KeepsStamps, keeps_same, parts_kept, parts_by, sent_by, ages_by, calls_by, jobs_by, phase_asked, said_after, new_none, new_by, part_same}
 use Rattle.protocol_laws.proofs.Stampings.{ComesFrom, ages_within, stays_known, later_unknown, with_stamp, stamp_now, stamps_other, stamp_last, stamps_grow, stamps_say}
 use Rattle.protocol_laws.specs.Laws.{AtQuorum, IsGuarded, part_in, top_in, Follows}
@@ -62,8 +62,8 @@ is_first ReadStripe = tt
 is_first (WriteStripe bytes) = tt
 
 module _ (setting : Setting) (views : Views) (w : World) (stamps : Stamping) (me : BrickId) (now : ℕ) (ask : Ask) (view : View) (group : Group)
-    (books : Books setting w) (some : 1 ≤ view.number.0) (learnt : view.number.0 ≤ view_at (w.nodes me.0) ask.group.0) (follows : Follows setting.layout views w)
-    (said : Said setting views w stamps) (group_is : group_in setting.layout views ask.group.0 view.number.0 ≡ Some group)
+    (books : Books setting w) (some : 1 ≤ view.number.0) (learnt : view.number.0 ≤ view_at (w.nodes me.0) ask.group.0)
+    (passed : ArePassed setting views w ask.group.0 view.number.0) (said : Said setting views w stamps) (group_is : group_in setting.layout views ask.group.0 view.number.0 ≡ Some group)
     (prior : 1 < view.number.0 → view.prior ≡ views ask.group.0 (view.number.0 - 1)) (busy : ℕ) (job : Option Job) (held : ℕ → ℕ → ℕ → Stamp → Bool)
     (marks : List Mark) (marked mark : ℕ) (floor : ℕ → Stamp) (choices : Choices) where
   -- the brick before
@@ -212,6 +212,7 @@ module _ (setting : Setting) (views : Views) (w : World) (stamps : Stamping) (me
     operation_says = record {
       begin = grows.marks;
       view = (some, (let rises = parts.views me.0 ask.group.0 in omega (arith, rises, learnt)));
+      passed = stay_passed setting views w next stamps later books grows ask.group.0 view.number.0 passed;
       floors = λ i.
           subst (λ (t : Stamp). stamp_below (top_in next ask.group.0 ask.stripe.0 i) t ≡ false) (sym (floor_is i)) (parts.tops ask.group.0 ask.stripe.0 i);
       floors_known = λ i. ⊎_elim
@@ -358,8 +359,9 @@ module _ (setting : Setting) (views : Views) (w : World) (stamps : Stamping) (me
               (subst (λ (g : ℕ). IsGuarded w g earlier.ask.stripe.0 z u) groups guarded));
           before = λ e z least less z_is.
               by_floors (λ f. AtQuorum z (λ seat. not (stamp_below (f (brick_at z seat)) (floor_of (e + 1)))))
-              (follows.passed earlier.brick.0 ask.group.0 e ask.stripe.0 z least
-              (subst (λ (g : ℕ). e < view_at (w.nodes earlier.brick.0) g) groups (let of = has.of in let most = says.view.1 in omega (arith, of, most, less))) z_is);
+              (subst (λ (g : ℕ). IsGuarded w g ask.stripe.0 z (floor_of (e + 1))) groups
+              (says.passed e ask.stripe.0 z least (let of = has.of in omega (arith, of, less))
+              (ap (λ (g : ℕ). group_in setting.layout views g e) groups ∙ z_is)));
         }
 
     in_order : IsInOrder setting views next
@@ -431,7 +433,8 @@ module _ (setting : Setting) (views : Views) (w : World) (stamps : Stamping) (me
   -- the invariant holds when an operation began
   pub said_began : IsSaid setting views began_world
   said_began =
-      said_next setting views w stamps me (w.clocks me.0) ask ((w.nodes me.0).learnt ask.group.0).view group books some (omega arith) follows said group_is
+      said_next setting views w stamps me (w.clocks me.0) ask ((w.nodes me.0).learnt ask.group.0).view group books some (omega arith)
+      (λ e s z least less z_is. follows.passed me.0 ask.group.0 e s z least less z_is) said group_is
       (follows.prior me.0 ask.group.0) ((w.nodes me.0).busy + 1) (w.nodes me.0).job w.held (w.marks ++ (begin_mark ∷ [])) (w.marked + 1) (w.marked + 1)
       (λ i. top_at (w.nodes i) ask.group.0 ask.stripe.0) w.choices
       (parts_kept w began_world me.0 began_step.node refl refl said.logged (refl, refl, refl))
@@ -448,7 +451,7 @@ module _ (setting : Setting) (views : Views) (w : World) (stamps : Stamping) (me
 
 -- a brick begins a read of its synchronisation
 module _ (setting : Setting) (views : Views) (w : World) (stamps : Stamping) (me : BrickId) (now : ℕ) (job : Job) (group : Group) (books : Books setting w)
-    (follows : Follows setting.layout views w) (said : Said setting views w stamps) (says : JobSays setting views w me.0 job)
+    (said : Said setting views w stamps) (says : JobSays setting views w me.0 job)
     (group_is : group_kept setting.layout job.view.members job.group.0 ≡ Some group) where
   abbrev read : NodeStep
   read = read_begun_by setting me (w.nodes me.0) job (read_call group job me now (w.nodes me.0))
@@ -466,7 +469,7 @@ module _ (setting : Setting) (views : Views) (w : World) (stamps : Stamping) (me
   -- the invariant holds when a read began
   pub said_read : IsSaid setting views read_world
   said_read =
-      said_next setting views w stamps me now (job_ask job) job.view group books says.known.0 says.known.1 follows said its_group says.prior
+      said_next setting views w stamps me now (job_ask job) job.view group books says.known.0 says.known.1 says.passed said its_group says.prior
       (w.nodes me.0).busy read.node.job (with_held w.held me.0 read.node) w.marks w.marked 0
       (λ i. top_at (put w.nodes me.0 read.node i) job.group.0 job.attempt.stripe) (choices_after w.choices me read.node [])
       read_parts (new_by w read_world me.0 read.node refl refl) (omega arith) (λ a. omega arith) (λ k q a answer at. at)
@@ -476,6 +479,8 @@ module _ (setting : Setting) (views : Views) (w : World) (stamps : Stamping) (me
         known = (says.known.0, (let rises = read_parts.views me.0 job.group.0 in let was = says.known.1 in omega (arith, rises, was)));
         members = says.members;
         prior = says.prior;
+        passed = λ e s z least less z_is.
+            guarded_stays w read_world read_parts.tops job.group.0 s z (floor_of (e + 1)) (says.passed e s z least less z_is);
         read = λ s before. let had = says.read s before in (
             had.0,
             had.1,

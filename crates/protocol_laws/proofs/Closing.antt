@@ -47,14 +47,21 @@ goes_each P setting x me now job (Reads attempt) after =
 goes_each P setting x me now job Finishes after = after.finishes refl
 goes_each P setting x me now job (GivesUp cause) after = after.ends _
 
-module _ (setting : Setting) (w : World) (me : BrickId) (now known : ℕ) (c : Coordinator) (answer : Answer) (seen stored : Option Stamp) where
-  -- the close alone
-  abbrev pub closes : NodeStep
-  closes = read_closed me (w.nodes me.0) known c answer seen stored
+-- the close of a read, alone
+abbrev pub closes : World → BrickId → ℕ → Coordinator → Answer → Option Stamp → Option Stamp → NodeStep
+closes w me known c answer seen stored = read_closed me (w.nodes me.0) known c answer seen stored
 
-  -- and the world that it leaves
-  abbrev pub closed_world : World
-  closed_world = world_stepped setting w me closes
+-- and the world that it leaves
+abbrev pub closed_world : Setting → World → BrickId → ℕ → Coordinator → Answer → Option Stamp → Option Stamp → World
+closed_world setting w me known c answer seen stored = world_stepped setting w me (closes w me known c answer seen stored)
+
+module _ (setting : Setting) (w : World) (me : BrickId) (now known : ℕ) (c : Coordinator) (answer : Answer) (seen stored : Option Stamp) where
+  -- the step that closes it, and the brick and the world after
+  abbrev step : NodeStep
+  step = closes w me known c answer seen stored
+
+  abbrev x : World
+  x = closed_world setting w me known c answer seen stored
 
   begins_none : (z : Option Stamp) (one other : ℕ → Node)
       → world_tells setting one w me (seen_told c.call.seq z ++ (Closed c.call.seq (abort_cause answer) ∷ []))
@@ -64,12 +71,12 @@ module _ (setting : Setting) (w : World) (me : BrickId) (now known : ℕ) (c : C
 
   -- the close, and what the synchronisation does next, one after the other
   pub closed_then : (job : Job) (next : JobNext)
-      → world_stepped setting closed_world me (job_goes setting me now (closed_world.nodes me.0) job next)
-      ≡ world_stepped setting w me (then_does closes (job_goes setting me now closes.node job next))
+      → world_stepped setting x me (job_goes setting me now (x.nodes me.0) job next)
+      ≡ world_stepped setting w me (then_does step (job_goes setting me now step.node job next))
   closed_then job next =
-      ap (λ (n : Node). world_stepped setting closed_world me (job_goes setting me now n job next)) (put_same w.nodes me.0 closes.node)
-      ∙ stepped_then setting w me closes.node closes.packets closes.told (job_goes setting me now closes.node job next) (begins_none seen) refl
-      (goes_keeps setting me now closes.node job next)
+      ap (λ (n : Node). world_stepped setting x me (job_goes setting me now n job next)) (put_same w.nodes me.0 step.node)
+      ∙ stepped_then setting w me step.node step.packets step.told (job_goes setting me now step.node job next) (begins_none seen) refl
+      (goes_keeps setting me now step.node job next)
 
 -- it is no read of a synchronisation that ends
 abbrev pub ClosesNone : Option Job → Next → Type 0

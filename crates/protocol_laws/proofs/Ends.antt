@@ -177,6 +177,7 @@ module _ (setting : Setting) (views : Views) (w : World) (stamps : Stamping) (me
         record {
           begin = old.begin;
           view = old.view;
+          passed = old.passed;
           floors = old.floors;
           floors_known = old.floors_known;
           fresh = old.fresh;

@@ -4,7 +4,7 @@ use Rattle.messages.specs.declared.requests.Look.TheVariants.{Below}
 use Rattle.protocol_laws.proofs.Tops.{before_floor}
 use Rattle.protocol.specs.Views.{Views, floor_of}
 use Rattle.protocol_laws.proofs.Logs.{IsWithin}
-use Rattle.std.proofs.Common.{◌≡◌, ℕ, ◌≤◌, ◌⊎◌, inl, inr, true, false, not, List, length, Option, Some, None, refl, sym, ap, ◌∙◌, subst, ⊎_elim, arith, []}
+use Rattle.std.proofs.Common.{◌≡◌, ℕ, ◌+◌, ◌≤◌, ◌⊎◌, inl, inr, true, false, not, List, length, Option, Some, None, refl, sym, ap, ◌∙◌, subst, ⊎_elim, arith, []}
 use Rattle.std.proofs.lemmas.Bool.{not-true, not_from_false, false≢true}
 use Rattle.fab_base.specs.declared.identities.BrickId.{BrickId}
 use Rattle.fab_base.specs.declared.stamps.Stamp.{Stamp}
@@ -38,7 +38,7 @@ use Rattle.fab_base.specs.Layouts.{brick_at}
 use Rattle.protocol_laws.specs.Laws.{WasSent, AskedAt, IsModified, IsGuarded, NeverFalls, top_in, AtQuorum}
 use Rattle.protocol_laws.proofs.Books.{Books, OperationBooks, IsOperation}
 use Rattle.protocol_laws.proofs.Blocking.{PartsStay, blocked_stays, stands_stays, NewIsLogged}
-use Rattle.protocol_laws.proofs.Said.{Stamping, IsBegun, IsStamped, Stands, AreBlocked, IsMadeOrFirst, IsKnown, IsCalled, IsBlockOf, VersionSays, WriteSays, RequestSays, ReadSays, want_of, OrderedSays, OrderedReadSays, FoundSays, ReplySays, MessageSays, PacketSays, HasVersion, WritesWhole, ReadsBack, OperationSays, CountedSays, CallSays, DataShown, EndShows, FitsPhase, DescendsFrom, ToldSays, MakerSays, ChangesBlock, ModifySays, OrderSays, OrderReadSays, MadeOn, WasCollected, IsPassedOver, OldReadSays, OldSays, BackSays, JobSays}
+use Rattle.protocol_laws.proofs.Said.{Stamping, IsBegun, IsStamped, Stands, AreBlocked, IsMadeOrFirst, IsKnown, IsCalled, IsBlockOf, VersionSays, WriteSays, RequestSays, ReadSays, want_of, OrderedSays, OrderedReadSays, FoundSays, ReplySays, MessageSays, PacketSays, HasVersion, WritesWhole, ReadsBack, OperationSays, CountedSays, CallSays, DataShown, EndShows, FitsPhase, DescendsFrom, ToldSays, MakerSays, ChangesBlock, ModifySays, OrderSays, OrderReadSays, MadeOn, WasCollected, IsPassedOver, OldReadSays, OldSays, BackSays, JobSays, ArePassed}
 use Rattle.protocol_laws.proofs.Stampings.{StampsGrow, stays_begun, stays_stamped, stays_known}
 use Rattle.protocol_laws.proofs.Counting.{each_then}
 use Rattle.protocol.proofs.Blocks.{IsContent}
@@ -175,6 +175,10 @@ module _ (setting : Setting) (views : Views) (w next : World) (stamps later : St
   -- what is guarded stays guarded
   pub stays_guarded : (g s : ℕ) (group : Group) (t : Stamp) → IsGuarded w g s group t → IsGuarded next g s group t
   stays_guarded g s group t guarded = guarded_stays w next grows.parts.tops g s group t guarded
+
+  -- what was passed stays passed
+  pub stay_passed : (g most : ℕ) → ArePassed setting views w g most → ArePassed setting views next g most
+  stay_passed g most passed e s group least less is = stays_guarded g s group (floor_of (e + 1)) (passed e s group least less is)
 
   -- what is blocked stays blocked
   pub stay_blocked : (g s : ℕ) (Q : Stamp → Type 0) → AreBlocked setting views w g s Q → AreBlocked setting views next g s Q
@@ -503,6 +507,7 @@ module _ (setting : Setting) (views : Views) (w next : World) (stamps later : St
   stays_operation n o is says = record {
     begin = omega (arith, says.begin, grows.marks);
     view = (says.view.0, (let rises = grows.parts.views o.brick.0 o.ask.group.0 in let was = says.view.1 in omega (arith, rises, was)));
+    passed = stay_passed o.ask.group.0 o.view says.passed;
     floors = λ i. stays_above o.ask.group.0 o.ask.stripe.0 i (o.floor i) (says.floors i);
     floors_known = λ i. ⊎_elim
         (λ (known : IsKnown stamps (o.floor i)). inl (stays_known stamps later grows.grow (o.floor i) known))
@@ -623,5 +628,6 @@ module _ (setting : Setting) (views : Views) (w next : World) (stamps later : St
     known = (says.known.0, (let rises = grows.parts.views i job.group.0 in let was = says.known.1 in omega (arith, rises, was)));
     members = says.members;
     prior = says.prior;
+    passed = stay_passed job.group.0 job.view.number.0 says.passed;
     read = λ s before. let had = says.read s before in (had.0, had.1, stays_standing job.group.0 s had.0 had.2);
   }

@@ -22,7 +22,7 @@ use Rattle.protocol_laws.proofs.Blocking.{LogsFit}
 use Rattle.protocol.proofs.Tables.{put_each, get_grown}
 use Rattle.protocol_laws.proofs.Stampings.{StampsGrow}
 use Rattle.protocol_laws.proofs.Growth.{Grows, Continues, continues_same}
-use Rattle.protocol_laws.proofs.Steps.{KeepsStamps, keeps_same, parts_by, sent_by, calls_by, said_after, new_by, part_same}
+use Rattle.protocol_laws.proofs.Steps.{KeepsStamps, keeps_same, parts_by, sent_by, calls_by, jobs_kept, said_after, new_by, part_same}
 use Rattle.protocol_laws.proofs.Tops.{KeepsPlaces}
 
 -- the world after an operation changed
@@ -160,6 +160,7 @@ said_operated setting views w stamps later me node more marks n o p contents boo
       calls = λ i k c.
           calls_by setting views w after stamps later me.0 node refl keeps.boot k c (owes.calls k c)
           (λ j other. owes.stamps_other j (w.nodes j).boot k other) i;
+      jobs = jobs_kept setting views w after me.0 node refl keeps.job;
       ends = owes.ends;
       order = stays_in_order setting views w stamps later me node more marks n o p contents keeps said;
     })

@@ -381,10 +381,16 @@ module _ (setting : Setting) (views : Views) (w : World) where
 abbrev pub WritesWhole : World → Operation → Stamp → Type 0
 WritesWhole w o v = (o.base ≡ None) × (o.ask.op ≡ WriteStripe (w.contents o.ask.group.0 o.ask.stripe.0 v))
 
+-- a quorum of each view of a group before this one takes nothing below the first stamp of the next
+abbrev pub ArePassed : Setting → Views → World → ℕ → ℕ → Type 0
+ArePassed setting views w g most =
+    (e s : ℕ) (group : Group) → 1 ≤ e → e < most → group_in setting.layout views g e ≡ Some group → IsGuarded w g s group (floor_of (e + 1))
+
 -- operation n
 pub record OperationSays (setting : Setting) (views : Views) (w : World) (stamps : Stamping) (n : ℕ) (o : Operation) : Type 0 where
   pub begin : o.begin ≤ length w.marks
   pub view : (1 ≤ o.view) × (o.view ≤ view_at (w.nodes o.brick.0) o.ask.group.0)
+  pub passed : ArePassed setting views w o.ask.group.0 o.view
   pub floors : (i : ℕ) → stamp_below (top_in w o.ask.group.0 o.ask.stripe.0 i) (o.floor i) ≡ false
   pub floors_known : (i : ℕ) → IsKnown stamps (o.floor i) ⊎ ((o.floor i).time ≡ 0)
   pub fresh : (i p : ℕ) → IsStamped stamps o.brick.0 o.boot o.seq p (o.floor i) → ⊥
@@ -503,6 +509,7 @@ pub record JobSays (setting : Setting) (views : Views) (w : World) (i : ℕ) (jo
   pub known : (1 ≤ job.view.number.0) × (job.view.number.0 ≤ view_at (w.nodes i) job.group.0)
   pub members : job.view.members ≡ views job.group.0 job.view.number.0
   pub prior : 1 < job.view.number.0 → job.view.prior ≡ views job.group.0 (job.view.number.0 - 1)
+  pub passed : ArePassed setting views w job.group.0 job.view.number.0
   pub read : (s : ℕ) → s < job.attempt.stripe → (v : Stamp) × (view_of v ≡ job.view.number.0) × Stands setting views w job.group.0 s v
 
 -- The invariant.

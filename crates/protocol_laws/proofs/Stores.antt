@@ -369,6 +369,7 @@ module _ (setting : Setting) (views : Views) (sound : IsSound setting) (w : Worl
           record {
             begin = old.begin;
             view = old.view;
+            passed = old.passed;
             floors = old.floors;
             floors_known = old.floors_known;
             fresh = old.fresh;
