@@ -1,8 +1,7 @@
 -- The reads of synchronisations, try by try: of the stripe that one reads each earlier read was aborted, and of one that it gave up all were.
-use Rattle.std.proofs.Common.{◌≡◌, ◌≢◌, ℕ, ◌+◌, ◌-◌, ◌<◌, ◌≤◌, ⊎_elim, true, false, not, List, [], ◌∷◌, ◌++◌, Option, Some, None, is_some, refl, sym, ap, ◌∙◌, subst, arith}
-use Rattle.std.specs.Prelude.{slice_get, nat_lt}
+use Rattle.std.proofs.Common.{◌≡◌, ◌≢◌, ℕ, ◌+◌, ◌-◌, ◌<◌, ◌≤◌, ⊎_elim, true, not, List, Option, Some, None, is_some, refl, sym, ap, ◌∙◌, subst, arith}
+use Rattle.std.specs.Prelude.{slice_get}
 use Rattle.std.proofs.lemmas.Bool.{cases_eq}
-use Rattle.std.proofs.lemmas.Option.{same_Some}
 use Rattle.fab_base.specs.declared.identities.BrickId.{BrickId}
 use Rattle.fab_base.specs.declared.identities.GroupId.{GroupId}
 use Rattle.fab_base.specs.declared.identities.StripeNo.{StripeNo}
@@ -12,7 +11,7 @@ use Rattle.fab_base.specs.declared.answers.Cause.{Cause}
 use Rattle.fab_base.specs.declared.stamps.Stamp.{Stamp}
 use Rattle.protocol.specs.declared.tellings.Report.{Report}
 use Rattle.protocol.specs.declared.tellings.SyncAnswer.TheVariants.{Stopped}
-use Rattle.protocol.specs.Jobs.{Attempt, Job, most_tries}
+use Rattle.protocol.specs.Jobs.{Job, most_tries}
 use Rattle.protocol.specs.Nodes.{Node, put}
 use Rattle.protocol.specs.Worlds.{World, Operation, with_made, with_seen, with_answer, with_closed, is_answer}
 use Rattle.protocol.proofs.Puts.{put_other}
