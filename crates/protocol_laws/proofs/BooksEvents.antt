@@ -17,7 +17,7 @@ use Rattle.fab_base.specs.declared.answers.Answer.TheVariants.{Data, Done, Abort
 use Rattle.fab_base.specs.declared.answers.Cause.{Cause}
 use Rattle.reg_model.specs.declared.marks.Mark.{Mark}
 use Rattle.reg_model.specs.declared.marks.Mark.TheVariants.{End}
-use Rattle.protocol.specs.Jobs.{Job, JobNext, begun_job, job_after, abort_cause, sync_refusal_in}
+use Rattle.protocol.specs.Jobs.{Job, Attempt, JobNext, Reads, Finishes, GivesUp, begun_job, job_ask, most_tries, job_after, abort_cause, synced_answer, sync_refusal_in}
 use Rattle.fab_base.specs.declared.answers.Refusal.{Refusal}
 use Rattle.messages.specs.declared.calls.Call.{Call}
 use Rattle.messages.specs.declared.packets.Message.{Message}
@@ -35,12 +35,12 @@ use Rattle.protocol.specs.declared.phases.Phase.{Phase}
 use Rattle.protocol.specs.declared.phases.Phase.TheVariants.{Looks, LooksAt, Orders, OrdersAt, Recovers, Descends, Modifies, Bases, Stores, LooksBack}
 use Rattle.protocol.specs.declared.phases.Counted.{Counted}
 use Rattle.protocol.specs.Coordinators.{Coordinator, Next, Ignores, Waits, Sends, Makes, Ends, most_rounds, with_reply, once_full, counted_at, counts_at, on_reply, asked_view}
-use Rattle.protocol.specs.Nodes.{Node, NodeStep, put, no_step, has_block, has_length, refusal_in, refusal_of, began, invoked, with_replica, replica_at, full_at, reply_packets, requested, ticked, may_open, has_later_time, next_time, new_stamp, fresh_stamp, known_after, with_call, with_known, carried_out, phase_packets, collect_packets, reporting, with_job, carried_for, job_reading, synced_at, sync_refusal, sending, replied_at, heard, received, group_at, vote_at, with_round, proposed, node_taught_by, node_learnt, view_counted, lists_fit, node_synced}
+use Rattle.protocol.specs.Nodes.{Node, NodeStep, put, no_step, has_block, has_length, refusal_in, refusal_of, began, invoked, with_replica, replica_at, full_at, reply_packets, requested, ticked, may_open, has_later_time, next_time, new_stamp, fresh_stamp, known_after, with_call, with_known, carried_out, phase_packets, collect_packets, synced_packets, reporting, with_job, carried_for, job_reading, synced_at, sync_refusal, sending, replied_at, heard, received, group_at, vote_at, with_round, proposed, node_taught_by, node_learnt, view_counted, lists_fit, node_synced}
 use Rattle.protocol.specs.Worlds.{World, world_found, Operation, Found, Before, After, Found, Before, After, Event, is_answer, first_world, is_brick, is_up, may_begin, number_of, may_start, world_found, world_began, world_stepped, with_made, with_seen, with_answer, with_closed, with_content, may_sync, replies_with, voiced, run, with_held, choices_after, Choices}
 use Rattle.protocol_laws.specs.Laws.{WasSent}
 use Rattle.protocol.proofs.Served.{request_each}
 use Rattle.protocol_laws.proofs.Left.{IsLeft, kept_of, Leaves, always_leaves, found_down}
-use Rattle.protocol_laws.proofs.Books.{Replies, version_after, Books, CallBooks, IsCall, IsUnmade, MadeInPhase, InRound, IsMade}
+use Rattle.protocol_laws.proofs.Books.{Replies, version_after, Books, IsReadable, IsOperation, OperationBooks, JobBooks, CallBooks, IsCall, IsUnmade, MadeInPhase, InRound, IsMade}
 use Rattle.protocol_laws.proofs.MarkNumbers.{mark_at, mark_seen}
 use Rattle.protocol_laws.proofs.BooksKept.{KeepsNumbers, KeepsCalls, KeepsJob, HasNoRead, call_marked, call_unmarked, reading_is, keeps_all, keeps_itself, keeps_known, keeps_with_call}
 use Rattle.protocol_laws.proofs.Votes.{with_vote}
@@ -305,12 +305,34 @@ answered_unless (Aborted cause) = refl
 
 -- a group that is kept is the layout's
 kept_is : (layout : Layout) (members : List BrickId) (g : ℕ) (group : Group) → group_kept layout members g ≡ Some group
-    → (own : Group) × (group_of layout g ≡ Some own)
+    → (own : Group) × (group_of layout g ≡ Some own) × (group.stripes ≡ own.stripes)
 kept_is layout members g group is = by (group_of layout g) refl is
   where
-    by : (z : Option Group) → group_of layout g ≡ z → option_map (kept_by members) z ≡ Some group → (own : Group) × (group_of layout g ≡ Some own)
+    by : (z : Option Group) → group_of layout g ≡ z → option_map (kept_by members) z ≡ Some group
+        → (own : Group) × (group_of layout g ≡ Some own) × (group.stripes ≡ own.stripes)
     by None at found = absurd (let never : None ≡ Some group = found in cc)
-    by (Some own) at found = (own, at)
+    by (Some own) at found = (own, at, ap (λ (x : Group). x.stripes) (sym (same_Some (kept_by members own) group found)))
+
+-- what a synchronisation reads next is a stripe of its group
+next_readable : (group : Group) (stripes : ℕ) (attempt next : Attempt) (cause : Option Cause) → stripes ≡ group.stripes → IsReadable group attempt.stripe
+    → job_after stripes attempt cause ≡ Reads next → IsReadable group next.stripe
+next_readable group stripes attempt next None same readable =
+    cond_both (nat_lt (attempt.stripe + 1) stripes) (Reads (record { stripe = attempt.stripe + 1; tries = 1 })) Finishes
+    (λ (z : JobNext). z ≡ Reads next → IsReadable group next.stripe)
+    (λ few is.
+    let one : record { stripe = attempt.stripe + 1; tries = 1 } ≡ next = cc in
+    let less : attempt.stripe + 1 < stripes = ltb-true (attempt.stripe + 1) stripes few in
+    let at : attempt.stripe + 1 ≡ next.stripe = ap (λ (a : Attempt). a.stripe) one in
+    inr (omega arith))
+    (λ all is. absurd (let never : Finishes ≡ Reads next = is in cc))
+next_readable group stripes attempt next (Some cause) same readable =
+    cond_both (nat_lt attempt.tries most_tries) (Reads (record { stripe = attempt.stripe; tries = attempt.tries + 1 })) (GivesUp cause)
+    (λ (z : JobNext). z ≡ Reads next → IsReadable group next.stripe)
+    (λ few is.
+    let one : record { stripe = attempt.stripe; tries = attempt.tries + 1 } ≡ next = cc in
+    let at : attempt.stripe ≡ next.stripe = ap (λ (a : Attempt). a.stripe) one in
+    subst (λ (s : ℕ). IsReadable group s) at readable)
+    (λ all is. absurd (let never : GivesUp cause ≡ Reads next = is in cc))
 
 -- a read that ends leaves its brick up
 closed_up : (setting : Setting) (w : World) (me : BrickId) (known : ℕ) (c : Coordinator) (answer : Answer) (seen stored : Option Stamp)
@@ -628,8 +650,9 @@ module _ (setting : Setting) (w : World) (me : BrickId) (now known : ℕ) (c : C
 
   -- a read of the synchronisation ends, and that goes on
   after_closed : (job : Job) → job_reading node.job k ≡ Some job → (answer : Answer) (seen stored : Option Stamp) → EndFits c.phase answer seen
-      → (next : JobNext) → AfterClose (Books setting) setting (closed_world setting w me known c answer seen stored) me now job next
-  after_closed job reading answer seen stored fits next =
+      → AfterClose (Books setting) setting (closed_world setting w me known c answer seen stored) me now job
+      (job_after c.group.stripes job.attempt (abort_cause answer))
+  after_closed job reading answer seen stored fits =
       let is = reading_is node.job k job reading in
       let x : World = closed_world setting w me known c answer seen stored in
       let booked : Books setting x =
@@ -638,14 +661,34 @@ module _ (setting : Setting) (w : World) (me : BrickId) (now known : ℕ) (c : C
       let over : HasNoRead (x.nodes i) = subst HasNoRead (sym here) none_left in
       record {
         stays = books_no_step setting x x.replies me booked;
-        ends = λ told. books_dropped setting x me [] _ booked over;
-        finishes = λ finished. books_dropped setting x me _ _ booked over;
+        ends = λ told. books_dropped setting x me [] (Report.Sync job.group told) booked over;
+        finishes = λ finished.
+            books_dropped setting x me (synced_packets me job.group job.view.number setting.layout.bricks 0) (Report.Sync job.group (synced_answer job.view.number))
+            booked over;
         reads = λ attempt group goes found.
-            (let known' = kept_is setting.layout job.view.members job.group.0 group found in
-            books_read setting x me now (record job { attempt = attempt }) group known'.0 booked (closed_up setting w me known c answer seen stored ∙ mine.up)
-            over known'.1);
+            (let own = kept_is setting.layout job.view.members job.group.0 group found in
+            books_read setting x me now (record job { attempt = attempt }) group own.0 booked (closed_up setting w me known c answer seen stored ∙ mine.up)
+            over own.1 own.2 (reads_on own.0 own.1 attempt goes));
       }
     where
+      -- the next stripe is one of the group
+      reads_on : (group : Group) → group_of setting.layout job.group.0 ≡ Some group → (attempt : Attempt)
+          → job_after c.group.stripes job.attempt (abort_cause answer) ≡ Reads attempt → IsReadable group attempt.stripe
+      reads_on group found attempt goes =
+          let is = reading_is node.job k job reading in
+          let its : JobBooks w i job = books.jobs i job is.0 in
+          let there : w.operations n ≡ Some its.operation =
+          subst (λ (l : ℕ). IsOperation w (number_of w i l) its.operation) is.1 its.operation_is in
+          let one : its.operation ≡ mine.operation = same_Some its.operation mine.operation (sym there ∙ mine.operation_is) in
+          let ask : mine.operation.ask ≡ job_ask job = ap (λ (x : Operation). x.ask) (sym one) ∙ its.ask in
+          let own : OperationBooks setting w n mine.operation = books.operations n mine.operation mine.operation_is in
+          let same : own.group ≡ group =
+          same_Some own.group group (sym own.group_is ∙ ap (λ (a : Ask). group_of setting.layout a.group.0) ask ∙ found) in
+          let readable : IsReadable group job.attempt.stripe =
+          subst (λ (g : Group). IsReadable g job.attempt.stripe) same (subst (λ (a : Ask). IsReadable own.group a.stripe.0) ask own.readable) in
+          next_readable group c.group.stripes job.attempt attempt (abort_cause answer)
+          (mine.stripes group (ap (λ (a : Ask). group_of setting.layout a.group.0) (mine.ask ∙ ask) ∙ found)) readable goes
+
       none_left : HasNoRead (left node.busy)
       none_left one at =
           let is = reading_is node.job k job reading in
@@ -659,8 +702,7 @@ module _ (setting : Setting) (w : World) (me : BrickId) (now known : ℕ) (c : C
       closing_each (Books setting) setting w me now known c next (job_reading node.job k)
       (λ none. books_carried_out next fits (ends_marked next (job_reading node.job k) refl none))
       (λ job reading answer seen stored ends.
-      after_closed job reading answer seen stored (let had : NextFits fresh then' (Ends answer seen stored) = subst (NextFits fresh then') ends fits in had.0)
-      (job_after c.group.stripes job.attempt (abort_cause answer)))
+      after_closed job reading answer seen stored (let had : NextFits fresh then' (Ends answer seen stored) = subst (NextFits fresh then') ends fits in had.0))
 
 -- a brick that may begin to synchronise is up, and does not yet
 sync_up : (setting : Setting) (w : World) (me : BrickId) (group : GroupId) → may_sync setting w me group ≡ true → w.up me.0 ≡ true
@@ -705,6 +747,35 @@ module _ (setting : Setting) (w : World) where
       (once_full setting.layout.block setting.code fresh (with_reply c seat from reply))
       (once_full_fits setting.layout.block setting.code fresh (with_reply c seat from reply))
 
+  -- once a reply ended a read of a synchronisation, before that goes on
+  pub books_closing : (me : BrickId) (now : ℕ) (from : BrickId) (call : Call) (reply : Reply) (c : Coordinator) → Books setting w
+      → IsCall w me.0 c.call.seq c → (job : Job) → job_reading (w.nodes me.0).job c.call.seq ≡ Some job
+      → (answer : Answer) (seen stored : Option Stamp)
+      → (let known = known_after (w.nodes me.0).known reply in
+      on_reply setting.layout.block setting.code (fresh_stamp me c.stamp.view now (w.nodes me.0).boot known) c from call reply ≡ Ends answer seen stored)
+      → Books setting (closed_world setting w me (known_after (w.nodes me.0).known reply) c answer seen stored)
+  unfolding on_reply mine
+  books_closing me now from call reply c books is_call job reading answer seen stored =
+      by (counts_at setting.layout.block c from.0 call reply)
+    where
+      known : ℕ
+      known = known_after (w.nodes me.0).known reply
+
+      fresh : Option Stamp
+      fresh = fresh_stamp me c.stamp.view now (w.nodes me.0).boot known
+
+      by : (seat : Option ℕ) → counted_at setting.layout.block setting.code fresh c from reply seat ≡ Ends answer seen stored
+          → Books setting (closed_world setting w me known c answer seen stored)
+      by None ends = absurd (let never : Ignores ≡ Ends answer seen stored = ends in cc)
+      by (Some seat) ends =
+          let had : NextFits fresh (with_reply c seat from reply) (Ends answer seen stored) =
+          subst (NextFits fresh (with_reply c seat from reply)) ends
+          (once_full_fits setting.layout.block setting.code fresh (with_reply c seat from reply)) in
+          let is = reading_is (w.nodes me.0).job c.call.seq job reading in
+          books_closes setting w me now known c (with_reply c seat from reply).counted books is_call (known_grows (w.nodes me.0).known reply)
+          answer seen stored had.0
+          (call_unmarked setting w me.0 c.call.seq c (books.calls me.0 c.call.seq c is_call) job (books.jobs me.0 job is.0) is.1)
+
   books_replied_at : (me : BrickId) (now : ℕ) (from : BrickId) (call : Call) (reply : Reply)
       (found : Option Coordinator) → Books setting w → (w.nodes me.0).calls call.seq ≡ found
       → Books setting (world_stepped setting w me (replied_at setting me now from (w.nodes me.0) call reply found))
@@ -728,12 +799,12 @@ module _ (setting : Setting) (w : World) where
       let over : HasNoRead (w.nodes me.0) = λ job is. absurd (let never : None ≡ Some job = sym none ∙ is in cc) in
       synced_at_each (λ (step : NodeStep). Books setting (world_stepped setting w me step)) setting me now (w.nodes me.0) group
       (books_no_step setting w w.replies me books)
-      (λ answer. books_silent setting w w.replies me (w.nodes me.0) [] _ books (keeps_itself (w.nodes me.0)))
-      (λ answer. books_dropped setting w me [] _ books over)
+      (λ answer. books_silent setting w w.replies me (w.nodes me.0) [] (Report.Sync group answer ∷ []) books (keeps_itself (w.nodes me.0)))
+      (λ answer. books_dropped setting w me [] (Report.Sync group answer) books over)
       (λ kept is.
       let job : Job = begun_job group ((w.nodes me.0).learnt group.0).view in
       let found = kept_is setting.layout job.view.members group.0 kept is in
-      books_read setting w me now job kept found.0 books (sync_up setting w me group may) over found.1)
+      books_read setting w me now job kept found.0 books (sync_up setting w me group may) over found.1 found.2 (inl refl))
 
 -- a brick that is taught a view keeps its numbers and calls
 pub taught_keeps : (block g : ℕ) (node : Node) (view : Option View) → KeepsCalls node (node_taught_by block g node view)
