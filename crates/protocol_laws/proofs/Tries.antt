@@ -30,6 +30,7 @@ KeepsEnd o p = KeepsAsk o p × ((cause : Option Cause) → o.closed ≡ Some cau
 abbrev pub StaysClosed : Table → Table → Type 0
 StaysClosed operations later = (n : ℕ) (o : Operation) → operations n ≡ Some o → (p : Operation) × (later n ≡ Some p) × KeepsEnd o p
 
+-- as they are, and once more
 pub stays_itself : (operations : Table) → StaysClosed operations operations
 stays_itself operations n o is = (o, is, (keeps_ask o, λ cause at. at))
 
@@ -101,6 +102,7 @@ pub record IsTry (operations : Table) (brick : BrickId) (number : GroupId) (stri
   pub ask : operation.ask ≡ record { group = number; stripe = stripe; op = ReadStripe }
   pub ended : operation.closed ≡ closed
 
+-- it stays so
 try_on : (operations later : Table) (brick : BrickId) (number : GroupId) (stripe : StripeNo) (boot view n : ℕ) (cause : Option Cause) → StaysClosed operations later
     → IsTry operations brick number stripe boot view n (Some cause) → IsTry later brick number stripe boot view n (Some cause)
 try_on operations later brick number stripe boot view n cause stays it =
@@ -163,6 +165,7 @@ pub record AreTried (operations : Table) (numbers : ℕ → ℕ → ℕ → ℕ)
 abbrev pub Tried : World → Type 0
 Tried w = AreTried w.operations w.numbers w.nodes w.choices.reports
 
+-- all of this stays
 module _ (operations later : Table) (stays : StaysClosed operations later) where
   cut_on : (brick : BrickId) (boot : ℕ) (job : Job) (n : ℕ) → WasCut operations brick boot job n → WasCut later brick boot job n
   cut_on brick boot job n (why, it) =

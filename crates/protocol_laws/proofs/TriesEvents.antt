@@ -77,6 +77,7 @@ tried_on w next stays keeps reports tried = record {
 abbrev pub AreWithin : Table → ℕ → Type 0
 AreWithin operations begun = (n : ℕ) (o : Operation) → operations n ≡ Some o → n ≤ begun
 
+-- also once one of them changed
 within_put : (operations : Table) (begun n : ℕ) (after : Option Operation) → AreWithin operations begun → n ≤ begun → AreWithin (put operations n after) begun
 within_put operations begun n after within most m o is = ⊎_elim
     (λ (mine : m ≡ n). (let low : n ≤ begun = most in omega (arith, mine, low)))
@@ -87,6 +88,7 @@ within_put operations begun n after within most m o is = ⊎_elim
 abbrev pub ReportsTried : Table → BrickId → List Report → Type 0
 ReportsTried operations me reports = (j : ℕ) (told : BrickId × Report) → slice_get (reports_of me reports) j ≡ Some told → ReportTried operations told.0 told.1
 
+-- nothing, or one report
 none_reported : (operations : Table) (me : BrickId) → ReportsTried operations me []
 none_reported operations me j told is = cc
 
@@ -127,6 +129,7 @@ module _ (setting : Setting) (w : World) (me : BrickId) (tried : Tried w) where
   quiet_tried node packets reports jobs boot shows =
       step_tried (record { node = node; packets = packets; told = []; answers = []; reports = reports }) (stays_itself w.operations) refl jobs boot shows
 
+  -- nor reports
   still_tried : (node : Node) (packets : List Packet) → node.job ≡ (w.nodes me.0).job → node.boot ≡ (w.nodes me.0).boot
       → Tried (world_stepped setting w me (sending node packets))
   still_tried node packets job boot = quiet_tried node packets [] (λ j is. sym job ∙ is) boot (none_reported w.operations me)
@@ -280,6 +283,7 @@ module _ (setting : Setting) (w : World) (me : BrickId) (tried : Tried w) (withi
   closed_once known c answer stored o is unclosed (Some v) =
       seen_close w.operations w.begun (number_of w me.0 c.call.seq) o (abort_cause answer) v is unclosed within
 
+  -- and the numbers of calls, and how many operations have begun
   closed_numbers : (known : ℕ) (c : Coordinator) (answer : Answer) (stored seen : Option Stamp)
       → ((closed_world setting w me known c answer seen stored).numbers ≡ w.numbers)
       × ((closed_world setting w me known c answer seen stored).begun ≡ w.begun)
@@ -467,9 +471,9 @@ number_kept setting w next books later stays i job has boot =
     let goes = stays (number_of w i job.seq) mine.operation mine.operation_is in
     let own : OperationBooks setting next (number_of w i job.seq) goes.0 = later.operations (number_of w i job.seq) goes.0 goes.1 in
     sym (
-      ap (λ (j : ℕ). next.numbers j goes.0.boot goes.0.seq) (ap (λ (b : BrickId). b.0) goes.2.0.brick ∙ mine.brick)
-      ∙ ap (λ (b : ℕ). next.numbers i b goes.0.seq) (goes.2.0.boot ∙ mine.boot ∙ sym boot)
-      ∙ ap (λ (k : ℕ). next.numbers i (next.nodes i).boot k) (goes.2.0.seq ∙ mine.seq)
+    ap (λ (j : ℕ). next.numbers j goes.0.boot goes.0.seq) (ap (λ (b : BrickId). b.0) goes.2.0.brick ∙ mine.brick)
+    ∙ ap (λ (b : ℕ). next.numbers i b goes.0.seq) (goes.2.0.boot ∙ mine.boot ∙ sym boot)
+    ∙ ap (λ (k : ℕ). next.numbers i (next.nodes i).boot k) (goes.2.0.seq ∙ mine.seq)
     )
     ∙ own.number
 
@@ -483,6 +487,7 @@ invoked_keeps setting me now node ask = by (group_at setting.layout node ask.gro
     by None = (refl, refl)
     by (Some group) = (refl, refl)
 
+-- the events, of a world with its books
 module _ (setting : Setting) (w : World) (books : Books setting w) (tried : Tried w) where
   are_within : AreWithin w.operations w.begun
   are_within n o is = (books.operations n o is).begun
@@ -574,6 +579,7 @@ tried_first setting = record {
   reported = λ k told is. absurd (let never : None ≡ Some told = is in cc);
 }
 
+-- so a run keeps it
 tried_run : (setting : Setting) (events : List Event) (w : World) → ((more : List Event) → Books setting (run setting more w)) → Tried w → Tried (run setting events w)
 tried_run setting [] w known tried = tried
 tried_run setting (event ∷ events) w known tried =
