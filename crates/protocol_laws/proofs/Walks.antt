@@ -1,7 +1,7 @@
 -- The walk along a stripe's effective versions, and why its happenings are strict.
 use Rattle.std.proofs.Common.{◌≡◌, ◌≢◌, ℕ, ◌<◌, ◌≤◌, ◌⊎◌, inl, inr, ⊎_elim, Bool, true, false, not, ◌&&◌, ◌||◌, nat_eq, List, length, get_or, map, Option, Some, None, refl, sym, ap, ◌∙◌, subst, arith}
 use Rattle.std.specs.List.{All, AllPairs, Contains}
-use Rattle.std.proofs.lemmas.Bool.{cases_Bool, cases_eq, cases_lt, both_ways, or_parts, or_left, or_right, or_from, and_from, and_parts, and_cases, ltb-false, ltb-true, lt-ltb}
+use Rattle.std.proofs.lemmas.Bool.{cases_Bool, cases_eq, cases_lt, both_ways, or_parts, or_left, and_from, and_parts, and_cases, ltb-false, ltb-true, lt-ltb}
 use Rattle.std.proofs.lemmas.Option.{none-some, same_Some}
 use Rattle.std.proofs.lemmas.List.Elements.{All-map, All-weaker, All-contains, All-contains_itself}
 use Rattle.std.proofs.lemmas.List.{get_or-map, length-map}
@@ -19,7 +19,7 @@ use Rattle.reg_model.specs.Marks.{Ending, Answered, Interrupted, Unended, Life, 
 use Rattle.reg_model.specs.Strict.{IsAnswered, WasAnswered, IsRead, data_of, after_life, IsStrict}
 use Rattle.reg_model.specs.Registers.{after_op, read_of}
 use Rattle.reg_model.proofs.Bases.{EachNext, IsMadeOn, IsEffective, AreEffective, versions_of}
-use Rattle.reg_model.specs.Walk.{turn_below, entry_below, begin_of, last_of, positioned}
+use Rattle.reg_model.specs.Walk.{turn_below, entry_below, begin_of, last_of}
 use Rattle.reg_model.proofs.WalkFacts.{OnlyReads, HasTurn, IsMade, IsOfVersion, Follows, WalkFacts}
 use Rattle.reg_model.proofs.Chains.{each_next_from_made}
 use Rattle.reg_model.proofs.EntryOrder.{entry_order}
