@@ -3,6 +3,7 @@ pub mod Begins
 pub mod Blocking
 pub mod Books
 pub mod BooksBegins
+pub mod BooksClosing
 pub mod BooksEnds
 pub mod BooksEvents
 pub mod BooksKept
@@ -42,6 +43,7 @@ pub mod Requests
 pub mod Said
 pub mod SaidAlways
 pub mod SaidQuiet
+pub mod SaidReads
 pub mod Sendings
 pub mod Sends
 pub mod Sorting
