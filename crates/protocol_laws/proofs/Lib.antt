@@ -56,6 +56,8 @@ pub mod TalliesCounts
 pub mod TalliesEvents
 pub mod TalliesKept
 pub mod Teaching
+pub mod Tries
+pub mod TriesEvents
 pub mod Votes
 pub mod Tops
 pub mod ViewLaws
