@@ -1,5 +1,5 @@
 -- What a world's books say: operations, calls, numbers and marks agree, at every moment of every run.
-use Rattle.std.proofs.Common.{◌≡◌, ℕ, ◌+◌, ◌<◌, ◌≤◌, true, false, List, Option, Some, None}
+use Rattle.std.proofs.Common.{◌≡◌, ℕ, ◌+◌, ◌<◌, ◌≤◌, ◌⊎◌, true, false, List, Option, Some, None}
 use Rattle.std.specs.Prelude.{slice_get}
 use Rattle.fab_base.specs.declared.stamps.Stamp.{Stamp}
 use Rattle.fab_base.specs.declared.asks.Op.TheVariants.{ReadStripe}
@@ -68,6 +68,10 @@ InRound c (Modifies base j) = Unit {0}
 InRound c (Bases base) = Unit {0}
 InRound c Stores = Unit {0}
 
+-- a stripe of a group; or stripe 0, which a synchronisation reads of any group
+abbrev pub IsReadable : Group → ℕ → Type 0
+IsReadable group stripe = (stripe ≡ 0) ⊎ (stripe < group.stripes)
+
 -- an operation that has marks, and its life in them: it is open while its call is
 pub record LifeBooks (w : World) (o : Operation) : Type 0 where
   pub life : Life
@@ -96,6 +100,7 @@ pub record OperationBooks (setting : Setting) (w : World) (n : ℕ) (o : Operati
   pub group : Group
   pub group_is : group_of setting.layout o.ask.group.0 ≡ Some group
   pub stripe : 1 ≤ o.mark → o.ask.stripe.0 < group.stripes
+  pub readable : IsReadable group o.ask.stripe.0
   pub block_fits : has_block group.m o.ask.op ≡ true
   pub length_fits : has_length group.m setting.layout.block o.ask.op ≡ true
   pub answered_version : o.answered ≡ true → (v : _) × (o.version ≡ Some v)
@@ -120,6 +125,7 @@ pub record CallBooks (setting : Setting) (w : World) (i k : ℕ) (c : Coordinato
   pub call_view : c.call.view ≡ asked_view c.stamp c.phase
   pub stamp_view : operation.view ≡ c.stamp.view.0
   pub call_stripe : c.call.stripe ≡ c.ask.stripe
+  pub stripes : (group : Group) → group_of setting.layout c.ask.group.0 ≡ Some group → c.group.stripes ≡ group.stripes
   pub rounds : (1 ≤ c.round) × (c.round ≤ most_rounds)
   pub in_round : InRound c c.phase
   pub made : MadeInPhase c operation c.phase

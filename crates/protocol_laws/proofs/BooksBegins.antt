@@ -22,7 +22,7 @@ use Rattle.protocol.specs.Jobs.{Job, job_ask}
 use Rattle.protocol.specs.Nodes.{Node, put, has_length, first_phase, coordinator_in, new_coordinator, opened, began_in, phase_packets, reading, read_begun_by, top_at, has_block}
 use Rattle.protocol.specs.Worlds.{World, Choices, Operation, number_of, world_began, world_stepped, with_held, choices_after}
 use Rattle.protocol_laws.specs.Marked.{AreOwnMarks}
-use Rattle.protocol_laws.proofs.Books.{Books, OperationBooks, LifeBooks, UnmarkedBooks, CallBooks, JobBooks, IsOperation, IsCall, IsUnmade, MadeInPhase, InRound}
+use Rattle.protocol_laws.proofs.Books.{Books, IsReadable, OperationBooks, LifeBooks, UnmarkedBooks, CallBooks, JobBooks, IsOperation, IsCall, IsUnmade, MadeInPhase, InRound}
 use Rattle.protocol_laws.proofs.MarkNumbers.{own_more, own_unmarked}
 use Rattle.protocol_laws.proofs.BooksKept.{KeepsRead, HasNoRead, LivesOn, lives_same, operation_kept, call_kept, cases_call, keeps_ask, job_kept, job_called}
 use Rattle.reg_model.proofs.GrowingLives.{Stays, Stays-push, Stays-before, life_of-begin}
@@ -194,7 +194,7 @@ module _ (setting : Setting) (w : World) (brick : BrickId) (now : ℕ) (ask : As
           (λ x at. (x, old_operations (number_of w j job.seq) (old_apart (number_of w j job.seq) x at) ∙ at, keeps_ask x))
 
       module _ (group : Group) (block_fits : has_block group.m ask.op ≡ true) (group_is : group_of setting.layout ask.group.0 ≡ Some group)
-          (stripe : 1 ≤ mark → ask.stripe.0 < group.stripes) (up : w.up brick.0 ≡ true) (fits : has_length group.m setting.layout.block ask.op ≡ true)
+          (stripes : kept.stripes ≡ group.stripes) (stripe : 1 ≤ mark → ask.stripe.0 < group.stripes) (readable : IsReadable group ask.stripe.0) (up : w.up brick.0 ≡ true) (fits : has_length group.m setting.layout.block ask.op ≡ true)
           (others : (m : ℕ) (x : Operation) → IsOperation w m x
           → LivesOn w (opened_world w brick.0 after held packets marks marked (opened_operation w brick ask view mark floor) choices) x)
           (lived : 1 ≤ mark → LifeBooks (opened_world w brick.0 after held packets marks marked (opened_operation w brick ask view mark floor) choices)
@@ -213,6 +213,7 @@ module _ (setting : Setting) (w : World) (brick : BrickId) (now : ℕ) (ask : As
           group = group;
           group_is = group_is;
           stripe = stripe;
+          readable = readable;
           block_fits = block_fits;
           length_fits = fits;
           answered_version = λ is. absurd (let never : false ≡ true = is in cc);
@@ -243,6 +244,7 @@ module _ (setting : Setting) (w : World) (brick : BrickId) (now : ℕ) (ask : As
           call_group = refl;
           call_view = begun_view c (first_ahead ask.op) refl;
           call_stripe = refl;
+          stripes = λ own is. (let same : group ≡ own = same_Some group own (sym group_is ∙ is) in stripes ∙ ap (λ (g : Group). g.stripes) same);
           rounds = (omega arith, omega arith);
           in_round = fresh_round c ask.op refl refl;
           made = fresh_made c o ask.op (refl, refl, refl);
@@ -412,7 +414,7 @@ module _ (setting : Setting) (w : World) (brick : BrickId) (now : ℕ) (ask : As
     pub books_began : Books setting begun
     books_began =
         books_opened setting w brick now ask members learnt_view (opened (w.nodes brick.0) its) w.held ahead more (w.marked + 1) (w.marked + 1) floors w.choices begin_opens
-        books group block_fits group_is (λ some. stripe) up fits old_lives (λ some. own_life) (λ none. absurd (omega arith))
+        books group block_fits group_is refl (λ some. stripe) (inr stripe) up fits old_lives (λ some. own_life) (λ none. absurd (omega arith))
         (λ some life is.
         subst (λ (l : Life). IsOpen (Some l)) (same_Some fresh_life life (sym life_began ∙ is)) tt)
         (λ none. absurd (omega arith))
@@ -431,7 +433,8 @@ module _ (setting : Setting) (w : World) (brick : BrickId) (now : ℕ) (ask : As
 
 -- a read of a synchronisation, which has none
 module _ (setting : Setting) (w : World) (me : BrickId) (now : ℕ) (job : Job) (kept group : Group) (books : Books setting w) (up : w.up me.0 ≡ true)
-    (ended : HasNoRead (w.nodes me.0)) (group_is : group_of setting.layout job.group.0 ≡ Some group) where
+    (ended : HasNoRead (w.nodes me.0)) (group_is : group_of setting.layout job.group.0 ≡ Some group) (stripes : kept.stripes ≡ group.stripes)
+    (readable : IsReadable group job.attempt.stripe) where
   abbrev reader : Coordinator
   reader = coordinator_in kept job.view me now (w.nodes me.0) (job_ask job)
 
@@ -491,7 +494,7 @@ module _ (setting : Setting) (w : World) (me : BrickId) (now : ℕ) (job : Job) 
   pub books_read : Books setting read_world
   books_read =
       books_opened setting w me now (job_ask job) kept job.view reading_node read_held read_packets w.marks w.marked 0 read_floors read_choices read_opens
-      books group refl group_is (λ some. absurd (omega arith)) up refl (λ m x is. lives_same w read_world x refl) (λ some. absurd (omega arith)) (λ none. refl)
+      books group refl group_is stripes (λ some. absurd (omega arith)) readable up refl (λ m x is. lives_same w read_world x refl) (λ some. absurd (omega arith)) (λ none. refl)
       (λ some. absurd (omega arith)) (λ none. (record job { seq = (w.nodes me.0).seq + 1 }, refl, refl))
       books.well_formed books.places
       (own_unmarked w.marked w.operations books.own w.begun (λ m x is. (books.operations m x is).begun) read_operation refl)

@@ -20,7 +20,7 @@ use Rattle.protocol.specs.declared.phases.Counted.{Counted}
 use Rattle.protocol.specs.Coordinators.{Coordinator}
 use Rattle.protocol.specs.Nodes.{Node, has_length, no_calls, stopped, has_block}
 use Rattle.protocol.specs.Worlds.{World, Operation, is_answer, number_of, world_stopped, Choices}
-use Rattle.protocol_laws.proofs.Books.{Books, OperationBooks, LifeBooks, UnmarkedBooks, CallBooks, IsOperation, IsCall}
+use Rattle.protocol_laws.proofs.Books.{Books, IsReadable, OperationBooks, LifeBooks, UnmarkedBooks, CallBooks, IsOperation, IsCall}
 use Rattle.protocol_laws.proofs.MarkNumbers.{cases_marked, own_by, other_mark}
 use Rattle.protocol_laws.proofs.BooksKept.{KeepsNumbers, KeepsAsk, keeps_ask, LivesOn, lives_same, job_kept, operation_stays, operation_kept, call_kept, number_at, calls_apart, cases_call, keeps_all}
 use Rattle.reg_model.proofs.GrowingLives.{Stays-push, Stays-crash, life_onward, life_of-append, lived_before_crash, cases_open, unended_not_answered, with_ending, life_of-end, life_of-crash}
@@ -148,6 +148,7 @@ module _ (setting : Setting) (w : World) (i k : ℕ) (c : Coordinator) (before o
       group_is = ap (λ (a : Ask). group_of setting.layout a.group.0) ended.same.ask ∙ own.group_is;
       stripe = λ from. subst (λ (a : Ask). a.stripe.0 < own.group.stripes) (sym ended.same.ask)
           (own.stripe (let mark : o.mark ≡ before.mark = ended.same.mark in omega arith));
+      readable = subst (λ (a : Ask). IsReadable own.group a.stripe.0) (sym ended.same.ask) own.readable;
       block_fits = ap (λ (a : Ask). has_block own.group.m a.op) ended.same.ask ∙ own.block_fits;
       length_fits = ap (λ (a : Ask). has_length own.group.m setting.layout.block a.op) ended.same.ask ∙ own.length_fits;
       answered_version = ended.answered_version;
@@ -385,6 +386,7 @@ module _ (setting : Setting) (w : World) (brick : BrickId) (during : Option ℕ)
         group = mine.group;
         group_is = mine.group_is;
         stripe = mine.stripe;
+        readable = mine.readable;
         block_fits = mine.block_fits;
         length_fits = mine.length_fits;
         answered_version = mine.answered_version;

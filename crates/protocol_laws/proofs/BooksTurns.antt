@@ -11,7 +11,7 @@ use Rattle.protocol.specs.declared.phases.Counted.{Counted}
 use Rattle.protocol.specs.Coordinators.{Coordinator, most_rounds, asked_view}
 use Rattle.protocol.specs.Nodes.{Node}
 use Rattle.protocol.specs.Worlds.{World, Operation, number_of, Choices}
-use Rattle.protocol_laws.proofs.Books.{Books, OperationBooks, LifeBooks, UnmarkedBooks, CallBooks, IsOperation, IsCall, MadeInPhase, InRound}
+use Rattle.protocol_laws.proofs.Books.{Books, IsReadable, OperationBooks, LifeBooks, UnmarkedBooks, CallBooks, IsOperation, IsCall, MadeInPhase, InRound}
 use Rattle.protocol_laws.proofs.MarkNumbers.{own_by}
 use Rattle.protocol_laws.proofs.BooksKept.{KeepsNumbers, KeepsAsk, keeps_ask, lives_same, operation_kept, call_kept, job_kept, number_at, calls_apart, cases_call}
 use Rattle.protocol_laws.proofs.Outcomes.{SameOperation}
@@ -130,6 +130,9 @@ module _ (setting : Setting) (w : World) (i k : ℕ) (c d : Coordinator) (before
         call_group = turned.same.group ∙ call.call_group ∙ sym (ap (λ a. a.group) turned.same.ask);
         call_view = turned.call_view;
         call_stripe = turned.same.stripe ∙ call.call_stripe ∙ sym (ap (λ a. a.stripe) turned.same.ask);
+        stripes = λ group is.
+            ap (λ (g : Group). g.stripes) turned.same.members
+            ∙ call.stripes group (sym (ap (λ a. Rattle.fab_base.specs.Layouts.group_of setting.layout a.group.0) turned.same.ask) ∙ is);
         rounds = turned.rounds;
         in_round = turned.in_round;
         made = turned.made;
@@ -207,6 +210,7 @@ module _ (setting : Setting) (w : World) (i k : ℕ) (c d : Coordinator) (before
         group = own.group;
         group_is = ap (λ a. Rattle.fab_base.specs.Layouts.group_of setting.layout a.group.0) ask ∙ own.group_is;
         stripe = λ from. subst (λ a. a.stripe.0 < own.group.stripes) (sym ask) (own.stripe (let mark : o.mark ≡ before.mark = turned.same_ask.mark in omega arith));
+        readable = subst (λ a. IsReadable own.group a.stripe.0) (sym ask) own.readable;
         block_fits = ap (λ a. Rattle.protocol.specs.Nodes.has_block own.group.m a.op) ask ∙ own.block_fits;
         length_fits = ap (λ a. Rattle.protocol.specs.Nodes.has_length own.group.m setting.layout.block a.op) ask ∙ own.length_fits;
         answered_version = λ is. absurd (both_ways o.answered never is);

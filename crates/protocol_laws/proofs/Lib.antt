@@ -57,6 +57,8 @@ pub mod TalliesEvents
 pub mod TalliesKept
 pub mod TalliesReads
 pub mod Teaching
+pub mod Tries
+pub mod TriesEvents
 pub mod Votes
 pub mod Tops
 pub mod ViewLaws
