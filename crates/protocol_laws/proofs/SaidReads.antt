@@ -153,7 +153,10 @@ module _ (setting : Setting) (views : Views) (w : World) (stamps : Stamping) (me
         (λ to s group at within.
         let same = layouts group at in
         let most = ended.1 in
-        let had = kept_through ended.0 s (omega (arith, within, same, most)) in (
+        let had = kept_through ended.0 s (⊎_elim
+        (λ (first : s ≡ 0). omega (arith, first))
+        (λ (inside : s < group.stripes). omega (arith, inside, same, most))
+        within) in (
           had.0,
           had.1,
           (λ z z_is. stands_stays w (quiet w me (with_job (w.nodes me.0) None) more) (idle_parts more none) job.group.0 s z had.0 (had.2 z z_is)),

@@ -804,7 +804,6 @@ module _ (setting : Setting) (w : World) (me : BrickId) (now known : ℕ) (c : C
       by : (z : Option Operation) → with_closed cause z ≡ Some e → e.closed ≡ Some (Some why) → cause ≡ Some why
       by None at ended = absurd (let never : None ≡ Some e = at in cc)
       by (Some d) at ended =
-          let as : Option (Option Cause) = Some cause in
           same_Some cause (Some why)
           (ap (λ (z : Operation). z.closed) (same_Some (record d { closed = Some cause; answered = not (is_some cause) }) e at) ∙ ended)
 

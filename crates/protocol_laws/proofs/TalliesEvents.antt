@@ -118,7 +118,7 @@ module _ (setting : Setting) (w : World) (books : Books setting w) (tallied : Ta
       known : ℕ
       known = known_after (w.nodes me.0).known reply
 
-      abbrev IsTalliedNext : World → Type 0
+      IsTalliedNext : World → Type 0
       IsTalliedNext next = MessagesShow next → Tallied next
 
       fresh : Coordinator → Option Stamp
