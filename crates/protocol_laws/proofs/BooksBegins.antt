@@ -127,10 +127,10 @@ module _ (setting : Setting) (w : World) (brick : BrickId) (now : ℕ) (ask : As
     abbrev later : World
     later = opened_world w i after held packets marks marked o choices
 
-    new_call : (later.nodes i).calls k ≡ Some c
+    pub new_call : (later.nodes i).calls k ≡ Some c
     new_call = ap (λ (x : Node). x.calls k) (put_same w.nodes i after) ∙ ap (λ (f : ℕ → Option Coordinator). f k) opens.calls ∙ put_same node.calls k (Some c)
 
-    old_calls : (j l : ℕ) → (j ≡ i → l ≡ k → ⊥) → (later.nodes j).calls l ≡ (w.nodes j).calls l
+    pub old_calls : (j l : ℕ) → (j ≡ i → l ≡ k → ⊥) → (later.nodes j).calls l ≡ (w.nodes j).calls l
     old_calls j l other = put_each (λ (x : ℕ) (y : Node). (x ≡ i → l ≡ k → ⊥) → y.calls l ≡ (w.nodes x).calls l) w.nodes i after
         (λ apart. ap (λ (f : ℕ → Option Coordinator). f l) opens.calls ∙ put_other node.calls k (Some c) l (λ same. apart refl same)) (λ x at apart. refl) j other
 
@@ -147,26 +147,26 @@ module _ (setting : Setting) (w : World) (brick : BrickId) (now : ℕ) (ask : As
         (λ x at apart. refl) j other
 
     -- no brick starts
-    boots_stay : (j : ℕ) → (later.nodes j).boot ≡ (w.nodes j).boot
+    pub boots_stay : (j : ℕ) → (later.nodes j).boot ≡ (w.nodes j).boot
     boots_stay j = put_each (λ (x : ℕ) (y : Node). y.boot ≡ (w.nodes x).boot) w.nodes i after opens.boot (λ x at. refl) j
 
     -- the number of the new call, and of another
-    new_at : number_of later i k ≡ n
+    pub new_at : number_of later i k ≡ n
     new_at = ap (λ (b : ℕ). later.numbers i b k) (boots_stay i) ∙ new_number
 
-    old_at : (j l : ℕ) → (j ≡ i → l ≡ k → ⊥) → number_of later j l ≡ number_of w j l
+    pub old_at : (j l : ℕ) → (j ≡ i → l ≡ k → ⊥) → number_of later j l ≡ number_of w j l
     old_at j l other = ap (λ (b : ℕ). later.numbers j b l) (boots_stay j) ∙ old_numbers j (w.nodes j).boot l (λ at boot seq. other at seq)
 
     new_operation : later.operations n ≡ Some o
     new_operation = put_same w.operations n (Some o)
 
-    old_operations : (m : ℕ) → m ≢ n → later.operations m ≡ w.operations m
+    pub old_operations : (m : ℕ) → m ≢ n → later.operations m ≡ w.operations m
     old_operations m other = put_other w.operations n (Some o) m other
 
     seqs : (j : ℕ) → (w.nodes j).seq ≤ (later.nodes j).seq
     seqs j = put_each (λ (x : ℕ) (y : Node). (w.nodes x).seq ≤ y.seq) w.nodes i after (let e : after.seq ≡ k = opens.seq in omega arith) (λ x at. omega arith) j
 
-    times : (j : ℕ) → (w.nodes j).known ≤ (later.nodes j).known
+    pub times : (j : ℕ) → (w.nodes j).known ≤ (later.nodes j).known
     times j = put_each (λ (x : ℕ) (y : Node). (w.nodes x).known ≤ y.known) w.nodes i after
         (let e : after.known ≡ c.stamp.time = opens.known in omega arith) (λ x at. omega arith) j
 

@@ -17,6 +17,8 @@ use Rattle.protocol.proofs.Tables.{put_same}
 use Rattle.view_laws.proofs.SyncReads.{read_call, read_each}
 use Rattle.protocol_laws.proofs.Hearing.{stepped_then}
 use Rattle.protocol_laws.proofs.Tops.{KeepsPlaces}
+use Rattle.protocol_laws.proofs.BooksKept.{HasNoRead}
+use Rattle.std.proofs.lemmas.Option.{same_Some}
 
 -- What holds of a world that a brick's step leaves, which follows a read that was closed: the world is the one that the close left, and the step does nothing, ends the
 -- synchronisation, where that has read all stripes or for another cause, or begins another read.
@@ -77,6 +79,16 @@ module _ (setting : Setting) (w : World) (me : BrickId) (now known : ℕ) (c : C
       ap (λ (n : Node). world_stepped setting x me (job_goes setting me now n job next)) (put_same w.nodes me.0 step.node)
       ∙ stepped_then setting w me step.node step.packets step.told (job_goes setting me now step.node job next) (begins_none seen) refl
       (goes_keeps setting me now step.node job next)
+
+-- the brick has no read of its synchronisation open then
+pub closed_no_read : (setting : Setting) (w : World) (me : BrickId) (known : ℕ) (c : Coordinator) (answer : Answer) (seen stored : Option Stamp) (job : Job)
+    → (w.nodes me.0).job ≡ Some job → job.seq ≡ c.call.seq → HasNoRead ((closed_world setting w me known c answer seen stored).nodes me.0)
+closed_no_read setting w me known c answer seen stored job is seq =
+    let node : Node = (closes w me known c answer seen stored).node in
+    subst (λ (n : Node). HasNoRead n) (sym (put_same w.nodes me.0 node))
+    (λ j at.
+    let same : job ≡ j = same_Some job j (sym is ∙ at) in
+    ap (put (w.nodes me.0).calls c.call.seq None) (ap (λ (z : Job). z.seq) (sym same) ∙ seq) ∙ put_same (w.nodes me.0).calls c.call.seq None)
 
 -- it is no read of a synchronisation that ends
 abbrev pub ClosesNone : Option Job → Next → Type 0

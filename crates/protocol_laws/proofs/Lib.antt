@@ -55,6 +55,7 @@ pub mod Tallies
 pub mod TalliesCounts
 pub mod TalliesEvents
 pub mod TalliesKept
+pub mod TalliesReads
 pub mod Teaching
 pub mod Tries
 pub mod TriesEvents

@@ -39,7 +39,7 @@ use Rattle.protocol.specs.Worlds.{World, Operation, zero_content}
 use Rattle.protocol.specs.Happenings.{writes}
 use Rattle.fab_base.specs.Layouts.{brick_at}
 use Rattle.protocol_laws.specs.Laws.{WasSent, RequestSent, AskedAt, AtQuorum, IsModified, stamp_stored, IsGuarded, IsBlocked, top_in, part_in, first_kept_in}
-use Rattle.protocol_laws.proofs.Books.{IsOperation, IsCall}
+use Rattle.protocol_laws.proofs.Books.{IsOperation, IsCall, IsReadable}
 use Rattle.protocol_laws.proofs.Blocking.{LogsFit}
 use Rattle.protocol_laws.proofs.Logs.{IsWithin}
 use Rattle.protocol.proofs.Blocks.{IsContent}
@@ -345,9 +345,9 @@ module _ (setting : Setting) (views : Views) (w : World) where
   ReplySays stamps from to call (Reply.Old found) = OldSays stamps from.0 to.0 call found
   ReplySays stamps from to call reply = Unit {0}
 
-  -- each stripe of the group has a version of the view that stands
+  -- each stripe of the group, and stripe 0, has a version of the view that stands
   abbrev pub SyncedSays : ℕ → ℕ → Type 0
-  SyncedSays g e = (s : ℕ) (group : Group) → group_of setting.layout g ≡ Some group → s < group.stripes
+  SyncedSays g e = (s : ℕ) (group : Group) → group_of setting.layout g ≡ Some group → IsReadable group s
       → (v : Stamp) × (view_of v ≡ e) × Stands setting views w g s v
 
   abbrev pub MessageSays : Stamping → BrickId → BrickId → Message → Type 0

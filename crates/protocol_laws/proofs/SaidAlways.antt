@@ -339,7 +339,7 @@ module _ (setting : Setting) (views : Views) (w : World) (stamps : Stamping) (bo
       said_kept setting views w stamps me books said (w.after me.0) (left_said me (w.after me.0) sound (leaves me.0 down))
 
 -- a brick that may begin a synchronisation has none
-no_job : (job : Option Job) (group : Option Group) → not (is_some (sync_refusal_in job group)) ≡ true → job ≡ None
+pub no_job : (job : Option Job) (group : Option Group) → not (is_some (sync_refusal_in job group)) ≡ true → job ≡ None
 no_job None group may = refl
 no_job (Some job) None may = absurd (false≢true may)
 no_job (Some job) (Some group) may = absurd (false≢true may)

@@ -27,7 +27,7 @@ use Rattle.protocol_laws.proofs.Blocking.{PartsStay, stands_stays}
 use Rattle.protocol_laws.proofs.Books.{Books, CallBooks, JobBooks, IsCall, IsOperation}
 use Rattle.protocol_laws.proofs.BooksKept.{KeepsNumbers, KeepsJob, HasNoRead, keeps_all, keeps_itself, reading_is, call_unmarked}
 use Rattle.protocol_laws.proofs.BooksQuiet.{books_quiet}
-use Rattle.protocol_laws.proofs.Closing.{AfterClose, closes, closed_world}
+use Rattle.protocol_laws.proofs.Closing.{AfterClose, closes, closed_world, closed_no_read}
 use Rattle.protocol_laws.proofs.Begins.{said_read}
 use Rattle.protocol_laws.proofs.Ends.{EndsWell, read_stands, said_closed, closed_stands}
 use Rattle.protocol_laws.proofs.Replies.{said_known}
@@ -153,7 +153,10 @@ module _ (setting : Setting) (views : Views) (w : World) (stamps : Stamping) (me
         (λ to s group at within.
         let same = layouts group at in
         let most = ended.1 in
-        let had = kept_through ended.0 s (omega (arith, within, same, most)) in (
+        let had = kept_through ended.0 s (⊎_elim
+        (λ (first : s ≡ 0). omega (arith, first))
+        (λ (inside : s < group.stripes). omega (arith, inside, same, most))
+        within) in (
           had.0,
           had.1,
           (λ z z_is. stands_stays w (quiet w me (with_job (w.nodes me.0) None) more) (idle_parts more none) job.group.0 s z had.0 (had.2 z z_is)),
@@ -164,8 +167,9 @@ module _ (setting : Setting) (views : Views) (w : World) (stamps : Stamping) (me
     pub said_after_close : AfterClose (IsSaid setting views) setting w me now job (job_after stripes job.attempt cause)
     said_after_close = record {
       stays = (stamps, said_known setting views w stamps me (w.nodes me.0).known books said (omega arith));
-      ends = λ answer. (stamps, said_jobless [] none _ (each_none (PacketSays setting views _ stamps)));
-      finishes = λ goes. (stamps, said_jobless (synced_packets me job.group job.view.number setting.layout.bricks 0) none _ (synced_says goes));
+      ends = λ answer. (stamps, said_jobless [] none (Report.Sync job.group answer ∷ []) (each_none (PacketSays setting views _ stamps)));
+      finishes = λ goes. (stamps, said_jobless (synced_packets me job.group job.view.number setting.layout.bricks 0) none
+          (Report.Sync job.group (synced_answer job.view.number) ∷ []) (synced_says goes));
       reads = λ attempt group goes kept.
           said_read setting views w stamps me now (record job { attempt = attempt }) group books said (next_says attempt goes) kept;
     }
@@ -241,15 +245,6 @@ module _ (setting : Setting) (views : Views) (w : World) (stamps : Stamping) (me
   group_is : job.group.0 ≡ c.call.group.0
   group_is = ap (λ (a : Ask). a.group.0) (sym ask_is) ∙ ap (λ (a : Ask). a.group.0) (sym its.ask) ∙ ap (λ g. g.0) (sym its.call_group)
 
-  -- the brick has no read open then
-  none_open : HasNoRead (x.nodes me.0)
-  none_open =
-      let node : Node = (closes w me known c answer seen stored).node in
-      subst (λ (n : Node). HasNoRead n) (sym (put_same w.nodes me.0 node))
-      (λ j at.
-      let same : job ≡ j = same_Some job j (sym its_job.0 ∙ at) in
-      ap (put (w.nodes me.0).calls c.call.seq None) (ap (λ (z : Job). z.seq) (sym same) ∙ its_job.1) ∙ put_same (w.nodes me.0).calls c.call.seq None)
-
   module _ (well : EndsWell setting views w o answer seen stored) (books_x : Books setting x) where
     -- where it was answered, a version of its stripe stands
     reads_one : abort_cause answer ≡ None → IsKept setting views x job.group.0 job.view.number.0 job.attempt.stripe
@@ -264,5 +259,6 @@ module _ (setting : Setting) (views : Views) (w : World) (stamps : Stamping) (me
         said_after_close setting views x stamps me now books_x
         (said_closed setting views w stamps me c known books said is more_known answer seen stored read_unmarked well)
         job c.group.stripes (abort_cause answer)
-        (ap (λ (n : Node). n.job) (put_same w.nodes me.0 (closes w me known c answer seen stored).node) ∙ its_job.0) none_open
+        (ap (λ (n : Node). n.job) (put_same w.nodes me.0 (closes w me known c answer seen stored).node) ∙ its_job.0)
+        (closed_no_read setting w me known c answer seen stored job its_job.0 its_job.1)
         (stripes_are setting views w stamps said me.0 c.call.seq c is job.group.0 group_is) reads_one

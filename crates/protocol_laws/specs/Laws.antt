@@ -244,6 +244,13 @@ pub record Sending (setting : Setting) (w : World) (k : ℕ) : Type 0 where
   pub unsent : length moment.packets ≤ k
   pub sent : k < length (happens setting moment event).packets
 
+-- Operation n has not ended: its marks show no end, or it has no marks and was not closed.
+pub record HasNotEnded (w : World) (n : ℕ) : Type 0 where
+  pub operation : Operation
+  pub is : w.operations n ≡ Some operation
+  pub marked : 1 ≤ operation.mark → IsOpen (life_of w.marks operation.mark)
+  pub unmarked : operation.mark ≡ 0 → operation.closed ≡ None
+
 -- Each request to store a version was sent at a moment when a quorum of its view took nothing below it, and the operation of its call had not ended.
 abbrev pub WritesWereGuarded : Setting → Views → World → Type 0
 WritesWereGuarded setting views w =
@@ -251,7 +258,7 @@ WritesWereGuarded setting views w =
     → slice_get w.packets k ≡ Some (record { from = from; to = to; message = Message.Request call request }) → stamp_stored request ≡ Some version
     → group_in setting.layout views call.group.0 (view_of version) ≡ Some group
     → (sending : Sending setting w k) × IsGuarded sending.moment call.group.0 call.stripe.0 group version
-    × IsOpen (life_of sending.moment.marks (mark_of sending.moment (sending.moment.numbers from.0 call.boot call.seq)))
+    × HasNotEnded sending.moment (sending.moment.numbers from.0 call.boot call.seq)
 
 -- each refusal was true of the member that told it when it was sent
 abbrev pub RefusalsWereTrue : Setting → World → Type 0
