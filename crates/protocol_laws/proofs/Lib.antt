@@ -3,7 +3,6 @@ pub mod Begins
 pub mod Blocking
 pub mod Books
 pub mod BooksBegins
-pub mod BooksClosing
 pub mod BooksEnds
 pub mod BooksEvents
 pub mod BooksKept

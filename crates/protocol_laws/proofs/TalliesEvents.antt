@@ -43,7 +43,7 @@ use Rattle.fab_base.specs.declared.identities.ViewNo.{ViewNo}
 use Rattle.view_laws.proofs.Syncing.{synced_each}
 use Rattle.protocol_laws.proofs.BooksQuiet.{quiet_world, started_calls, unstarted, started_known}
 use Rattle.protocol_laws.proofs.BooksEnds.{stopped_keeps, stopped_calls, unstopped_calls}
-use Rattle.protocol_laws.proofs.BooksEvents.{keeps_put, stepped, known_grows, BeginFits, begin_fits, found_keeps, books_found, books_kept, hearing_keeps, learnt_keeps, start_fits, books_beside, books, group_there, fits_at}
+use Rattle.protocol_laws.proofs.BooksEvents.{keeps_put, stepped, known_grows, BeginFits, begin_fits, found_keeps, books_found, books_kept, hearing_keeps, learnt_keeps, start_fits, books_beside, books, group_there, fits_at, books_closing}
 use Rattle.protocol_laws.proofs.Outcomes.{NextFits, once_full_fits}
 use Rattle.protocol_laws.proofs.Said.{Stamping, Said, IsSaid, CountedSays}
 use Rattle.protocol_laws.proofs.SaidAlways.{always_said, follows_front, no_job}
@@ -55,7 +55,6 @@ use Rattle.protocol_laws.proofs.Tallies.{Tallied, MessagesShow}
 use Rattle.protocol_laws.proofs.TalliesKept.{call_tallied_on, known_kept, tallied_on}
 use Rattle.protocol_laws.proofs.TalliesReads.{tallied_quiet, tallied_opened, tallied_read, tallied_idle, tallied_after_close}
 use Rattle.protocol_laws.proofs.Closing.{ClosesNone, closing_each, closed_world, closed_no_read}
-use Rattle.protocol_laws.proofs.BooksClosing.{books_closing}
 use Rattle.view_laws.proofs.SyncReads.{synced_at_each}
 use Rattle.protocol_laws.proofs.TalliesCounts.{dropper_ahead, tallied_counted, tallied_closed}
 use Rattle.protocol.proofs.Events.{EventCases, world_handled, run_along}
