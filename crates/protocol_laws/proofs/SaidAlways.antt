@@ -33,7 +33,7 @@ use Rattle.protocol_laws.specs.Laws.{WasSent, Follows, RunFollows}
 use Rattle.protocol_laws.proofs.Books.{Books, IsCall}
 use Rattle.protocol_laws.proofs.Left.{IsLeft, kept_of, Leaves, always_leaves, packet_was_sent}
 use Rattle.protocol_laws.proofs.Said.{Stamping, Said, IsSaid, IsStampOf, VersionSays, PacketSays, WasCollected, IsMadeOrFirst, IsBottom}
-use Rattle.protocol_laws.proofs.BooksEvents.{known_grows, fresh_is, BeginFits, begin_fits, start_fits, books_closing, books_found, books, books_beside, books_kept, hearing_keeps, group_there, fits_at}
+use Rattle.protocol_laws.proofs.BooksEvents.{known_grows, fresh_is, BeginFits, begin_fits, start_fits, books_found, books, books_beside, books_kept, hearing_keeps, group_there, fits_at, books_closing}
 use Rattle.protocol.proofs.Tables.{put_same, get_one, get_kept, get_grown}
 use Rattle.reg_model.proofs.GrowingLives.{last_grows}
 use Rattle.protocol_laws.proofs.Stampings.{ages_within, stamps_same}

@@ -43,7 +43,7 @@ use Rattle.fab_base.specs.declared.identities.ViewNo.{ViewNo}
 use Rattle.view_laws.proofs.Syncing.{synced_each}
 use Rattle.protocol_laws.proofs.BooksQuiet.{quiet_world, started_calls, unstarted, started_known}
 use Rattle.protocol_laws.proofs.BooksEnds.{stopped_keeps, stopped_calls, unstopped_calls}
-use Rattle.protocol_laws.proofs.BooksEvents.{keeps_put, stepped, known_grows, BeginFits, begin_fits, found_keeps, books_closing, books_found, books_kept, hearing_keeps, learnt_keeps, start_fits, books_beside, books, group_there, fits_at}
+use Rattle.protocol_laws.proofs.BooksEvents.{keeps_put, stepped, known_grows, BeginFits, begin_fits, found_keeps, books_found, books_kept, hearing_keeps, learnt_keeps, start_fits, books_beside, books, group_there, fits_at, books_closing}
 use Rattle.protocol_laws.proofs.Outcomes.{NextFits, once_full_fits}
 use Rattle.protocol_laws.proofs.Said.{Stamping, Said, IsSaid, CountedSays}
 use Rattle.protocol_laws.proofs.SaidAlways.{always_said, follows_front, no_job}
