@@ -1,5 +1,5 @@
 -- A brick begins an operation, with a stamp that no part of any stripe has.
-use Rattle.std.proofs.Common.{◌≡◌, ℕ, ◌+◌, ◌-◌, ◌≤◌, ◌⊎◌, inl, inr, Bool, true, false, not, List, [], ◌∷◌, ◌++◌, length, Option, Some, None, refl, sym, ap, ◌∙◌, subst, ⊎_elim, arith, ◌<◌}
+use Rattle.std.proofs.Common.{◌≡◌, ℕ, ◌+◌, ◌-◌, ◌≤◌, ◌⊎◌, inl, inr, Bool, false, not, List, [], ◌∷◌, ◌++◌, length, Option, Some, None, refl, sym, ap, ◌∙◌, subst, ⊎_elim, arith, ◌<◌}
 use Rattle.std.proofs.Math.Path.{fun_ext}
 use Rattle.std.proofs.lemmas.Option.{same_Some}
 use Rattle.std.specs.Prelude.{slice_get}
@@ -16,7 +16,7 @@ use Rattle.fab_base.specs.declared.asks.Op.TheVariants.{ReadBlock, WriteBlock, R
 use Rattle.messages.specs.declared.packets.Packet.{Packet}
 use Rattle.reg_model.specs.declared.marks.Mark.{Mark}
 use Rattle.reg_model.specs.declared.marks.Mark.TheVariants.{Begin, End}
-use Rattle.reg_model.specs.Marks.{life_of, position_of}
+use Rattle.reg_model.specs.Marks.{life_of}
 use Rattle.reg_model.specs.Walk.{last_of}
 use Rattle.fab_base.specs.Layouts.{Group, brick_at}
 use Rattle.protocol.specs.Views.{Views, group_in, group_kept, view_of, floor_of}
@@ -482,8 +482,8 @@ module _ (setting : Setting) (views : Views) (w : World) (stamps : Stamping) (me
         passed = λ e s z least less z_is.
             guarded_stays w read_world read_parts.tops job.group.0 s z (floor_of (e + 1)) (says.passed e s z least less z_is);
         read = λ s before. let had = says.read s before in (
-            had.0,
-            had.1,
-            (λ z z_is. stands_stays w read_world read_parts job.group.0 s z had.0 (had.2 z z_is)),
-          );
+          had.0,
+          had.1,
+          (λ z z_is. stands_stays w read_world read_parts job.group.0 s z had.0 (had.2 z z_is)),
+        );
       })))

@@ -22,7 +22,7 @@ use Rattle.protocol.specs.Jobs.{Job, job_ask}
 use Rattle.protocol.specs.Nodes.{Node, put, has_length, first_phase, coordinator_in, new_coordinator, opened, began_in, phase_packets, reading, read_begun_by, top_at, has_block}
 use Rattle.protocol.specs.Worlds.{World, Choices, Operation, number_of, world_began, world_stepped, with_held, choices_after}
 use Rattle.protocol_laws.specs.Marked.{AreOwnMarks}
-use Rattle.protocol_laws.proofs.Books.{Books, IsReadable, OperationBooks, LifeBooks, UnmarkedBooks, CallBooks, JobBooks, IsOperation, IsCall, IsUnmade, MadeInPhase, InRound}
+use Rattle.protocol_laws.proofs.Books.{Books, IsReadable, OperationBooks, LifeBooks, CallBooks, JobBooks, IsOperation, IsCall, IsUnmade, MadeInPhase, InRound}
 use Rattle.protocol_laws.proofs.MarkNumbers.{own_more, own_unmarked}
 use Rattle.protocol_laws.proofs.BooksKept.{KeepsRead, HasNoRead, LivesOn, lives_same, operation_kept, call_kept, cases_call, keeps_ask, job_kept, job_called}
 use Rattle.reg_model.proofs.GrowingLives.{Stays, Stays-push, Stays-before, life_of-begin}

@@ -170,15 +170,18 @@ module _ (setting : Setting) (w : World) (i k : ℕ) (c d : Coordinator) (before
   goes_on : (n : ℕ) (x : Operation) → IsOperation w n x → (p : Operation) × IsOperation later n p × KeepsAsk x p
   goes_on n x is = ⊎_elim
       (λ (mine : n ≡ number_of w i k).
-      let one : before ≡ x = same_Some before x (sym turned.operation_was ∙ ap w.operations (sym mine) ∙ is) in
-      (o, ap operations mine ∙ turned.operation_is, subst (λ (y : Operation). KeepsAsk y o) one (record {
-        brick = turned.same_ask.brick;
-        boot = turned.same_ask.boot;
-        seq = turned.same_ask.seq;
-        ask = turned.same_ask.ask;
-        mark = turned.same_ask.mark;
-        view = turned.same_ask.view;
-      })))
+      let one : before ≡ x = same_Some before x (sym turned.operation_was ∙ ap w.operations (sym mine) ∙ is) in (
+        o,
+        ap operations mine ∙ turned.operation_is,
+        subst (λ (y : Operation). KeepsAsk y o) one (record {
+          brick = turned.same_ask.brick;
+          boot = turned.same_ask.boot;
+          seq = turned.same_ask.seq;
+          ask = turned.same_ask.ask;
+          mark = turned.same_ask.mark;
+          view = turned.same_ask.view;
+        }),
+      ))
       (λ (other : n ≢ number_of w i k). (x, turned.other_operations n other ∙ is, keeps_ask x))
       (cases_eq n (number_of w i k))
 

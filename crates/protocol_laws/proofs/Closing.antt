@@ -1,10 +1,10 @@
 -- A read of a synchronisation ends, and what follows does: the step leaves the world that two steps leave, one after the other.
-use Rattle.std.proofs.Common.{◌≡◌, ℕ, List, [], ◌∷◌, ◌++◌, Option, Some, None, refl, sym, ap, ◌∙◌, subst}
+use Rattle.std.proofs.Common.{◌≡◌, ℕ, [], ◌∷◌, ◌++◌, Option, Some, None, refl, sym, ap, ◌∙◌, subst}
 use Rattle.fab_base.specs.declared.identities.BrickId.{BrickId}
 use Rattle.fab_base.specs.declared.answers.Answer.{Answer}
 use Rattle.fab_base.specs.declared.stamps.Stamp.{Stamp}
 use Rattle.fab_base.specs.Layouts.{Group}
-use Rattle.protocol.specs.declared.tellings.Told.TheVariants.{Made, Seen, Began, Closed}
+use Rattle.protocol.specs.declared.tellings.Told.TheVariants.{Closed}
 use Rattle.protocol.specs.declared.tellings.Report.{Report}
 use Rattle.protocol.specs.declared.tellings.SyncAnswer.{SyncAnswer}
 use Rattle.protocol.specs.Settings.{Setting}

@@ -32,10 +32,10 @@ use Rattle.protocol_laws.proofs.Proposing.{AreOfViews, of_views_each, resent_of_
 use Rattle.protocol_laws.proofs.Teaching.{heard_each, replied_rests}
 use Rattle.protocol.specs.Replicas.{handle}
 use Rattle.protocol.specs.Coordinators.{mover_of, lower_mover, lowest_mover, aborted_moved, decided, Coordinator, Next, Ignores, Waits, Sends, Makes, Ends, with_reply, once_full, counted_at, counts_at, on_reply, request_of, asked_group}
-use Rattle.protocol.specs.Nodes.{Node, NodeStep, put, top_at, first_phase, phase_packets, new_coordinator, began, invoked, replica_at, full_at, known_after, fresh_stamp, carried_out, group_at, replied_at, heard, received, ticked, with_round, with_known, node_taught, node_taught_by, view_counted, counts_here, vote_at, replied_ballot, proposed, ballot_resent, synced_at, carried_for, job_reading, collect_packets, read_closed, synced_packets}
+use Rattle.protocol.specs.Nodes.{Node, NodeStep, put, top_at, first_phase, phase_packets, new_coordinator, began, invoked, replica_at, full_at, known_after, fresh_stamp, carried_out, group_at, replied_at, heard, received, ticked, with_round, with_known, node_taught, node_taught_by, view_counted, counts_here, vote_at, replied_ballot, proposed, synced_at, carried_for, job_reading, collect_packets, read_closed, synced_packets}
 use Rattle.protocol.specs.Worlds.{World, Event, first_world, world_began, world_stopped, happens, run, world_ticked, world_stepped, world_started, world_found, After}
 use Rattle.protocol.proofs.Events.{EventCases, step_on, world_handled, happens_each, started_each, run-append}
-use Rattle.protocol.proofs.Packets.{OfEach, each_none, each_both, each_member, each_collect, each_reply, each_ticked}
+use Rattle.protocol.proofs.Packets.{OfEach, each_none, each_both, each_member, each_collect, each_reply}
 use Rattle.protocol.proofs.Served.{request_each}
 use Rattle.protocol.proofs.Tables.{put_each}
 use Rattle.protocol_laws.specs.Laws.{HasNotEnded, top_in, stamp_stored, IsGuarded, RunFollows, WritesWereGuarded}

@@ -1,7 +1,7 @@
 -- What is said stays said where a synchronisation begins, goes on or ends: it says that all stripes are kept in its view once it has read each of them.
 use Rattle.std.proofs.Common.{◌≡◌, ℕ, ◌+◌, ◌<◌, ◌≤◌, ◌⊎◌, inl, inr, ⊎_elim, List, [], ◌∷◌, ◌++◌, Option, Some, None, refl, sym, ap, ◌∙◌, subst, arith, nat_lt}
 use Rattle.std.specs.Option.{option_map}
-use Rattle.std.proofs.lemmas.Bool.{cond_both, cases_lt, ltb-true, ltb-false}
+use Rattle.std.proofs.lemmas.Bool.{cond_both, cases_lt, ltb-false}
 use Rattle.std.proofs.lemmas.Option.{same_Some}
 use Rattle.fab_base.specs.declared.identities.BrickId.{BrickId}
 use Rattle.fab_base.specs.declared.identities.GroupId.{GroupId}
@@ -16,7 +16,7 @@ use Rattle.protocol.specs.Settings.{Setting}
 use Rattle.protocol.specs.Views.{Views, view_of, group_in, kept_by}
 use Rattle.protocol.specs.Coordinators.{Coordinator}
 use Rattle.protocol.specs.Jobs.{Job, Attempt, JobNext, Reads, Finishes, GivesUp, begun_job, job_ask, job_after, abort_cause, most_tries, synced_answer}
-use Rattle.protocol.specs.Nodes.{Node, NodeStep, put, no_step, reporting, with_job, view_at, synced_packets, synced_at, job_reading}
+use Rattle.protocol.specs.Nodes.{Node, NodeStep, put, with_job, view_at, synced_packets, synced_at, job_reading}
 use Rattle.protocol.specs.Worlds.{World, Operation, number_of, world_stepped, with_held, choices_after}
 use Rattle.protocol.specs.Happenings.{writes}
 use Rattle.protocol.proofs.Packets.{OfEach, each_none}
@@ -168,8 +168,11 @@ module _ (setting : Setting) (views : Views) (w : World) (stamps : Stamping) (me
     said_after_close = record {
       stays = (stamps, said_known setting views w stamps me (w.nodes me.0).known books said (omega arith));
       ends = λ answer. (stamps, said_jobless [] none (Report.Sync job.group answer ∷ []) (each_none (PacketSays setting views _ stamps)));
-      finishes = λ goes. (stamps, said_jobless (synced_packets me job.group job.view.number setting.layout.bricks 0) none
-          (Report.Sync job.group (synced_answer job.view.number) ∷ []) (synced_says goes));
+      finishes = λ goes. (
+        stamps,
+        said_jobless (synced_packets me job.group job.view.number setting.layout.bricks 0) none
+            (Report.Sync job.group (synced_answer job.view.number) ∷ []) (synced_says goes),
+      );
       reads = λ attempt group goes kept.
           said_read setting views w stamps me now (record job { attempt = attempt }) group books said (next_says attempt goes) kept;
     }

@@ -1,9 +1,8 @@
 -- Every event keeps the history of replies.
 use Rattle.std.proofs.lemmas.List.{append-nil}
-use Rattle.std.proofs.Common.{◌≡◌, ◌≢◌, ℕ, ◌+◌, ◌≤◌, inl, inr, ⊎_elim, true, false, ap, Option, Some, None, List, [], ◌∷◌, ◌++◌, length, refl, sym, ◌∙◌, subst, arith, Bool}
+use Rattle.std.proofs.Common.{◌≡◌, ◌≢◌, ℕ, ◌+◌, ◌≤◌, inl, ⊎_elim, true, false, ap, Option, Some, None, List, [], ◌∷◌, ◌++◌, length, refl, sym, ◌∙◌, subst, arith, Bool}
 use Rattle.std.specs.Prelude.{slice_get, if◌then◌else◌, not, is_some}
-use Rattle.std.proofs.lemmas.Bool.{cases_eq, false≢true, and_parts}
-use Rattle.std.proofs.lemmas.Option.{same_Some}
+use Rattle.std.proofs.lemmas.Bool.{cases_eq, and_parts}
 use Rattle.fab_base.specs.declared.identities.BrickId.{BrickId}
 use Rattle.fab_base.specs.declared.asks.Ask.{Ask}
 use Rattle.fab_base.specs.declared.stamps.Stamp.{Stamp}
@@ -22,8 +21,8 @@ use Rattle.protocol.specs.Settings.{Setting, Code, IsSound}
 use Rattle.protocol.specs.Replicas.{handle}
 use Rattle.protocol.specs.Jobs.{Job, begun_job, job_after, abort_cause}
 use Rattle.protocol.specs.Coordinators.{Coordinator, Next, Ignores, Ends, with_reply, once_full, counted_at, counts_at, on_reply, asked_group, dropper_of, request_of}
-use Rattle.protocol.specs.Nodes.{Node, NodeStep, ticked, new_coordinator, put, no_step, fresh_stamp, began_in, began, opened, phase_packets, top_at, carried_for, job_reading, sync_refusal, synced_at, invoked, with_replica, replica_at, full_at, reply_packets, requested, known_after, with_known, carried_out, replied_at, replied, heard, received, vote_at, with_round, proposed, node_learnt, node_synced, lists_fit}
-use Rattle.protocol.specs.Worlds.{World, Operation, is_up, world_stepped, Found, Before, After, Event, first_world, may_begin, number_of, world_stopped, world_found, world_started, world_began, counted_after, replies_at, replies_with, run, with_held, Choices, voiced}
+use Rattle.protocol.specs.Nodes.{Node, NodeStep, ticked, new_coordinator, put, no_step, fresh_stamp, began_in, began, opened, phase_packets, top_at, carried_for, job_reading, sync_refusal, synced_at, invoked, with_replica, replica_at, full_at, reply_packets, requested, known_after, with_known, replied_at, replied, heard, received, vote_at, with_round, proposed, node_learnt, node_synced, lists_fit}
+use Rattle.protocol.specs.Worlds.{World, is_up, world_stepped, Found, Before, After, Event, first_world, may_begin, number_of, world_stopped, world_found, world_started, world_began, counted_after, replies_at, replies_with, run, with_held, Choices, voiced}
 use Rattle.protocol_laws.specs.Laws.{WasSent, RequestSent, RunFollows}
 use Rattle.protocol.proofs.Served.{request_each}
 use Rattle.protocol_laws.proofs.Books.{Books, IsCall}
@@ -35,13 +34,12 @@ use Rattle.protocol_laws.proofs.Hearing.{kept_world, taught_by, replying_each}
 use Rattle.protocol.specs.declared.phases.Counted.{Counted}
 use Rattle.protocol.specs.declared.phases.Phase.{Phase}
 use Rattle.protocol.specs.declared.phases.Phase.TheVariants.{LooksBack}
-use Rattle.protocol_laws.proofs.StampViews.{first_ahead}
 use Rattle.protocol.specs.Ballots.{Voted}
 use Rattle.protocol.specs.declared.tellings.Report.{Report}
 use Rattle.fab_base.specs.declared.identities.GroupId.{GroupId}
 use Rattle.fab_base.specs.declared.identities.ViewNo.{ViewNo}
 use Rattle.view_laws.proofs.Syncing.{synced_each}
-use Rattle.protocol_laws.proofs.BooksQuiet.{quiet_world, started_calls, unstarted, started_known}
+use Rattle.protocol_laws.proofs.BooksQuiet.{started_calls, unstarted, started_known}
 use Rattle.protocol_laws.proofs.BooksEnds.{stopped_keeps, stopped_calls, unstopped_calls}
 use Rattle.protocol_laws.proofs.BooksEvents.{keeps_put, stepped, known_grows, BeginFits, begin_fits, found_keeps, books_found, books_kept, hearing_keeps, learnt_keeps, start_fits, books_beside, books, group_there, fits_at, books_closing}
 use Rattle.protocol_laws.proofs.Outcomes.{NextFits, once_full_fits}

@@ -1,5 +1,5 @@
 -- The history of replies where nothing is told of operations, where one begins, and where a read of a synchronisation was closed.
-use Rattle.std.proofs.Common.{◌≡◌, ◌≢◌, ℕ, ◌+◌, ◌≤◌, ◌⊎◌, inl, inr, ⊎_elim, Bool, Option, Some, None, List, [], ◌∷◌, ◌++◌, refl, sym, ap, ◌∙◌, subst, arith}
+use Rattle.std.proofs.Common.{◌≡◌, ℕ, ◌+◌, ◌⊎◌, inl, inr, ⊎_elim, Bool, Option, Some, None, List, [], ◌∷◌, ◌++◌, refl, sym, ap, ◌∙◌, subst, arith}
 use Rattle.std.specs.Prelude.{slice_get}
 use Rattle.std.proofs.lemmas.Bool.{false≢true}
 use Rattle.std.proofs.lemmas.Option.{same_Some}
@@ -10,10 +10,8 @@ use Rattle.fab_base.specs.declared.member_lists.View.{View}
 use Rattle.fab_base.specs.declared.answers.Cause.{Cause}
 use Rattle.fab_base.specs.declared.answers.Answer.TheVariants.{Aborted}
 use Rattle.fab_base.specs.Layouts.{Group}
-use Rattle.messages.specs.declared.calls.Call.{Call}
 use Rattle.messages.specs.declared.packets.Message.TheVariants as Message
 use Rattle.messages.specs.declared.packets.Packet.{Packet}
-use Rattle.messages.specs.declared.requests.Request.{Request}
 use Rattle.reg_model.specs.declared.marks.Mark.{Mark}
 use Rattle.reg_model.specs.declared.marks.Mark.TheVariants.{End}
 use Rattle.protocol.specs.declared.tellings.Report.{Report}
@@ -25,7 +23,7 @@ use Rattle.protocol.specs.Worlds.{World, Operation, Choices, number_of, world_st
 use Rattle.protocol.proofs.Puts.{put_other}
 use Rattle.protocol.proofs.Tables.{put_each, get_kept}
 use Rattle.view_laws.proofs.SyncReads.{read_call}
-use Rattle.protocol_laws.specs.Laws.{WasSent, RequestSent, Evidence, IsCallOf, stamp_asked, order_of}
+use Rattle.protocol_laws.specs.Laws.{WasSent, Evidence, order_of}
 use Rattle.protocol_laws.proofs.Books.{Books, IsCall, IsOperation}
 use Rattle.protocol_laws.proofs.BooksKept.{KeepsNumbers, HasNoRead, cases_call}
 use Rattle.protocol_laws.proofs.BooksQuiet.{quiet_world}
@@ -34,7 +32,7 @@ use Rattle.protocol_laws.proofs.BooksEvents.{keeps_put}
 use Rattle.protocol_laws.proofs.Closing.{AfterClose}
 use Rattle.protocol_laws.proofs.Outcomes.{first_round_above}
 use Rattle.protocol_laws.proofs.StampViews.{first_ahead}
-use Rattle.protocol_laws.proofs.Tallies.{CallTallied, Tallied, MessagesShow, OrdersAlone, GoesOn}
+use Rattle.protocol_laws.proofs.Tallies.{CallTallied, Tallied, MessagesShow, OrdersAlone}
 use Rattle.protocol_laws.proofs.TalliesKept.{StaySent, call_tallied_on, known_kept, tallied_on}
 
 module _ (setting : Setting) (w : World) (books : Books setting w) (tallied : Tallied w) where

@@ -31,7 +31,7 @@ use Rattle.protocol.specs.declared.phases.Counted.{Counted}
 use Rattle.protocol.specs.declared.phases.Phase.TheVariants.{Bases, LooksBack}
 use Rattle.protocol.specs.Coordinators.{Coordinator, greatest_refuser, greatest_found, lowest_full, lowest_mover, lowest_dropper, told_in, asked_group, counts_at, with_reply, pieces_at, delta_at}
 use Rattle.protocol.specs.Nodes.{view_at, has_accepted}
-use Rattle.protocol.specs.Worlds.{World, Event, Operation, content_on, first_world, mark_of, happens, run}
+use Rattle.protocol.specs.Worlds.{World, Event, Operation, content_on, first_world, happens, run}
 use Rattle.protocol.specs.Happenings.{is_of, effect_in, happenings_of}
 pub use Rattle.view_laws.specs.Following.{WasSent, top_in, AtQuorum, IsGuarded, Follows, RunFollows}
 pub use Rattle.protocol_laws.specs.Evidence.{RequestSent, stamp_asked, order_of, AskedAt, IsCallOf, IsLastRound, IsLastPhase, LaterEvidence, FullEvidence, MovedEvidence, GoneEvidence, Evidence}
