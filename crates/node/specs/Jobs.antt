@@ -41,13 +41,13 @@ job_at job view seq = record { group = job.group; view = view; attempt = job.att
 
 -- that of a brick that has this under way
 abbrev pub job_of : OpenJob → Job
-job_of open = job_at open.job open.view (coordinator_of open.read).call.seq
+job_of held = job_at held.job held.view (coordinator_of held.read).call.seq
 
 abbrev pub reading_of : OpenJob → Reading
-reading_of open = record { job = job_of open; read = coordinator_of open.read }
+reading_of held = record { job = job_of held; read = coordinator_of held.read }
 
 abbrev pub reading_in : Option OpenJob → Option Reading
-reading_in open = option_map reading_of open
+reading_in held = option_map reading_of held
 
 -- open operations by the numbers of their calls, with the read of a synchronisation, if there is one
 abbrev pub calls_with : Option Reading → (ℕ → Option Coordinator) → ℕ → Option Coordinator
@@ -71,9 +71,9 @@ pub record IsJobOf (layout : Layout) (job : Synchronising) (view : View) (group 
   pub number : job.view ≡ view.number
 
 -- A synchronisation at a brick of the layout: its read is of the same group.
-pub record IsOpenJobOf (layout : Layout) (open : OpenJob) : Type 0 where
-  pub job_is : IsJobOf layout open.job open.view (coordinator_of open.read).group
-  pub is_operation : IsOperationOf layout open.read
+pub record IsOpenJobOf (layout : Layout) (held : OpenJob) : Type 0 where
+  pub job_is : IsJobOf layout held.job held.view (coordinator_of held.read).group
+  pub is_operation : IsOperationOf layout held.read
 
 -- ---- what comes after a read
 
@@ -86,11 +86,11 @@ pub record MakesFrom (at : CallSource) (node : Node) : Type 0 where
 -- What this brick of the machine does for its synchronisation of a group, where this is what comes next: it begins the read; or it sends these messages, and
 -- reports the end.
 abbrev pub followed_step : BrickId → GroupId → Node → Followed → NodeStep
-followed_step me group node (followed.Reads messages open) =
+followed_step me group node (followed.Reads messages held) =
     record {
-      node = reading node (job_of open) (coordinator_of open.read);
+      node = reading node (job_of held) (coordinator_of held.read);
       packets = packets_from me messages.items;
-      told = Began (coordinator_of open.read).call ∷ [];
+      told = Began (coordinator_of held.read).call ∷ [];
       answers = [];
       reports = [];
     }
@@ -98,13 +98,13 @@ followed_step me group node (followed.Ends messages answer) = reporting (with_jo
 
 -- if another read of this group begins, its call is the source's next one, and it is of the same view
 abbrev pub FollowsFrom : Layout → ℕ → GroupId → Followed → Type 0
-FollowsFrom layout seq group (followed.Reads messages open) =
-    IsOpenJobOf layout open × ((coordinator_of open.read).call.seq ≡ seq + 1) × (open.job.group ≡ group)
+FollowsFrom layout seq group (followed.Reads messages held) =
+    IsOpenJobOf layout held × ((coordinator_of held.read).call.seq ≡ seq + 1) × (held.job.group ≡ group)
 FollowsFrom layout seq group (followed.Ends messages answer) = Unit {0}
 
 -- how many messages it sends
 abbrev pub sent_in : Followed → ℕ
-sent_in (followed.Reads messages open) = length messages.items
+sent_in (followed.Reads messages held) = length messages.items
 sent_in (followed.Ends messages answer) = length messages.items
 
 -- where it ends for want of tries, it does so by this cause
@@ -114,7 +114,7 @@ stopped_by cause (Stopped stripe other) = Stopped stripe cause
 stopped_by cause (Spent stripe) = Spent stripe
 
 abbrev pub by_cause : Cause → Followed → Followed
-by_cause cause (followed.Reads messages open) = followed.Reads messages open
+by_cause cause (followed.Reads messages held) = followed.Reads messages held
 by_cause cause (followed.Ends messages answer) = followed.Ends messages (stopped_by cause answer)
 
 -- what a synchronisation of a view does after a read that was aborted by a cause or answered, at a brick whose next call is from this source

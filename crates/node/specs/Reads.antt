@@ -29,26 +29,26 @@ use Rattle.node.specs.Jobs.{FollowsFrom, GoesOn, IsOpenJobOf, MakesFrom, by_caus
 use Rattle.node.specs.Operations.{coordinator_of, shown_of, EndsOrWaits}
 
 -- What may come after a read, by each way in which it may end, at a brick whose next call is from this source; and there is room for all that is sent then.
-pub record IsPrepared (layout : Layout) (open : OpenJob) (at : CallSource) (p : Prepared) : Type 0 where
+pub record IsPrepared (layout : Layout) (held : OpenJob) (at : CallSource) (p : Prepared) : Type 0 where
   pub empty : p.room.items ≡ []
   pub room : 96 ≤ vec_capacity p.room
-  pub answered : GoesOn layout open.job open.view at None p.answered
-  pub aborted : (cause : Cause) → GoesOn layout open.job open.view at (Some cause) (by_cause cause p.aborted)
-  pub read_answered : FollowsFrom layout at.seq open.job.group p.answered
-  pub read_aborted : FollowsFrom layout at.seq open.job.group p.aborted
+  pub answered : GoesOn layout held.job held.view at None p.answered
+  pub aborted : (cause : Cause) → GoesOn layout held.job held.view at (Some cause) (by_cause cause p.aborted)
+  pub read_answered : FollowsFrom layout at.seq held.job.group p.answered
+  pub read_aborted : FollowsFrom layout at.seq held.job.group p.aborted
   pub few_answered : sent_in p.answered ≤ 64
   pub few_aborted : sent_in p.aborted ≤ 64
 
 -- it is prepared, or the message does not end the read
 abbrev pub MayFollow : Layout → OpenJob → CallSource → BrickId → Message → Option Prepared → Type 0
-MayFollow layout open at from message None = (fresh : Option Stamp) → NeverEnds (decided_on fresh (shown_of open.read) from message)
-MayFollow layout open at from message (Some p) = IsPrepared layout open at p
+MayFollow layout held at from message None = (fresh : Option Stamp) → NeverEnds (decided_on fresh (shown_of held.read) from message)
+MayFollow layout held at from message (Some p) = IsPrepared layout held at p
 
 -- what a brick of the machine does on a reply to the read, once it knows the time that the reply tells
 abbrev pub read_step : Layout → CallSource → OpenJob → Node → BrickId → Call → Reply → NodeStep
-read_step layout at open node from call reply =
-    let c = coordinator_of open.read in
-    carried_read (coding layout) at.me at.now (with_reading (Some (reading_of open)) node) at.stamps.known (job_of open) c
+read_step layout at held node from call reply =
+    let c = coordinator_of held.read in
+    carried_read (coding layout) at.me at.now (with_reading (Some (reading_of held)) node) at.stamps.known (job_of held) c
     (on_reply layout.block (block_code layout.block) (fresh_stamp at.me c.stamp.view at.now at.stamps.boot at.stamps.known) c from call reply)
 
 -- what it does where the reply comes to this, and the synchronisation is this then
@@ -102,8 +102,8 @@ pub record HasCountedRead (from : BrickId) (message : Message) (before after : O
 
 -- What a member's reply that counts, and tells this later view, comes to: the read ends, of which this is told, and this comes after it; or it waits for more.
 abbrev pub MovesOn : Layout → OpenJob → BrickId → ViewNo → CallSource → Option (Tellings × Followed) → Type 0
-MovesOn layout open from view at None = EndsOrWaits (coordinator_of open.read) from view None
-MovesOn layout open from view at (Some next) =
-    (answer : Answer) × EndsOrWaits (coordinator_of open.read) from view (Some answer)
-    × (next.0 ≡ closed (coordinator_of open.read).call.seq None (abort_cause answer)) × GoesOn layout open.job open.view at (abort_cause answer) next.1
-    × FollowsFrom layout at.seq open.job.group next.1 × (sent_in next.1 ≤ 64)
+MovesOn layout held from view at None = EndsOrWaits (coordinator_of held.read) from view None
+MovesOn layout held from view at (Some next) =
+    (answer : Answer) × EndsOrWaits (coordinator_of held.read) from view (Some answer)
+    × (next.0 ≡ closed (coordinator_of held.read).call.seq None (abort_cause answer)) × GoesOn layout held.job held.view at (abort_cause answer) next.1
+    × FollowsFrom layout at.seq held.job.group next.1 × (sent_in next.1 ≤ 64)

@@ -29,27 +29,27 @@ tasks_in kept tasks = with_reading (reading_in tasks.job) (state_in kept tasks.w
 
 -- the number of the call of a synchronisation's read
 abbrev pub read_seq : OpenJob → ℕ
-read_seq open = (coordinator_of open.read).call.seq
+read_seq held = (coordinator_of held.read).call.seq
 
 -- a synchronisation, if there is one, has a read of another call than that of this number
 abbrev pub IsAside : Option OpenJob → ℕ → Type 0
 IsAside None seq = Unit {0}
-IsAside (Some open) seq = nat_eq (read_seq open) seq ≡ false
+IsAside (Some held) seq = nat_eq (read_seq held) seq ≡ false
 
 -- it has a read of the call of this number
 abbrev pub ReadsAt : Option OpenJob → ℕ → Type 0
 ReadsAt None seq = ⊥
-ReadsAt (Some open) seq = nat_eq (read_seq open) seq ≡ true
+ReadsAt (Some held) seq = nat_eq (read_seq held) seq ≡ true
 
 -- A synchronisation of a brick of this layout: its read has a call of its own, that was made since the brick was started.
-pub record IsJobAt (layout : Layout) (calls : OpenCalls) (open : OpenJob) : Type 0 where
-  pub open_is : IsOpenJobOf layout open
-  pub made : read_seq open ≤ calls.seq
-  pub apart : get nat_cmp calls.operations (read_seq open) ≡ None
+pub record IsJobAt (layout : Layout) (calls : OpenCalls) (held : OpenJob) : Type 0 where
+  pub open_is : IsOpenJobOf layout held
+  pub made : read_seq held ≤ calls.seq
+  pub apart : get nat_cmp calls.operations (read_seq held) ≡ None
 
 abbrev pub IsJobIn : Layout → OpenCalls → Option OpenJob → Type 0
 IsJobIn layout calls None = Unit {0}
-IsJobIn layout calls (Some open) = IsJobAt layout calls open
+IsJobIn layout calls (Some held) = IsJobAt layout calls held
 
 -- all that is under way is of a brick of this layout
 pub record AreTasksOf (layout : Layout) (tasks : Tasks) : Type 0 where
@@ -67,8 +67,8 @@ pub record AreSameTasks (layout : Layout) (before after : Tasks) : Type 0 where
 -- a message counts in a synchronisation's read, if that has the call of this number, or else in the operation of that or in the proposal
 abbrev pub counts_among : Tasks → Option OpenJob → ℕ → BrickId → Message → Bool
 counts_among tasks None seq from message = moves.counts_at tasks.work seq from message
-counts_among tasks (Some open) seq from message =
-    if nat_eq (read_seq open) seq then counts (shown_of open.read) from message else moves.counts_at tasks.work seq from message
+counts_among tasks (Some held) seq from message =
+    if nat_eq (read_seq held) seq then counts (shown_of held.read) from message else moves.counts_at tasks.work seq from message
 
 abbrev pub counts_at : Tasks → ℕ → BrickId → Message → Bool
 counts_at tasks seq from message = counts_among tasks tasks.job seq from message
