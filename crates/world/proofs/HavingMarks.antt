@@ -65,10 +65,10 @@ marked_handled setting w number packet n marked =
     stepped_each (MarkedSoFar n) setting packet.to (step_on setting w packet)
     (λ x seq t base so. (so.0, marked_changed n x (number_of x packet.to.0 seq) (with_made t base) (made_leaves t base) so))
     (λ x seq v so. (so.0, marked_changed n x (number_of x packet.to.0 seq) (with_seen v) (seen_leaves v) so))
-    (λ x call so. (
+    (λ x nodes call so. (
       omega (arith, so.0),
       λ o.
-          cond_both (nat_eq n (x.begun + 1)) (Some (read_of_call x packet.to call)) (x.operations n) (λ (y : Option Operation). y ≡ Some o → is_marked o ≡ true)
+          cond_both (nat_eq n (x.begun + 1)) (Some (read_of_call nodes x packet.to call)) (x.operations n) (λ (y : Option Operation). y ≡ Some o → is_marked o ≡ true)
           (λ here is. (let e : n ≡ x.begun + 1 = eqb-true n (x.begun + 1) here in absurd (omega (arith, e, so.0)))) (λ there is. so.1 o is),
     ))
     (λ x seq cause so. (so.0, marked_changed n x (number_of x packet.to.0 seq) (with_closed cause) (closed_leaves cause) so))
