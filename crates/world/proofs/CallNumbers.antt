@@ -89,8 +89,8 @@ numbers_more w brick boot seq o brick_is boot_is seq_is says i b k = by_brick (n
         (ap (λ (x : BrickId). x.0) brick_is ∙ sym at, boot_is ∙ sym from, seq_is ∙ sym (eqb-true k seq same)),
       ),
     )
-    by_seq false other at from =
-        subst Fits (ap (λ j. w.numbers j b k) at ∙ ap (λ c. w.numbers brick.0 c k) from) older
+    by_seq false other at from some =
+        subst Fits (ap (λ j. w.numbers j b k) at ∙ ap (λ c. w.numbers brick.0 c k) from) older some
 
     by_boot : (x : Bool) → nat_eq b boot ≡ x → i ≡ brick.0 → Fits (cond x (put (w.numbers brick.0 boot) seq n) (w.numbers brick.0 b) k)
     by_boot true same at = by_seq (nat_eq k seq) refl at (eqb-true b boot same)

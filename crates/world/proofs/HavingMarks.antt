@@ -18,10 +18,10 @@ use Rattle.world.specs.Shown.{HasMarks}
 marked_in : (operations : ℕ → Option Operation) (mark n : ℕ) → operations 0 ≡ None → (o : Operation)
     → operations (number_marked operations mark n) ≡ Some o → is_marked o ≡ true
 marked_in operations mark zero none o is = absurd (let never : None ≡ Some o = sym none ∙ is in cc)
-marked_in operations mark (suc n) none o =
+marked_in operations mark (suc n) none o found =
     cond_both (has_mark mark (operations (suc n))) (suc n) (number_marked operations mark n) (λ (k : ℕ). operations k ≡ Some o → is_marked o ≡ true)
     (λ has is. (and_parts (is_marked o) (nat_eq o.mark mark) (sym (ap (has_mark mark) is) ∙ has)).0)
-    (λ hasnt is. marked_in operations mark n none o is)
+    (λ hasnt is. marked_in operations mark n none o is) found
 
 pub marked_has : (w : World) (mark : ℕ) → w.operations 0 ≡ None → HasMarks w (operation_marked w mark)
 marked_has w mark none o is = marked_in w.operations mark w.begun none o is

@@ -66,13 +66,13 @@ closed_heard brick seq cause old new changes setting nodes w seqs tells up are =
 
 -- how many reads begin, one thing after another
 reads_first : (one : Told) (more : List Told) → reads_begun (one ∷ more) ≡ reads_begun (one ∷ []) + reads_begun more
-reads_first (Made seq stamp base) more = refl
-reads_first (Seen seq stamp) more = refl
-reads_first (Began call) more = refl
-reads_first (Closed seq cause) more = refl
+reads_first (Made seq stamp base) more = let e : reads_begun more ≡ 0 + reads_begun more = omega arith in e
+reads_first (Seen seq stamp) more = let e : reads_begun more ≡ 0 + reads_begun more = omega arith in e
+reads_first (Began call) more = let e : 1 + reads_begun more ≡ (1 + 0) + reads_begun more = omega arith in e
+reads_first (Closed seq cause) more = let e : reads_begun more ≡ 0 + reads_begun more = omega arith in e
 
 pub reads_more : (told more : List Told) → reads_begun (told ++ more) ≡ reads_begun told + reads_begun more
-reads_more [] more = refl
+reads_more [] more = let e : reads_begun more ≡ 0 + reads_begun more = omega arith in e
 reads_more (one ∷ told) more =
     let rest = reads_more told more in
     let first = reads_first one (told ++ more) in
