@@ -716,7 +716,8 @@ tells_proposed setting old new w brick step packets report tells up opens sent_i
           reports ∙ ap (λ (xs : List (BrickId × Report)). xs ++ reports_of brick (option_to_list report)) tells.reports
           ∙ ap (λ (xs : List Report). w.choices.reports ++ reports_of brick xs) report_is;
       begun = ap length operations ∙ tells.begun;
-      marked = subst (λ (l : List ℕ). AreMarked l w) (sym marked) (record { count = tells.marked.count; each = tells.marked.each });
+      marked = subst (λ (l : List ℕ). AreMarked l (world_stepped setting w brick (record step { told = []; answers = [] }))) (sym marked)
+          (record { count = tells.marked.count; each = tells.marked.each });
       operations = subst (λ (kept : List OperationRecord). TellsOperations kept w.operations) (sym operations) tells.operations;
       calls = λ i.
           subst (λ (l : List ℕ). AreCalls (w.up i) l (w.numbers i (put w.nodes brick.0 step.node i).boot) (put w.nodes brick.0 step.node i).seq) (sym (calls i))
