@@ -24,7 +24,7 @@ pub returns-then-branch-clause-ok : goal.returns-then-branch-clause-ok
 returns-then-branch-clause-ok c w reached shows =
     let number : c.number_marked.result ≡ operation_marked w c.args.mark = c.number_marked.ensures ∙ shows.history.marked.each c.args.mark in
     let calm = (c.is_calm.ensures w reached shows).0 c.if-not-is_calm.false in
-    let marked = subst (HasMarks w) (sym number) (marked_has w c.args.mark (none_told w.operations shows.history.operations)) in
+    let marked = subst (HasMarks w) (sym number) (marked_has w c.args.mark (none_told _ w.operations shows.history.operations)) in
     run_comes c.args.layout.now c.bricks.ensures.limits w c.args.mark c.args.bricks.now (disks_of c.args.self.now.bricks.items) c.run_alone.new.self
     true reached (subst (λ (n : ℕ). IsCalm (coding c.args.layout.now) w n (map brick_of c.args.bricks.now)) number calm)
     (subst (λ (n : ℕ). HasRun c.args.layout.now w n (map brick_of c.args.bricks.now) (disks_of c.args.self.now.bricks.items) c.run_alone.new.self true) number
@@ -35,7 +35,7 @@ pub returns-else-branch-clause-ok : goal.returns-else-branch-clause-ok
 returns-else-branch-clause-ok c w reached shows =
     let number : c.number_marked.result ≡ operation_marked w c.args.mark = c.number_marked.ensures ∙ shows.history.marked.each c.args.mark in
     let calm = (c.is_calm.ensures w reached shows).0 c.if-not-is_calm.false in
-    let marked = subst (HasMarks w) (sym number) (marked_has w c.args.mark (none_told w.operations shows.history.operations)) in
+    let marked = subst (HasMarks w) (sym number) (marked_has w c.args.mark (none_told _ w.operations shows.history.operations)) in
     run_comes c.args.layout.now c.bricks.ensures.limits w c.args.mark c.args.bricks.now (disks_of c.args.self.now.bricks.items) c.run_alone.new.self
     false reached (subst (λ (n : ℕ). IsCalm (coding c.args.layout.now) w n (map brick_of c.args.bricks.now)) number calm)
     (subst (λ (n : ℕ). HasRun c.args.layout.now w n (map brick_of c.args.bricks.now) (disks_of c.args.self.now.bricks.items) c.run_alone.new.self false) number
@@ -48,7 +48,7 @@ returns-in_err-run_alone-clause-err c =
     (λ w reached shows.
     (let number : c.number_marked.result ≡ operation_marked w c.args.mark = c.number_marked.ensures ∙ shows.history.marked.each c.args.mark in
     let calm = (c.is_calm.ensures w reached shows).0 c.if-not-is_calm.false in
-    let marked = subst (HasMarks w) (sym number) (marked_has w c.args.mark (none_told w.operations shows.history.operations)) in
+    let marked = subst (HasMarks w) (sym number) (marked_has w c.args.mark (none_told _ w.operations shows.history.operations)) in
     begun_refused c.args.layout.now w c.args.self.now c.run_alone.new.self c.args.mark c.args.bricks.now
     (subst (λ (n : ℕ). IsCalm (coding c.args.layout.now) w n (map brick_of c.args.bricks.now)) number calm)
     (subst (λ (n : ℕ). HasBegun c.args.layout.now w n (map brick_of c.args.bricks.now) (disks_of c.args.self.now.bricks.items) c.run_alone.new.self) number
