@@ -188,7 +188,7 @@ module _ (logs : ℕ → List Version) (xs : List Seated) (bound : Stamp) (want 
         some_of (λ x. is_held floor (logs x.brick.0)) xs (omega (arith, many, one))
 
     -- so something is found
-    found_some : greatest_found counted ≡ None → ⊥
+    pub found_some : greatest_found counted ≡ None → ⊥
     found_some none =
         has_each (λ (x : Seated). is_held floor (logs x.brick.0) ≡ true)
         (λ (x : Seated). is_held floor (logs x.brick.0) ≡ true → (version : Version) × (g x ≡ Some version)
