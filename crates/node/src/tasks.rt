@@ -29,7 +29,7 @@ pub enum TaskTurn {
 }
 
 impl Tasks {
-    ghost use Rattle.std.specs.Prelude.{◌≡◌, ◌+◌, ◌<◌, ◌≤◌, ◌^◌, ℕ, true, false, nat_eq, None, Some, is_some, option_map, IfOk, OnErr, length, vec_len};
+    ghost use Rattle.std.specs.Prelude.{◌≡◌, ◌+◌, ◌-◌, ◌<◌, ◌≤◌, ◌^◌, ℕ, true, false, nat_eq, None, Some, is_some, option_map, IfOk, OnErr, length, vec_len};
     ghost use Rattle.std.specs.BTreeMap.{btree_map_len};
     ghost use Rattle.fab_base.specs.declared.identities.BrickId.{BrickId};
     ghost use Rattle.fab_base.specs.Layouts as layouts;
