@@ -19,11 +19,6 @@ use Rattle.node.specs.Running.{shape_at, IsBrickOf}
 use Rattle.node.specs.Tasks.{AreSameTasks}
 use Rattle.node.proofs.Requests.{follows_boot, is_me}
 
--- work that went on twice went on
-pub same_tasks : (layout : Layout) (before mid after : Tasks) → AreSameTasks layout before mid → AreSameTasks layout mid after → AreSameTasks layout before after
-same_tasks layout before mid after first last =
-    record { me = last.me ∙ first.me; boot = last.boot ∙ first.boot; of = λ of. last.of (first.of of) }
-
 module _ {D : Type 0} (layout : Layout) (before after : Tasks) (old new : Brick D) (is : IsBrickOf layout old.shape old.state before)
     (same : AreSameTasks layout before after) (shape : new.shape ≡ old.shape) where
   -- over a store that is as it was
