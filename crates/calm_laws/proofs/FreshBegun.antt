@@ -1,6 +1,6 @@
 -- An operation that begins is fresh, and the others stay so.
 use Rattle.std.proofs.lemmas.Option.{same_Some}
-use Rattle.std.proofs.Common.{◌≡◌, ◌≢◌, ℕ, ◌+◌, ◌≤◌, ◌<◌, true, List, [], ◌++◌, length, Option, Some, refl, sym, ap, ◌∙◌, subst, ⊎_elim, inr, arith, length-append}
+use Rattle.std.proofs.Common.{◌≡◌, ◌≢◌, ℕ, ◌+◌, ◌≤◌, ◌<◌, true, List, [], ◌++◌, Option, Some, refl, sym, ap, ◌∙◌, subst, ⊎_elim, inr, arith, length-append}
 use Rattle.std.specs.Prelude.{slice_get, nat_eq, filter}
 use Rattle.std.proofs.lemmas.Bool.{cases_eq, eq-eqb, ne_eqb, cases_lt}
 use Rattle.std.proofs.lemmas.List.{append-nil}
