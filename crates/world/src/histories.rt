@@ -234,6 +234,7 @@ impl History {
         requires room { HasStepRoom self.old }
         ensures delivered { HistoryBecomes (λ w. record w { reached = changed w.reached number true }) self.old self.new }
         ensures room { HasStepRoom self.new }
+        ensures calls { self.new.calls ≡ self.old.calls }
     {
         self.delivered.note(number);
     }
