@@ -219,11 +219,11 @@ impl Simulation {
     }
 
     /// The view of an operation, if it is open.
-    fn open_view(&self, record: OperationRecord) -> Option<View>
-        ensures { result ≡ open_view self.now record }
+    fn open_view(&self, kept: OperationRecord) -> Option<View>
+        ensures { result ≡ open_view self.now kept }
     {
-        let node = running(&self.bricks, u64::from(record.brick.0))?;
-        node.view_of(record.seq)
+        let node = running(&self.bricks, u64::from(kept.brick.0))?;
+        node.view_of(kept.seq)
     }
 
     /// Whether an operation may run alone among these bricks.
