@@ -1,5 +1,5 @@
 -- The store tells what is known of the learnt view.
-use Rattle.std.proofs.Common.{◌≡◌, ℕ, Option, Bool, Some, None, sym, ap, ◌∙◌}
+use Rattle.std.proofs.Common.{◌≡◌, ℕ, Option, Bool, Some, sym, ap, ◌∙◌}
 use Rattle.fab_base.specs.declared.member_lists.View.{View}
 use Rattle.fab_disk.specs.declared.mem_disk.MemDisk.{MemDisk}
 use Rattle.brick_state.specs.States.{group_at}

@@ -1,10 +1,9 @@
 -- The operation whose marks have the number runs alone where it may, and else nothing happens.
 use Rattle.std.proofs.Common.{◌≡◌, ℕ, Bool, true, false, map, sym, ◌∙◌, subst}
 use Rattle.protocol.specs.Calms.{IsCalm, operation_marked}
-use Rattle.protocol.specs.Worlds.{World}
 use Rattle.stripe_code.specs.Codes.{coding}
 use Rattle.world.specs.Runs.{brick_of}
-use Rattle.world.specs.Shown.{HasRun, HasBegun, HasMarks, Shows, disks_of}
+use Rattle.world.specs.Shown.{HasRun, HasBegun, HasMarks, disks_of}
 use Rattle.world.proofs.CalmEnds.{run_comes, begun_refused}
 use Rattle.world.proofs.HavingMarks.{marked_has}
 use Rattle.world.proofs.KeptNumbers.{none_told}
