@@ -206,7 +206,7 @@ returns c w reached shows =
     let third : ShowsBricks c.args.layout.now c.deref-3.result.now w.nodes w.after w.up w.clocks =
     subst (λ (l : List Brick). ShowsBricks c.args.layout.now l w.nodes w.after w.up w.clocks) (sym c.deref-3.ensures.value) shows.bricks in
     let able : (k number : ℕ) → slice_get c.args.bricks.now k ≡ Some number
-        → IsAble c.args.layout.now w here.at.operation.ask.group.0 here.coordinator.stamp.view.0 number =
+    → IsAble c.args.layout.now w here.at.operation.ask.group.0 here.coordinator.stamp.view.0 number =
     (λ k number at. able_as _ _ _ _ _ _ found number
     ((able_shown c.args.layout.now c.in-Some.record.group.0 c.in-Some-open_view.view.number.0 c.deref-2.result.now w number second).0
     (c.are_able.ensures.0 c.if-not-are_able.false k number at))) in
