@@ -89,8 +89,8 @@ numbers_more w brick boot seq o brick_is boot_is seq_is says i b k = by_brick (n
         (ap (λ (x : BrickId). x.0) brick_is ∙ sym at, boot_is ∙ sym from, seq_is ∙ sym (eqb-true k seq same)),
       ),
     )
-    by_seq false other at from =
-        subst Fits (ap (λ j. w.numbers j b k) at ∙ ap (λ c. w.numbers brick.0 c k) from) older
+    by_seq false other at from some =
+        subst Fits (ap (λ j. w.numbers j b k) at ∙ ap (λ c. w.numbers brick.0 c k) from) older some
 
     by_boot : (x : Bool) → nat_eq b boot ≡ x → i ≡ brick.0 → Fits (cond x (put (w.numbers brick.0 boot) seq n) (w.numbers brick.0 b) k)
     by_boot true same at = by_seq (nat_eq k seq) refl at (eqb-true b boot same)
@@ -107,7 +107,7 @@ numbers_stepped setting w brick step says =
     stepped_each NumbersSay setting brick step
     (λ x seq t base. numbers_changed x (number_of x brick.0 seq) (with_made t base) (λ o. (_, refl, (refl, refl, refl))))
     (λ x seq v. numbers_changed x (number_of x brick.0 seq) (with_seen v) (λ o. (_, refl, (refl, refl, refl))))
-    (λ x call. numbers_more x brick call.boot call.seq (read_of_call x brick call) refl refl refl)
+    (λ x nodes call. numbers_more x brick call.boot call.seq (read_of_call nodes x brick call) refl refl refl)
     (λ x seq cause. numbers_changed x (number_of x brick.0 seq) (with_closed cause) (λ o. (_, refl, (refl, refl, refl))))
     (λ x one. numbers_changed x (number_of x brick.0 one.seq) (with_answer one.answer) (λ o. (_, refl, (refl, refl, refl))))
     (λ x nodes held packets choices holds. holds) w says
@@ -187,7 +187,7 @@ bricks_stepped setting w brick step there are =
     stepped_each (AreOfBricks setting.layout) setting brick step
     (λ x seq t base. bricks_put setting.layout x (number_of x brick.0 seq) (with_made t base) (made_before t base))
     (λ x seq v. bricks_put setting.layout x (number_of x brick.0 seq) (with_seen v) (seen_before v))
-    (λ x call. bricks_more setting.layout x (read_of_call x brick call) there)
+    (λ x nodes call. bricks_more setting.layout x (read_of_call nodes x brick call) there)
     (λ x seq cause. bricks_put setting.layout x (number_of x brick.0 seq) (with_closed cause) (closed_before cause))
     (λ x one. bricks_put setting.layout x (number_of x brick.0 one.seq) (with_answer one.answer) (answer_before one.answer))
     (λ x nodes held packets choices holds. holds) w are

@@ -23,7 +23,7 @@ use Rattle.protocol.specs.declared.tellings.Told.{Told}
 use Rattle.protocol.specs.declared.tellings.Told.TheVariants.{Made, Seen, Began, Closed}
 use Rattle.protocol.specs.Jobs.{Job}
 use Rattle.protocol.specs.Happenings.{is_marked}
-use Rattle.protocol.specs.Nodes.{NodeStep, put, received, job_reading}
+use Rattle.protocol.specs.Nodes.{Node, NodeStep, put, received, job_reading}
 use Rattle.protocol.specs.Worlds.{World, Operation, Event, Delivers, is_brick, is_up, number_of, mark_of, packet_of, reports_of, world_told, world_tells, world_answered, world_answers, first_world, happens, run}
 use Rattle.reg_model.specs.declared.marks.Mark.{Mark}
 use Rattle.reg_model.specs.declared.marks.Mark.TheVariants.{End}
@@ -51,20 +51,20 @@ use Rattle.world.proofs.RunLaws.{JobsReadUnmarked, reached_numbers, reached_numb
 use Rattle.protocol.proofs.Events.{run-append, step_on, world_counting, world_handled}
 
 -- what is told makes no mark, and what is answered adds some
-told_marks : (setting : Setting) (w : World) (brick : BrickId) (told : List Told) → (world_tells setting w brick told).marks ≡ w.marks
-told_marks setting w brick [] = refl
-told_marks setting w brick (Made seq t base ∷ more) = told_marks setting (world_told setting w brick (Made seq t base)) brick more
-told_marks setting w brick (Seen seq v ∷ more) = told_marks setting (world_told setting w brick (Seen seq v)) brick more
-told_marks setting w brick (Began call ∷ more) = told_marks setting (world_told setting w brick (Began call)) brick more
-told_marks setting w brick (Closed seq cause ∷ more) = told_marks setting (world_told setting w brick (Closed seq cause)) brick more
+told_marks : (setting : Setting) (nodes : ℕ → Node) (w : World) (brick : BrickId) (told : List Told) → (world_tells setting nodes w brick told).marks ≡ w.marks
+told_marks setting nodes w brick [] = refl
+told_marks setting nodes w brick (Made seq t base ∷ more) = told_marks setting nodes (world_told setting nodes w brick (Made seq t base)) brick more
+told_marks setting nodes w brick (Seen seq v ∷ more) = told_marks setting nodes (world_told setting nodes w brick (Seen seq v)) brick more
+told_marks setting nodes w brick (Began call ∷ more) = told_marks setting nodes (world_told setting nodes w brick (Began call)) brick more
+told_marks setting nodes w brick (Closed seq cause ∷ more) = told_marks setting nodes (world_told setting nodes w brick (Closed seq cause)) brick more
 
 -- nor does it number a call, where no read begins
-told_numbers : (setting : Setting) (w : World) (brick : BrickId) (told : List Told) → reads_begun told ≡ 0 → (world_tells setting w brick told).numbers ≡ w.numbers
-told_numbers setting w brick [] none = refl
-told_numbers setting w brick (Made seq t base ∷ more) none = told_numbers setting (world_told setting w brick (Made seq t base)) brick more none
-told_numbers setting w brick (Seen seq v ∷ more) none = told_numbers setting (world_told setting w brick (Seen seq v)) brick more none
-told_numbers setting w brick (Began call ∷ more) none = absurd (omega (arith, none))
-told_numbers setting w brick (Closed seq cause ∷ more) none = told_numbers setting (world_told setting w brick (Closed seq cause)) brick more none
+told_numbers : (setting : Setting) (nodes : ℕ → Node) (w : World) (brick : BrickId) (told : List Told) → reads_begun told ≡ 0 → (world_tells setting nodes w brick told).numbers ≡ w.numbers
+told_numbers setting nodes w brick [] none = refl
+told_numbers setting nodes w brick (Made seq t base ∷ more) none = told_numbers setting nodes (world_told setting nodes w brick (Made seq t base)) brick more none
+told_numbers setting nodes w brick (Seen seq v ∷ more) none = told_numbers setting nodes (world_told setting nodes w brick (Seen seq v)) brick more none
+told_numbers setting nodes w brick (Began call ∷ more) none = absurd (omega (arith, none))
+told_numbers setting nodes w brick (Closed seq cause ∷ more) none = told_numbers setting nodes (world_told setting nodes w brick (Closed seq cause)) brick more none
 
 answers_numbers : (w : World) (brick : BrickId) (answers : List Answered) → (world_answers w brick answers).numbers ≡ w.numbers
 answers_numbers w brick [] = refl
@@ -99,6 +99,9 @@ module _ (setting : Setting) (w : World) (number : ℕ) (packet : Packet) (sent 
   abbrev marked : World
   marked = world_counting setting w number packet
 
+  abbrev after_nodes : ℕ → Node
+  after_nodes = put w.nodes packet.to.0 step.node
+
   after_is : happens setting w (Delivers number) ≡ world_handled setting w number packet
   after_is = happens_handled setting w number packet sent up
 
@@ -113,8 +116,8 @@ module _ (setting : Setting) (w : World) (number : ℕ) (packet : Packet) (sent 
 
   marks_after : (made : List Mark) × ((happens setting w (Delivers number)).marks ≡ w.marks ++ made)
   marks_after =
-      let (made, are) = answers_marks (world_tells setting marked packet.to step.told) packet.to step.answers in
-      (made, ap (λ (v : World). v.marks) after_is ∙ are ∙ ap (λ (l : List Mark). l ++ made) (told_marks setting marked packet.to step.told))
+      let (made, are) = answers_marks (world_tells setting after_nodes marked packet.to step.told) packet.to step.answers in
+      (made, ap (λ (v : World). v.marks) after_is ∙ are ∙ ap (λ (l : List Mark). l ++ made) (told_marks setting after_nodes marked packet.to step.told))
 
   reports_after : (happens setting w (Delivers number)).choices.reports ≡ w.choices.reports ++ reports_of packet.to step.reports
   reports_after = ap (λ (v : World). v.choices.reports) after_is
@@ -122,8 +125,8 @@ module _ (setting : Setting) (w : World) (number : ℕ) (packet : Packet) (sent 
   -- the calls keep their numbers, where no read begins
   numbers_after : reads_begun step.told ≡ 0 → (happens setting w (Delivers number)).numbers ≡ w.numbers
   numbers_after none =
-      ap (λ (v : World). v.numbers) after_is ∙ answers_numbers (world_tells setting marked packet.to step.told) packet.to step.answers
-      ∙ told_numbers setting marked packet.to step.told none
+      ap (λ (v : World). v.numbers) after_is ∙ answers_numbers (world_tells setting after_nodes marked packet.to step.told) packet.to step.answers
+      ∙ told_numbers setting after_nodes marked packet.to step.told none
 
   -- of one that reports nothing
   module _ (quiet : step.reports ≡ []) where
@@ -242,9 +245,9 @@ message_as_quiet : (setting : Setting) (w : World) (n : ℕ) (from to : BrickId)
     → operation_of w (record { from = from; to = to; message = message }) ≡ n
     → IsQuiet (step_on setting w (record { from = from; to = to; message = message }))
 unfolding received
-message_as_quiet setting w n from to (Message.Request call request) says unmarked marked numbered some opens its =
+message_as_quiet setting w n from to (Message.Request call request) says unmarked having numbered some opens its =
     request_quiet setting to from (w.nodes to.0) call request
-message_as_quiet setting w n from to (Message.Reply call reply) says unmarked marked numbered some opens its =
+message_as_quiet setting w n from to (Message.Reply call reply) says unmarked having numbered some opens its =
     let found = says to.0 call.boot call.seq (λ none. some (sym its ∙ none)) in
     let at : w.operations n ≡ Some found.1.0 = ap w.operations (sym its) ∙ found.1.1 in
     let has = has_open w n found.1.0 opens at in
@@ -256,13 +259,13 @@ message_as_quiet setting w n from to (Message.Reply call reply) says unmarked ma
     let number : number_of w to.0 has.coordinator.call.seq ≡ n =
     ap (λ (k : ℕ). number_of w to.0 k) own ∙ ap (λ (b : ℕ). w.numbers to.0 b call.seq) boot ∙ its in
     reply_quiet setting to (w.clocks to.0) from (w.nodes to.0) call reply has.coordinator called
-    (not_reading w to.0 n has.coordinator.call.seq found.1.0 (w.nodes to.0).job unmarked refl at number (marked found.1.0 at))
-message_as_quiet setting w n from to message says unmarked marked numbered some opens its = absurd (some (sym its))
+    (not_reading w to.0 n has.coordinator.call.seq found.1.0 (w.nodes to.0).job unmarked refl at number (having found.1.0 at))
+message_as_quiet setting w n from to message says unmarked having numbered some opens its = absurd (some (sym its))
 
 message_quiet : (setting : Setting) (w : World) (n : ℕ) (packet : Packet) → NumbersSay w → JobsReadUnmarked w → HasMarks w n → IsNumbered w → n ≢ 0
     → is_some (open_call w n) ≡ true → operation_of w packet ≡ n → IsQuiet (step_on setting w packet)
-message_quiet setting w n packet says unmarked marked numbered some opens its =
-    message_as_quiet setting w n packet.from packet.to packet.message says unmarked marked numbered some opens its
+message_quiet setting w n packet says unmarked having numbered some opens its =
+    message_as_quiet setting w n packet.from packet.to packet.message says unmarked having numbered some opens its
 
 -- one of these bricks is up, where each is
 among_up : (layout : Layout) (w : World) (bricks : List BrickId) → ((k : ℕ) (brick : BrickId) → slice_get bricks k ≡ Some brick → is_up layout w brick ≡ true)

@@ -1,5 +1,5 @@
 -- Operations that have marks: the one that a mark's number names has, and a delivery leaves what marks an operation has.
-use Rattle.std.proofs.Common.{◌≡◌, ◌≢◌, ℕ, zero, suc, ◌+◌, ◌≤◌, Bool, true, false, cond, nat_eq, ◌&&◌, Option, Some, None, refl, sym, ap, ◌∙◌, subst, arith}
+use Rattle.std.proofs.Common.{◌≡◌, ℕ, zero, suc, ◌+◌, ◌≤◌, true, nat_eq, Option, Some, None, refl, sym, ap, ◌∙◌, arith}
 use Rattle.std.specs.Prelude.{nat_lt}
 use Rattle.std.proofs.lemmas.Bool.{and_parts, cond_both, eqb-true}
 use Rattle.std.proofs.lemmas.Option.{same_Some}
@@ -18,10 +18,10 @@ use Rattle.world.specs.Shown.{HasMarks}
 marked_in : (operations : ℕ → Option Operation) (mark n : ℕ) → operations 0 ≡ None → (o : Operation)
     → operations (number_marked operations mark n) ≡ Some o → is_marked o ≡ true
 marked_in operations mark zero none o is = absurd (let never : None ≡ Some o = sym none ∙ is in cc)
-marked_in operations mark (suc n) none o =
+marked_in operations mark (suc n) none o found =
     cond_both (has_mark mark (operations (suc n))) (suc n) (number_marked operations mark n) (λ (k : ℕ). operations k ≡ Some o → is_marked o ≡ true)
     (λ has is. (and_parts (is_marked o) (nat_eq o.mark mark) (sym (ap (has_mark mark) is) ∙ has)).0)
-    (λ hasnt is. marked_in operations mark n none o is)
+    (λ hasnt is. marked_in operations mark n none o is) found
 
 pub marked_has : (w : World) (mark : ℕ) → w.operations 0 ≡ None → HasMarks w (operation_marked w mark)
 marked_has w mark none o is = marked_in w.operations mark w.begun none o is
@@ -65,10 +65,10 @@ marked_handled setting w number packet n marked =
     stepped_each (MarkedSoFar n) setting packet.to (step_on setting w packet)
     (λ x seq t base so. (so.0, marked_changed n x (number_of x packet.to.0 seq) (with_made t base) (made_leaves t base) so))
     (λ x seq v so. (so.0, marked_changed n x (number_of x packet.to.0 seq) (with_seen v) (seen_leaves v) so))
-    (λ x call so. (
+    (λ x nodes call so. (
       omega (arith, so.0),
       λ o.
-          cond_both (nat_eq n (x.begun + 1)) (Some (read_of_call x packet.to call)) (x.operations n) (λ (y : Option Operation). y ≡ Some o → is_marked o ≡ true)
+          cond_both (nat_eq n (x.begun + 1)) (Some (read_of_call nodes x packet.to call)) (x.operations n) (λ (y : Option Operation). y ≡ Some o → is_marked o ≡ true)
           (λ here is. (let e : n ≡ x.begun + 1 = eqb-true n (x.begun + 1) here in absurd (omega (arith, e, so.0)))) (λ there is. so.1 o is),
     ))
     (λ x seq cause so. (so.0, marked_changed n x (number_of x packet.to.0 seq) (with_closed cause) (closed_leaves cause) so))

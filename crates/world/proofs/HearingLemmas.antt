@@ -38,41 +38,41 @@ hears_same seqs b told none history w tells =
 
 -- nothing is told
 pub nothing_heard : (brick : BrickId) (history : History) → HistoryHears brick [] history history
-nothing_heard brick history setting w seqs tells up are = hears_same seqs brick.0 [] refl history w tells
+nothing_heard brick history setting nodes w seqs tells up are = hears_same seqs brick.0 [] refl history w tells
 
 -- a version is made, or seen, or a read ends
 pub made_heard : (brick : BrickId) (seq : ℕ) (stamp : Stamp) (base : Option Stamp) (old new : History)
     → HistoryChanges brick (λ calls. IsOfCall calls seq) (λ w. let n = number_of w brick.0 seq in
     record w { operations = put w.operations n (with_made stamp base (w.operations n)) }) old new
     → HistoryHears brick (Made seq stamp base ∷ []) old new
-made_heard brick seq stamp base old new changes setting w seqs tells up are =
-    hears_same seqs brick.0 (Made seq stamp base ∷ []) refl new (world_told setting w brick (Made seq stamp base))
+made_heard brick seq stamp base old new changes setting nodes w seqs tells up are =
+    hears_same seqs brick.0 (Made seq stamp base ∷ []) refl new (world_told setting nodes w brick (Made seq stamp base))
     (tells_contents seqs new (record w { operations = put w.operations (number_of w brick.0 seq) (with_made stamp base (w.operations (number_of w brick.0 seq))) })
-    (world_told setting w brick (Made seq stamp base)).contents (changes w seqs tells up are.0))
+    (world_told setting nodes w brick (Made seq stamp base)).contents (changes w seqs tells up are.0))
 
 pub seen_heard : (brick : BrickId) (seq : ℕ) (stamp : Stamp) (old new : History)
     → HistoryChanges brick (λ calls. IsOfCall calls seq) (λ w. let n = number_of w brick.0 seq in
     record w { operations = put w.operations n (with_seen stamp (w.operations n)) }) old new
     → HistoryHears brick (Seen seq stamp ∷ []) old new
-seen_heard brick seq stamp old new changes setting w seqs tells up are =
-    hears_same seqs brick.0 (Seen seq stamp ∷ []) refl new (world_told setting w brick (Seen seq stamp)) (changes w seqs tells up are.0)
+seen_heard brick seq stamp old new changes setting nodes w seqs tells up are =
+    hears_same seqs brick.0 (Seen seq stamp ∷ []) refl new (world_told setting nodes w brick (Seen seq stamp)) (changes w seqs tells up are.0)
 
 pub closed_heard : (brick : BrickId) (seq : ℕ) (cause : Option Cause) (old new : History)
     → HistoryChanges brick (λ calls. IsOfCall calls seq) (λ w. let n = number_of w brick.0 seq in
     record w { operations = put w.operations n (with_closed cause (w.operations n)) }) old new
     → HistoryHears brick (Closed seq cause ∷ []) old new
-closed_heard brick seq cause old new changes setting w seqs tells up are =
-    hears_same seqs brick.0 (Closed seq cause ∷ []) refl new (world_told setting w brick (Closed seq cause)) (changes w seqs tells up are.0)
+closed_heard brick seq cause old new changes setting nodes w seqs tells up are =
+    hears_same seqs brick.0 (Closed seq cause ∷ []) refl new (world_told setting nodes w brick (Closed seq cause)) (changes w seqs tells up are.0)
 
 -- how many reads begin, one thing after another
 reads_first : (one : Told) (more : List Told) → reads_begun (one ∷ more) ≡ reads_begun (one ∷ []) + reads_begun more
-reads_first (Made seq stamp base) more = refl
-reads_first (Seen seq stamp) more = refl
-reads_first (Began call) more = refl
-reads_first (Closed seq cause) more = refl
+reads_first (Made seq stamp base) more = let e : reads_begun more ≡ 0 + reads_begun more = omega arith in e
+reads_first (Seen seq stamp) more = let e : reads_begun more ≡ 0 + reads_begun more = omega arith in e
+reads_first (Began call) more = let e : 1 + reads_begun more ≡ (1 + 0) + reads_begun more = omega arith in e
+reads_first (Closed seq cause) more = let e : reads_begun more ≡ 0 + reads_begun more = omega arith in e
 
 pub reads_more : (told more : List Told) → reads_begun (told ++ more) ≡ reads_begun told + reads_begun more
-reads_more [] more = refl
+reads_more [] more = let e : reads_begun more ≡ 0 + reads_begun more = omega arith in e
 reads_more (one ∷ told) more =
     let rest = reads_more told more in
     let first = reads_first one (told ++ more) in
@@ -101,29 +101,29 @@ told_join boot seq (one ∷ told) more first then =
           (let e : seq + reads_begun (one ∷ told) ≡ (seq + reads_begun (one ∷ [])) + reads_begun told = omega (arith, count) in e) then),
     )
 
-tells_then : (setting : Setting) (w : World) (brick : BrickId) (told more : List Told)
-    → world_tells setting (world_tells setting w brick told) brick more ≡ world_tells setting w brick (told ++ more)
-tells_then setting w brick [] more = refl
-tells_then setting w brick (one ∷ told) more = tells_then setting (world_told setting w brick one) brick told more
+tells_then : (setting : Setting) (nodes : ℕ → Node) (w : World) (brick : BrickId) (told more : List Told)
+    → world_tells setting nodes (world_tells setting nodes w brick told) brick more ≡ world_tells setting nodes w brick (told ++ more)
+tells_then setting nodes w brick [] more = refl
+tells_then setting nodes w brick (one ∷ told) more = tells_then setting nodes (world_told setting nodes w brick one) brick told more
 
 -- a history hears the one and then the other
 pub hears_then : (brick : BrickId) (told more : List Told) (old mid new : History) → HistoryHears brick told old mid → HistoryHears brick more mid new
     → HistoryHears brick (told ++ more) old new
-hears_then brick told more old mid new first second setting w seqs tells up are =
+hears_then brick told more old mid new first second setting nodes w seqs tells up are =
     let b : ℕ = brick.0 in
     let parts = told_split (w.nodes b).boot (seqs b) told more are in
     let counts : ℕ → ℕ = put seqs b (seqs b + reads_begun told) in
-    let v : World = world_tells setting w brick told in
+    let v : World = world_tells setting nodes w brick told in
     let count : counts b ≡ seqs b + reads_begun told = value_here seqs b b (seqs b + reads_begun told) refl in
     let fits : AreTold (v.nodes b).boot (counts b) more =
     subst (λ (k : ℕ). AreTold (v.nodes b).boot k more) (sym count)
-    (subst (λ (f : ℕ → Node). AreTold (f b).boot (seqs b + reads_begun told) more) (sym (nodes_told setting w brick told)) parts.1) in
-    let after : TellsAt (put counts b (counts b + reads_begun more)) new (world_tells setting v brick more) =
-    second setting v counts (first setting w seqs tells up parts.0) (ap (λ (f : ℕ → Bool). f b) (up_told setting w brick told) ∙ up) fits in
+    (subst (λ (f : ℕ → Node). AreTold (f b).boot (seqs b + reads_begun told) more) (sym (nodes_told setting nodes w brick told)) parts.1) in
+    let after : TellsAt (put counts b (counts b + reads_begun more)) new (world_tells setting nodes v brick more) =
+    second setting nodes v counts (first setting nodes w seqs tells up parts.0) (ap (λ (f : ℕ → Bool). f b) (up_told setting nodes w brick told) ∙ up) fits in
     let total : seqs b + reads_begun (told ++ more) ≡ counts b + reads_begun more =
     (let all = reads_more told more in omega (arith, all, count)) in
-    subst (λ (x : World). TellsAt (put seqs b (seqs b + reads_begun (told ++ more))) new x) (tells_then setting w brick told more)
-    (tells_counted (put counts b (counts b + reads_begun more)) (put seqs b (seqs b + reads_begun (told ++ more))) new (world_tells setting v brick more)
+    subst (λ (x : World). TellsAt (put seqs b (seqs b + reads_begun (told ++ more))) new x) (tells_then setting nodes w brick told more)
+    (tells_counted (put counts b (counts b + reads_begun more)) (put seqs b (seqs b + reads_begun (told ++ more))) new (world_tells setting nodes v brick more)
     (λ i. same_count seqs b (seqs b + reads_begun told) (counts b + reads_begun more) (seqs b + reads_begun (told ++ more)) total i) after)
   where
     same_count : (f : ℕ → ℕ) (b m k n : ℕ) → n ≡ k → (i : ℕ) → put f b n i ≡ put (put f b m) b k i

@@ -29,7 +29,6 @@ use Rattle.world.specs.declared.histories.History.{History}
 use Rattle.world.specs.declared.histories.OperationRecord.{OperationRecord}
 use Rattle.world.specs.CallNumbers.{AreCalls, calls_in, call_at}
 use Rattle.world.specs.Shown.{TellsOperations, AreMarked, ChangesAt, TellsOperation, TellsAt, Tells, OpensAside, made_kept, seen_kept, ended_kept, mark_kept, mark_of_kept, record_at, number_at, seqs_of, reads_begun, calls_used, calls_aside}
-use Rattle.world.specs.declared.call_numbers.CallNumbers.{CallNumbers}
 use Rattle.world.specs.declared.deliveries.Deliveries.{Deliveries}
 use Rattle.world.proofs.KeptNumbers.{KeepsMarks, changed_record, known_changed, known_begun, mark_told, marked_changed, marked_unmarked, marked_next}
 use Rattle.world.proofs.Places.{each_value, value_here, value_elsewhere, get_or_end, set_here, set_elsewhere, slice_get_not_none}
@@ -404,14 +403,14 @@ tells_began old new w brick view ask step tells up sent delivered reports marks 
         ∙ number_new w.numbers brick.0 step.node.boot step.node.seq (w.begun + 1)
 
 -- a read of a synchronisation that began
-pub tells_read : (setting : Setting) (seqs : ℕ → ℕ) (old new : History) (w : World) (brick : BrickId) (call : Call) → TellsAt seqs old w → w.up brick.0 ≡ true
+pub tells_read : (setting : Setting) (nodes : ℕ → Node) (seqs : ℕ → ℕ) (old new : History) (w : World) (brick : BrickId) (call : Call) → TellsAt seqs old w → w.up brick.0 ≡ true
     → new ≡ record old { operations = new.operations; calls = new.calls }
     → new.operations.items ≡ old.operations.items
     ++ begun_kept brick call.boot call.seq (length old.marks.items) call.view 0 (record { group = call.group; stripe = call.stripe; op = ReadStripe }) ∷ []
     → ((i : ℕ) → calls_in new.calls i ≡ put (calls_in old.calls) brick.0 (calls_in old.calls brick.0 ++ (length old.operations.items + 1) ∷ []) i)
     → call.boot ≡ (w.nodes brick.0).boot → call.seq ≡ seqs brick.0 + 1
-    → TellsAt (put seqs brick.0 (seqs brick.0 + 1)) new (world_told setting w brick (Began call))
-tells_read setting seqs old new w brick call tells up rest operations calls boot next =
+    → TellsAt (put seqs brick.0 (seqs brick.0 + 1)) new (world_told setting nodes w brick (Began call))
+tells_read setting nodes seqs old new w brick call tells up rest operations calls boot next =
     subst (λ (h : History). TellsAt (put seqs brick.0 (seqs brick.0 + 1)) h v) (sym rest) (record {
       packets = tells.packets;
       reached = tells.reached;
@@ -420,10 +419,10 @@ tells_read setting seqs old new w brick call tells up rest operations calls boot
       begun = ap length operations ∙ length-append old.operations.items _ ∙ ap (λ n. n + 1) tells.begun;
       marked = record {
         count = tells.marked.count;
-        each = λ mark. tells.marked.each mark ∙ sym (marked_unmarked w.operations w.begun (read_of_call w brick call) refl mark);
+        each = λ mark. tells.marked.each mark ∙ sym (marked_unmarked w.operations w.begun (read_of_call nodes w brick call) refl mark);
       };
       operations = subst (λ (kept : List OperationRecord). TellsOperations kept v.operations) (sym operations)
-          (known_begun old.operations.items w.operations w.begun _ (read_of_call w brick call) tells.begun
+          (known_begun old.operations.items w.operations w.begun _ (read_of_call nodes w brick call) tells.begun
           (record {
             brick = refl;
             boot = refl;
@@ -446,7 +445,7 @@ tells_read setting seqs old new w brick call tells up rest operations calls boot
     })
   where
     v : World
-    v = world_told setting w brick (Began call)
+    v = world_told setting nodes w brick (Began call)
 
     others : (i : ℕ) → i ≢ brick.0 → (k : ℕ) → number_of v i k ≡ number_of w i k
     others i other k = ap (λ (f : ℕ → ℕ → ℕ). f (w.nodes i).boot k) (value_elsewhere w.numbers brick.0 i _ other)
@@ -599,19 +598,19 @@ pub record KeepsRest (w v : World) : Type 0 where
   pub reached : v.reached ≡ w.reached
   pub choices : v.choices ≡ w.choices
 
-told_keeps : (setting : Setting) (w : World) (brick : BrickId) (told : List Told) → KeepsRest w (world_tells setting w brick told)
-told_keeps setting w brick [] = record { nodes = refl; after = refl; up = refl; clocks = refl; packets = refl; reached = refl; choices = refl }
-told_keeps setting w brick (Made seq stamp base ∷ more) =
-    let k = told_keeps setting (world_told setting w brick (Made seq stamp base)) brick more in
+told_keeps : (setting : Setting) (nodes : ℕ → Node) (w : World) (brick : BrickId) (told : List Told) → KeepsRest w (world_tells setting nodes w brick told)
+told_keeps setting nodes w brick [] = record { nodes = refl; after = refl; up = refl; clocks = refl; packets = refl; reached = refl; choices = refl }
+told_keeps setting nodes w brick (Made seq stamp base ∷ more) =
+    let k = told_keeps setting nodes (world_told setting nodes w brick (Made seq stamp base)) brick more in
     record { nodes = k.nodes; after = k.after; up = k.up; clocks = k.clocks; packets = k.packets; reached = k.reached; choices = k.choices }
-told_keeps setting w brick (Seen seq stamp ∷ more) =
-    let k = told_keeps setting (world_told setting w brick (Seen seq stamp)) brick more in
+told_keeps setting nodes w brick (Seen seq stamp ∷ more) =
+    let k = told_keeps setting nodes (world_told setting nodes w brick (Seen seq stamp)) brick more in
     record { nodes = k.nodes; after = k.after; up = k.up; clocks = k.clocks; packets = k.packets; reached = k.reached; choices = k.choices }
-told_keeps setting w brick (Began call ∷ more) =
-    let k = told_keeps setting (world_told setting w brick (Began call)) brick more in
+told_keeps setting nodes w brick (Began call ∷ more) =
+    let k = told_keeps setting nodes (world_told setting nodes w brick (Began call)) brick more in
     record { nodes = k.nodes; after = k.after; up = k.up; clocks = k.clocks; packets = k.packets; reached = k.reached; choices = k.choices }
-told_keeps setting w brick (Closed seq cause ∷ more) =
-    let k = told_keeps setting (world_told setting w brick (Closed seq cause)) brick more in
+told_keeps setting nodes w brick (Closed seq cause ∷ more) =
+    let k = told_keeps setting nodes (world_told setting nodes w brick (Closed seq cause)) brick more in
     record { nodes = k.nodes; after = k.after; up = k.up; clocks = k.clocks; packets = k.packets; reached = k.reached; choices = k.choices }
 
 answers_keep : (w : World) (brick : BrickId) (answers : List Answered) → KeepsRest w (world_answers w brick answers)
@@ -622,18 +621,19 @@ answers_keep w brick (one ∷ more) =
 
 -- the world once a step told and answered what it did
 abbrev pub world_heard : Setting → World → BrickId → NodeStep → World
-world_heard setting w brick step = world_answers (world_tells setting w brick step.told) brick step.answers
+world_heard setting w brick step = world_answers (world_tells setting (put w.nodes brick.0 step.node) w brick step.told) brick step.answers
 
-pub nodes_told : (setting : Setting) (w : World) (brick : BrickId) (told : List Told) → (world_tells setting w brick told).nodes ≡ w.nodes
-nodes_told setting w brick told = (told_keeps setting w brick told).nodes
+pub nodes_told : (setting : Setting) (nodes : ℕ → Node) (w : World) (brick : BrickId) (told : List Told) → (world_tells setting nodes w brick told).nodes ≡ w.nodes
+nodes_told setting nodes w brick told = (told_keeps setting nodes w brick told).nodes
 
-pub up_told : (setting : Setting) (w : World) (brick : BrickId) (told : List Told) → (world_tells setting w brick told).up ≡ w.up
-up_told setting w brick told = (told_keeps setting w brick told).up
+pub up_told : (setting : Setting) (nodes : ℕ → Node) (w : World) (brick : BrickId) (told : List Told) → (world_tells setting nodes w brick told).up ≡ w.up
+up_told setting nodes w brick told = (told_keeps setting nodes w brick told).up
 
 pub heard_keeps : (setting : Setting) (w : World) (brick : BrickId) (step : NodeStep) → KeepsRest w (world_heard setting w brick step)
 heard_keeps setting w brick step =
-    let told = told_keeps setting w brick step.told in
-    let answered = answers_keep (world_tells setting w brick step.told) brick step.answers in
+    let nodes : ℕ → Node = put w.nodes brick.0 step.node in
+    let told = told_keeps setting nodes w brick step.told in
+    let answered = answers_keep (world_tells setting nodes w brick step.told) brick step.answers in
     record {
       nodes = answered.nodes ∙ told.nodes;
       after = answered.after ∙ told.after;
@@ -715,7 +715,8 @@ tells_proposed setting old new w brick step packets report tells up opens sent_i
           reports ∙ ap (λ (xs : List (BrickId × Report)). xs ++ reports_of brick (option_to_list report)) tells.reports
           ∙ ap (λ (xs : List Report). w.choices.reports ++ reports_of brick xs) report_is;
       begun = ap length operations ∙ tells.begun;
-      marked = subst (λ (l : List ℕ). AreMarked l w) (sym marked) (record { count = tells.marked.count; each = tells.marked.each });
+      marked = subst (λ (l : List ℕ). AreMarked l (world_stepped setting w brick (record step { told = []; answers = [] }))) (sym marked)
+          (record { count = tells.marked.count; each = tells.marked.each });
       operations = subst (λ (kept : List OperationRecord). TellsOperations kept w.operations) (sym operations) tells.operations;
       calls = λ i.
           subst (λ (l : List ℕ). AreCalls (w.up i) l (w.numbers i (put w.nodes brick.0 step.node i).boot) (put w.nodes brick.0 step.node i).seq) (sym (calls i))

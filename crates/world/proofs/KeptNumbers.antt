@@ -1,8 +1,8 @@
 -- What is kept of the operations of numbers, and the numbers of those that have marks: where one changes, and where one more begins.
-use Rattle.std.proofs.Common.{◌≡◌, ◌≢◌, ℕ, zero, suc, ◌+◌, ◌≤◌, ◌⊎◌, ⊎_elim, Bool, true, false, cond, nat_eq, List, [], ◌∷◌, ◌++◌, length, get_or, Option, Some, None, refl, sym, ap, ◌∙◌, subst, arith, add-one, length-append}
+use Rattle.std.proofs.Common.{◌≡◌, ◌≢◌, ℕ, zero, suc, ◌+◌, ◌≤◌, ◌⊎◌, ⊎_elim, Bool, true, false, cond, nat_eq, List, [], ◌∷◌, ◌++◌, length, get_or, Option, Some, None, refl, sym, ap, ◌∙◌, subst, arith, add-one}
 use Rattle.std.specs.Prelude.{slice_get, if◌then◌else◌}
 use Rattle.std.specs.Option.{option_map}
-use Rattle.std.proofs.lemmas.Bool.{cond_both, cases_eq, eqb-true, eqb-false, eq-eqb, ne_eqb}
+use Rattle.std.proofs.lemmas.Bool.{cond_both, cases_eq, eqb-true}
 use Rattle.std.proofs.lemmas.Bool.Decides.{nat_tests}
 use Rattle.protocol.specs.Nodes.{put}
 use Rattle.protocol.specs.Worlds.{Operation, own_mark}
@@ -41,7 +41,7 @@ number_other numbers x zero other = refl
 number_other numbers x (suc k) other = get_or_other numbers x k 0 (λ e. other (omega (arith, e)))
 
 -- what changes at one number changes there alone
-changed_record : (old new : List OperationRecord) (number : ℕ) (change : OperationRecord → OperationRecord) → ChangesAt old new number change → (n : ℕ)
+pub changed_record : (old new : List OperationRecord) (number : ℕ) (change : OperationRecord → OperationRecord) → ChangesAt old new number change → (n : ℕ)
     → record_at new n ≡ (if nat_eq n number then option_map change (record_at old n) else record_at old n)
 changed_record old new number change changed zero = by_number (nat_eq zero number)
   where
@@ -102,8 +102,8 @@ told_of known None is = absurd is
 told_of known (Some o) is = (o, refl, is)
 
 -- there is none of number 0
-pub none_told : {kept : List OperationRecord} (operations : ℕ → Option Operation) → TellsOperations kept operations → operations 0 ≡ None
-none_told operations tells = by (operations 0) (tells 0)
+pub none_told : (kept : List OperationRecord) (operations : ℕ → Option Operation) → TellsOperations kept operations → operations 0 ≡ None
+none_told kept operations tells = by (operations 0) (tells 0)
   where
     by : (found : Option Operation) → TellsOne None found → found ≡ None
     by None is = refl

@@ -3,6 +3,7 @@ use Rattle.std.proofs.Common.{◌≡◌, ℕ, zero, suc, ◌+◌, ◌<◌, ◌�
 use Rattle.std.specs.Prelude.{slice_get, option_to_list, map, nat_lt}
 use Rattle.std.specs.List.{All}
 use Rattle.std.proofs.lemmas.Bool.{cond_both, and_parts, and_from, eqb-true, eq-eqb}
+use Rattle.std.proofs.lemmas.Bool.Decides.{nat_tests}
 use Rattle.std.proofs.lemmas.Option.{same_Some, slice_get-get_or}
 use Rattle.std.proofs.lemmas.List.Elements.{All-cons, All-nil, All-append, All-weaker, All-head, All-tail}
 use Rattle.std.proofs.lemmas.List.Sorted.{All-permutation}
@@ -17,8 +18,7 @@ use Rattle.reg_model.specs.Walk.{begin_of, positioned}
 use Rattle.protocol.specs.Settings.{Setting}
 use Rattle.protocol.specs.Worlds.{World, Operation, own_mark}
 use Rattle.protocol.specs.Happenings.{is_marked, Effect, is_of, entry_with, entry_at, entries_to, was_answered, writes, is_told, base_of, is_among, with_entry, effect_of, effect_in, ascending, by_mark, walk_of, happenings_of}
-use Rattle.protocol_laws.proofs.Books.{Books, OperationBooks}
-use Rattle.protocol_laws.proofs.BooksEvents.{books}
+use Rattle.protocol_laws.proofs.Books.{Books, LifeBooks}
 use Rattle.protocol_laws.proofs.Effects.{told_all, told_told}
 use Rattle.protocol_laws.proofs.Entries.{IsEntryOf, entries_of}
 use Rattle.protocol_laws.proofs.Sorting.{ascending_permutation}
@@ -291,12 +291,13 @@ kept_happenings operations w g s are begins =
 -- where the books hold, operations begin where the marks of their stripes say
 pub begins_from_books : (setting : Setting) (w : World) → Books setting w → BeginsAgree w
 begins_from_books setting w books = record {
-  each = λ n o is.
-      (let mine : OperationBooks setting w n o = books.operations n o is in
+  each = λ n o is marked.
+      (let low : 1 ≤ o.mark = grind (arith, nat_tests, marked) in
+      let mine : LifeBooks w o = (books.operations n o is).lived low in
       let g : ℕ = o.ask.group.0 in
       let s : ℕ = o.ask.stripe.0 in
       let own : is_of_stripe g s (Some mine.life) ≡ true =
       ap (λ a. nat_eq a.group.0 g && nat_eq a.stripe.0 s) mine.ask ∙ and_from _ _ (eq-eqb g g refl) (eq-eqb s s refl) in
-      let found = life_filtered g s w.marks n (ap (is_of_stripe g s) mine.life_is ∙ own) w.marks mine.life mine.life_is own in
-      ap (λ (m : ℕ). begin_of (life_of (stripe_marks g s w.marks) m)) (books.own.each n o is) ∙ ap begin_of found.1 ∙ found.2.begin ∙ mine.begin);
+      let found = life_filtered g s w.marks o.mark (ap (is_of_stripe g s) mine.life_is ∙ own) w.marks mine.life mine.life_is own in
+      ap begin_of found.1 ∙ found.2.begin ∙ mine.begin);
 }

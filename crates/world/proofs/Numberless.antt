@@ -23,7 +23,7 @@ zero_put reached k none = value_elsewhere reached (suc k) 0 true (λ e. omega ar
 -- a brick's step delivers none
 zero_stepped : (setting : Setting) (w : World) (brick : BrickId) (step : NodeStep) → NoneAtZero w → NoneAtZero (world_stepped setting w brick step)
 zero_stepped setting w brick step none =
-    stepped_each NoneAtZero setting brick step (λ x seq t base holds. holds) (λ x seq v holds. holds) (λ x call holds. holds) (λ x seq cause holds. holds)
+    stepped_each NoneAtZero setting brick step (λ x seq t base holds. holds) (λ x seq v holds. holds) (λ x nodes call holds. holds) (λ x seq cause holds. holds)
     (λ x one holds. holds)
     (λ x nodes held packets choices holds. holds) w none
 

@@ -90,7 +90,7 @@ grown_by marks mark least few = omega (arith, few, length-append marks (mark ∷
 grow_stepped : (setting : Setting) (least : ℕ) (w : World) (brick : BrickId) (step : NodeStep) → HasAtLeast least w
     → HasAtLeast least (world_stepped setting w brick step)
 grow_stepped setting least w brick step few =
-    stepped_each (HasAtLeast least) setting brick step (λ x seq t base holds. holds) (λ x seq v holds. holds) (λ x call holds. holds)
+    stepped_each (HasAtLeast least) setting brick step (λ x seq t base holds. holds) (λ x seq v holds. holds) (λ x nodes call holds. holds)
     (λ x seq cause holds. holds)
     (λ x one holds. grown_by x.marks (mark.End (length x.marks) _ one.answer) least holds)
     (λ x nodes held packets choices holds. holds) w few

@@ -477,9 +477,9 @@ HistoryNotes brick Holds next old new = (w : World) → Tells old w → w.up bri
 
 -- so it does with what a brick tells, where that is up and is of its calls: each read that begins is one call more
 abbrev pub HistoryHears : BrickId → List Told → History → History → Type 0
-HistoryHears brick told old new = (setting : Setting) (w : World) (seqs : ℕ → ℕ) → TellsAt seqs old w → w.up brick.0 ≡ true
+HistoryHears brick told old new = (setting : Setting) (nodes : ℕ → machine.Node) (w : World) (seqs : ℕ → ℕ) → TellsAt seqs old w → w.up brick.0 ≡ true
     → AreTold (w.nodes brick.0).boot (seqs brick.0) told
-    → TellsAt (machine.put seqs brick.0 (seqs brick.0 + reads_begun told)) new (world_tells setting w brick told)
+    → TellsAt (machine.put seqs brick.0 (seqs brick.0 + reads_begun told)) new (world_tells setting nodes w brick told)
 
 -- so it does with one operation, where this holds of the number of its brick's calls
 abbrev pub HistoryChanges : BrickId → (ℕ → Type 0) → (World → World) → History → History → Type 0

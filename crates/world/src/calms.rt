@@ -1,6 +1,6 @@
 //! Whether an operation may run alone among some bricks.
 
-ghost use Rattle.std.specs.Prelude.{◌≡◌, ◌&&◌, ◌+◌, ◌<◌, ◌≤◌, ℕ, map, nat_lt, nat_le, nat_eq, length, filter, is_some, slice_get, Some};
+ghost use Rattle.std.specs.Prelude.{◌≡◌, ◌&&◌, ◌+◌, true, ◌<◌, ◌≤◌, ℕ, map, nat_lt, nat_le, nat_eq, length, filter, is_some, slice_get, Some};
 ghost use Rattle.std.specs.List.{IsDistinct, list_any};
 ghost use Rattle.std.specs.Bool.{Decides};
 ghost use Rattle.std.specs.Option.{option_copied};
@@ -112,16 +112,23 @@ fn knows_synced(bricks: &[Brick], group: GroupId, number: u64) -> bool
     }
 }
 
+/// Whether one of these bricks knows that all stripes of a group are kept in the view that it has learnt.
+fn one_knows_synced(bricks: &[Brick], group: GroupId, numbers: &[u64]) -> bool
+    requires { group.0 < most_groups }
+    ensures { result ≡ list_any (λ number. node_knows_synced group.0 (running_at bricks.now number)) numbers.now }
+{
+    numbers
+        .iter()
+        .any(|number| knows_synced(bricks, group, *number))
+}
+
 /// Whether an operation in a view may have to ask the members of the view before: it is a later view than 1, and none of these bricks knows that all stripes of
 /// the group are kept in that.
 fn may_ask_prior(bricks: &[Brick], group: GroupId, view: ViewNo, numbers: &[u64]) -> bool
     requires { group.0 < most_groups }
     ensures { result ≡ may_ask_prior_at bricks.now group.0 view.0 numbers.now }
 {
-    view.0 > 1
-        && !numbers
-            .iter()
-            .any(|number| knows_synced(bricks, group, *number))
+    view.0 > 1 && !one_knows_synced(bricks, group, numbers)
 }
 
 /// What the clock of a brick reads, 0 where there is none.
@@ -189,6 +196,18 @@ fn has_quorum(m: u8, members: &Members, numbers: &[u64]) -> bool
     quorum_of(m, members) <= members_among(members, numbers)
 }
 
+/// Whether a quorum of the members before a view is among these bricks, where an operation in the view may have to ask them.
+fn has_prior_quorum(bricks: &[Brick], m: u8, group: GroupId, view: &View, numbers: &[u64]) -> bool
+    requires { group.0 < most_groups }
+    ensures { Decides result (may_ask_prior_at bricks.now group.0 view.now.number.0 numbers.now ≡ true
+        → q_of m (length view.now.prior) ≤ length (filter (λ number. list_any (λ member. nat_eq member.0 number) view.now.prior) numbers.now)) }
+{
+    if !may_ask_prior(bricks, group, view.number, numbers) {
+        return true;
+    }
+    has_quorum(m, &view.prior, numbers)
+}
+
 impl Simulation {
     ghost use Rattle.std.specs.Prelude.{◌≡◌};
     ghost use Rattle.world.specs.Shown.{DecidesCalm, open_record, open_view};
@@ -207,11 +226,11 @@ impl Simulation {
     }
 
     /// The view of an operation, if it is open.
-    fn open_view(&self, record: OperationRecord) -> Option<View>
-        ensures { result ≡ open_view self.now record }
+    fn open_view(&self, kept: OperationRecord) -> Option<View>
+        ensures { result ≡ open_view self.now kept }
     {
-        let node = running(&self.bricks, u64::from(record.brick.0))?;
-        node.view_of(record.seq)
+        let node = running(&self.bricks, u64::from(kept.brick.0))?;
+        node.view_of(kept.seq)
     }
 
     /// Whether an operation may run alone among these bricks.
@@ -241,9 +260,7 @@ impl Simulation {
         if !are_able(&self.bricks, layout, record.group, view.number, bricks) {
             return false;
         }
-        if may_ask_prior(&self.bricks, record.group, view.number, bricks)
-            && !has_quorum(group.m(), &view.prior, bricks)
-        {
+        if !has_prior_quorum(&self.bricks, group.m(), record.group, &view, bricks) {
             return false;
         }
         let delivered = &self.history.delivered;

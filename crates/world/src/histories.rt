@@ -166,7 +166,7 @@ pub fn record_at(operations: &[OperationRecord], number: u64) -> Option<Operatio
     operations.get((number - 1) as usize).copied()
 }
 
-/// The number of the marks of the operation of a number.
+/// The number of the marks of the operation of a number: its own number where there is no such operation.
 fn mark_of(operations: &[OperationRecord], number: u64) -> u64
     ensures { result ≡ mark_kept operations.now number }
 {
@@ -177,7 +177,7 @@ fn mark_of(operations: &[OperationRecord], number: u64) -> u64
 }
 
 impl History {
-    ghost use Rattle.std.specs.Prelude.{◌≡◌, ◌+◌, ◌<◌, ◌≤◌, ◌++◌, ℕ, true, None, length, option_to_list, OnOk, OnErr, vec_len, vec_capacity};
+    ghost use Rattle.std.specs.Prelude.{◌≡◌, ◌+◌, ◌<◌, ◌≤◌, ◌++◌, [], ◌∷◌, ℕ, true, None, length, option_to_list, OnOk, OnErr, vec_len, vec_capacity};
     ghost use Rattle.fab_base.specs.Layouts.{Layout};
     ghost use Rattle.coord_phase.specs.Messages.{packets_from};
     ghost use Rattle.protocol.specs.Settings.{Setting};
@@ -234,6 +234,7 @@ impl History {
         requires room { HasStepRoom self.old }
         ensures delivered { HistoryBecomes (λ w. record w { reached = changed w.reached number true }) self.old self.new }
         ensures room { HasStepRoom self.new }
+        ensures calls { self.new.calls ≡ self.old.calls }
     {
         self.delivered.note(number);
     }

@@ -7,10 +7,10 @@ use Rattle.world.proofs.HistoryLemmas.{begun_kept, tells_read}
 use Rattle.world.proofs.histories.History.open_read.Goals as goal
 
 pub returns-clause-opened : goal.returns-clause-opened
-returns-clause-opened c setting w seqs tells up is =
+returns-clause-opened c setting nodes w seqs tells up is =
     let old = c.args.self.now in
     let call = c.args.call in
-    tells_read setting seqs old _ w c.args.brick call tells up refl
+    tells_read setting nodes seqs old _ w c.args.brick call tells up refl
     (c.push_reserved.ensures.items
     ∙ ap (λ (p : ℕ). old.operations.items
     ++ begun_kept c.args.brick call.boot call.seq p call.view 0 (record { group = call.group; stripe = call.stripe; op = ReadStripe }) ∷ [])
