@@ -409,7 +409,7 @@ pub stepped_up : (setting : Setting) (w : World) (me : BrickId) (step : NodeStep
     → ((world_stepped setting w me step).up ≡ w.up) × ((world_stepped setting w me step).after ≡ w.after)
 stepped_up setting w me step =
     stepped_each (λ (x : World). (x.up ≡ w.up) × (x.after ≡ w.after)) setting me step (λ x seq t base holds. holds) (λ x seq t holds. holds)
-    (λ x call holds. holds) (λ x seq cause holds. holds) (λ x answered holds. holds) (λ x nodes held packets choices holds. holds) w (refl, refl)
+    (λ x nodes call holds. holds) (λ x seq cause holds. holds) (λ x answered holds. holds) (λ x nodes held packets choices holds. holds) w (refl, refl)
 
 -- what holds of each stopped brick and what it left holds after a brick that is up has changed
 pub left_stays : (P : Node → Node → Type 0) (up : ℕ → Bool) (nodes after : ℕ → Node) (i : ℕ) (next : Node) → up i ≡ true
