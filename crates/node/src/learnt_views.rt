@@ -34,6 +34,17 @@ pub(crate) fn learnt_view<D: Disk>(store: &BrickStore<D>, number: GroupId, group
     }
 }
 
+/// Whether a brick knows that all stripes of a group of the layout are kept in the view that it has learnt.
+pub(crate) fn is_synced<D: Disk>(store: &BrickStore<D>, number: GroupId) -> bool
+    requires few { number.0 < most_groups }
+    ensures { (layout : layouts.Layout) → result ≡ (learnt_in layout store.now.state number.0).synced }
+{
+    match store.known_view(number) {
+        Some((_, synced)) => synced,
+        None => true,
+    }
+}
+
 /// The number of the view that a brick has learnt of a group.
 pub(crate) fn learnt_number<D: Disk>(store: &BrickStore<D>, group: GroupId) -> ViewNo
     ensures { (layout : layouts.Layout) → result.0 ≡ (learnt_in layout store.now.state group.0).view.number.0 }

@@ -5,6 +5,7 @@ ghost use Rattle.std.specs.BTreeMap as tree;
 ghost use Rattle.std.specs.Ordering.{nat_cmp};
 ghost use Rattle.protocol.specs.Nodes.{known_after, fresh_stamp};
 
+use crate::call_sources::CallSource;
 use crate::numbered::{close_answered, keep_open};
 use crate::operations::Operation;
 use crate::outs::{Begun, Outs};
@@ -43,7 +44,12 @@ fn after_reply(mut stamps: StampSource, reply: &Reply) -> StampSource
 }
 
 /// The stamp that a new round of ordering would have in a view, at this time of the brick's clock. None where no later time is left.
-fn fresh_stamp(mut stamps: StampSource, now: u64, view: ViewNo, me: BrickId) -> Option<Stamp>
+pub(crate) fn fresh_stamp(
+    mut stamps: StampSource,
+    now: u64,
+    view: ViewNo,
+    me: BrickId,
+) -> Option<Stamp>
     ensures stamp { result ≡ fresh_stamp me view now stamps.boot stamps.known }
     ensures view { IfSome result (λ stamp. stamp.view ≡ view) }
 {
@@ -51,14 +57,15 @@ fn fresh_stamp(mut stamps: StampSource, now: u64, view: ViewNo, me: BrickId) -> 
 }
 
 impl OpenCalls {
-    ghost use Rattle.std.specs.Prelude.{◌≡◌, ◌+◌, ◌-◌, ◌^◌, ◌<◌, ◌≤◌, ℕ, true, false, nat_eq, if◌then◌else◌, None, Some, is_some, IfOk, OnOk, OnErr, [], ◌∷◌, length, vec_len};
+    ghost use Rattle.std.specs.Prelude.{◌≡◌, ◌+◌, ◌-◌, ◌^◌, ◌<◌, ◌≤◌, ℕ, true, false, nat_eq, if◌then◌else◌, None, Some, is_some, option_map, IfOk, OnOk, OnErr, [], ◌∷◌, length, vec_len};
     ghost use Rattle.std.specs.BTreeMap.{get, btree_map_len};
     ghost use Rattle.std.specs.Ordering.{nat_cmp};
     ghost use Rattle.std.specs.Option.{SomeIff};
     ghost use Rattle.std.specs.Result.{result_err};
     ghost use Rattle.fab_base.specs.Layouts as layouts;
     ghost use Rattle.fab_base.specs.Layouts.{group_of, most_groups};
-    ghost use Rattle.protocol.specs.Nodes.{has_block, has_length, refusal_in, refusal_of, coordinator_in, began_in, known_after, next_call, replied_at, resent_up_to, with_call, with_known};
+    ghost use Rattle.protocol.specs.Nodes.{has_block, has_length, refusal_in, refusal_of, coordinator_in, began_in, known_after, next_call, replied_at, resent_up_to, view_in, with_call, with_known};
+    ghost use Rattle.node.specs.Operations.{coordinator_of};
     ghost use Rattle.quorum.specs.Quorums.{IsWithinLimits};
     ghost use Rattle.coord_phase.specs.Operations.{PriorIsWithinLimits, group_in_view};
     ghost use Rattle.messages.specs.declared.packets.Message.TheVariants as message;
@@ -240,9 +247,71 @@ impl OpenCalls {
         }
     }
 
+    /// Where the next call comes from, at this time of the brick's clock.
+    pub(crate) fn source(&self, now: u64) -> CallSource
+        ensures { result ≡ record { me = self.now.me; seq = self.now.seq; stamps = self.now.stamps; now = now } }
+    {
+        CallSource {
+            me: self.me,
+            seq: self.seq,
+            stamps: self.stamps,
+            now,
+        }
+    }
+
+    /// The same, once a reply made a time known.
+    pub(crate) fn source_after(&self, now: u64, reply: &Reply) -> CallSource
+        ensures me { result.me ≡ self.now.me }
+        ensures seq { result.seq ≡ self.now.seq }
+        ensures boot { result.stamps.boot ≡ self.now.stamps.boot }
+        ensures known { result.stamps.known ≡ known_after self.now.stamps.known reply.now }
+        ensures now { result.now ≡ now }
+    {
+        let stamps = after_reply(self.stamps, reply);
+        CallSource {
+            me: self.me,
+            seq: self.seq,
+            stamps,
+            now,
+        }
+    }
+
+    /// Takes note that the call of this number, which is the last one then, was made of something other than an operation, with a stamp of this time.
+    pub(crate) fn made_read(&mut self, seq: u64, time: u64)
+        requires later { self.old.seq ≤ seq }
+        ensures state { (parts : OtherParts) → state_with parts self.new ≡ record (state_with parts self.old) { seq = seq; known = time } }
+        ensures operations { self.new.operations ≡ self.old.operations }
+        ensures same { (layout : layouts.Layout) → AreSameCalls layout self.old self.new }
+    {
+        self.seq = seq;
+        self.stamps.known = time;
+    }
+
+    /// This is the greatest time that the brick knows now.
+    pub(crate) fn knows(&mut self, time: u64)
+        ensures state { (parts : OtherParts) → state_with parts self.new ≡ with_known (state_with parts self.old) time }
+        ensures operations { self.new.operations ≡ self.old.operations }
+        ensures seq { self.new.seq ≡ self.old.seq }
+        ensures same { (layout : layouts.Layout) → AreSameCalls layout self.old self.new }
+    {
+        self.stamps.known = time;
+    }
+
+    /// The view of the open operation of a call, if there is one.
+    pub(crate) fn view_of(&self, seq: u64) -> Option<View>
+        ensures { result ≡ option_map (λ op. view_in (coordinator_of op)) (get nat_cmp self.now.operations seq) }
+    {
+        match self.operations.get(&seq) {
+            Some(open) => Some(open.view()),
+            None => None,
+        }
+    }
+
     /// Takes note of a time that a reply makes known.
     pub(crate) fn heard(&mut self, reply: &Reply)
         ensures state { (parts : OtherParts) → state_with parts self.new ≡ with_known (state_with parts self.old) (known_after (state_with parts self.old).known reply.now) }
+        ensures operations { self.new.operations ≡ self.old.operations }
+        ensures seq { self.new.seq ≡ self.old.seq }
         ensures same { (layout : layouts.Layout) → AreSameCalls layout self.old self.new }
     {
         self.stamps = after_reply(self.stamps, reply);

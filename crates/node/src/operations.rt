@@ -5,7 +5,7 @@ ghost use Rattle.protocol.specs.declared.phases.Counted.{Counted};
 ghost use Rattle.protocol.specs.Coordinators.{mover_of, lowest_mover};
 ghost use Rattle.node.specs.Kinds.{shown_in};
 
-use crate::outs::Outs;
+use crate::outs::{Outs, Tellings};
 use crate::sending::{messages_in, put_collects};
 use crate::teaching::teaching;
 use coord_block::BlockOp;
@@ -67,7 +67,8 @@ pub struct Operation {
 }
 
 impl Operation {
-    ghost use Rattle.std.specs.Prelude.{◌≡◌, ◌≤◌, true, None, IfOk, IfSome, OnOk, OnErr, [], ◌∷◌, length, vec_len, vec_capacity};
+    ghost use Rattle.std.specs.Prelude.{◌≡◌, ◌≤◌, true, false, Option, None, IfOk, IfSome, OnOk, OnErr, [], ◌∷◌, length, vec_len, vec_capacity};
+    ghost use Rattle.fab_base.specs.declared.stamps.Stamp as machine_stamp;
     ghost use Rattle.quorum.specs.Quorums.{IsWithinLimits};
     ghost use Rattle.fab_base.specs.Layouts.{Layout};
     ghost use Rattle.protocol.specs.Nodes.{has_block, has_length, seen_told};
@@ -82,7 +83,7 @@ impl Operation {
     ghost use Rattle.node.specs.declared.operations.Kind.TheVariants as kind;
     ghost use Rattle.node.specs.Operations.{shown_of, coordinator_of, EndsOrWaits, IsOperationOf};
     ghost use Rattle.node.specs.Teaching.{teaching};
-    ghost use Rattle.node.specs.Decisions.{told_in, or_waits, known_by, SendsPhase, CarriesOut, Collects};
+    ghost use Rattle.node.specs.Decisions.{told_in, or_waits, known_by, SendsPhase, CarriesOut, Collects, NeverEnds};
     ghost use Rattle.node.specs.Sending.{collect_messages};
 
     /// The operation, as the coordinators of all kinds share it.
@@ -104,7 +105,7 @@ impl Operation {
     }
 
     /// The view that it belongs to.
-    fn view(&self) -> View
+    pub(crate) fn view(&self) -> View
         ensures { result ≡ view_in (coordinator_of self.now) }
     {
         View {
@@ -126,6 +127,13 @@ impl Operation {
         ensures { result ≡ (coordinator_of self.now).stamp.view }
     {
         self.shown().stage().stamp.view
+    }
+
+    /// The time of its stamp.
+    pub(crate) fn time(&self) -> u64
+        ensures { result ≡ (coordinator_of self.now).stamp.time }
+    {
+        self.shown().stage().stamp.time
     }
 
     /// Begins an operation on a stripe of a group, or on a block of it, in this view.
@@ -332,11 +340,11 @@ impl Operation {
         match op.news() {
             News::Made => Outs {
                 messages,
-                told: Some(Told::Made {
+                told: Tellings::of_version(Some(Told::Made {
                     seq: call.seq,
                     stamp,
                     base: op.base(),
-                }),
+                })),
                 answer: None,
                 report: None,
             },
@@ -366,7 +374,7 @@ impl Operation {
         };
         Outs {
             messages: put_collects(room, self.group(), call, self.shown().made()),
-            told,
+            told: Tellings::of_version(told),
             answer: Some(Answered { seq, answer }),
             report: None,
         }
@@ -407,6 +415,14 @@ impl Operation {
             Next::End(answer) => Ok(self.end(room, call, answer)),
             Next::Recover(_) => unreachable!(),
         }
+    }
+
+    /// Whether a message may end the operation: it counts, and as many replies count then as decide the phase.
+    pub(crate) fn may_end(&self, from: BrickId, message: &Message) -> bool
+        ensures { result ≡ false → (fresh : Option machine_stamp.Stamp) → NeverEnds (decided_on fresh (shown_of self.now) from message.now) }
+    {
+        self.counts(from, message)
+            && self.shown().counted().len() + 1 >= usize::from(self.shown().asked().quorum())
     }
 
     /// Counts a reply on which the operation waits for more.
