@@ -1,6 +1,6 @@
 -- A step of a brick of the layout leaves one, and sends and answers what has a spelling, whatever message came from a brick, and whatever was asked.
 use Rattle.std.proofs.Common.{◌≡◌, ℕ, ◌+◌, ◌*◌, ◌<◌, ◌≤◌, Bool, true, false, List, ◌++◌, length, Option, Some, None, refl, replicate, subst, arith}
-use Rattle.std.specs.Prelude.{[], not, is_some, nat_eq, nat_lt, ◌-◌, ◌&&◌, ◌||◌, if◌then◌else◌, max}
+use Rattle.std.specs.Prelude.{not, is_some, nat_eq, nat_lt, ◌-◌, ◌&&◌, ◌||◌, if◌then◌else◌, max}
 use Rattle.std.specs.Option.{IfSome, option_map}
 use Rattle.std.proofs.lemmas.Bool.{cond_both, eqb-true, eqb-false, ltb-true, and_parts, or_parts, not-false, false≢true}
 use Rattle.std.proofs.lemmas.List.{length-replicate}
