@@ -24,6 +24,9 @@ pub mod Beside
 pub mod Following
 pub mod Reading
 pub mod Underway
+pub mod Undertaken
+pub mod ReadReplies
+pub mod TakenUp
 pub mod Counting
 pub mod Ballots
 pub mod CountsHere

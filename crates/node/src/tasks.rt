@@ -194,7 +194,8 @@ impl Tasks {
         ensures step { (kept : KeptParts) → StepsAs self.old.work.calls.me (tasks_in kept self.new)
             (then_told told (followed_step self.old.work.calls.me group (state_in kept self.old.work) next)) result }
         ensures few { length result.messages ≡ sent_in next }
-        ensures same { (layout : layouts.Layout) → FollowsFrom layout self.old.work.calls.seq group next → AreSameTasks layout self.old self.new }
+        ensures same { (layout : layouts.Layout) → FollowsFrom layout self.old.work.calls.seq group next
+            → AreSameTasks layout (record { work = self.old.work; job = None }) self.new }
     {
         match next {
             Followed::Reads(messages, open) => {
