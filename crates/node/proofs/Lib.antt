@@ -11,6 +11,7 @@ pub mod Resending
 pub mod Views
 pub mod Moments
 pub mod Moved
+pub mod MayEnd
 pub mod Hearing
 pub mod Steps
 pub mod Stills
@@ -28,4 +29,5 @@ pub mod Counting
 pub mod Ballots
 pub mod CountsHere
 pub mod Proposed
+pub mod Syncing
 pub mod KeptBricks
