@@ -25,6 +25,7 @@ pub mod Beside
 pub mod Following
 pub mod Reading
 pub mod Underway
+pub mod Turning
 pub mod Counting
 pub mod Ballots
 pub mod CountsHere
