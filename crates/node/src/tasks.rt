@@ -150,10 +150,11 @@ impl Tasks {
     pub(crate) fn view_of(&self, seq: u64) -> Option<View>
         ensures { (kept : KeptParts) → result ≡ option_map view_in ((tasks_in kept self.now).calls seq) }
     {
-        if let Some(open) = &self.job
-            && open.reads(seq)
-        {
-            return Some(open.view());
+        if self.reads(seq) {
+            return match &self.job {
+                Some(open) => Some(open.view()),
+                None => unreachable!(),
+            };
         }
         self.work.calls.view_of(seq)
     }
@@ -410,10 +411,11 @@ impl Tasks {
         ensures few { IfOk result (λ messages. vec_len messages ≤ 4224) }
     {
         let mut messages = self.work.on_tick(alloc)?;
-        if let Some(open) = &self.job {
-            let mut last = open.on_tick(alloc)?;
-            messages.append(&mut last)?;
-        }
+        let Some(open) = &self.job else {
+            return Ok(messages);
+        };
+        let mut last = open.on_tick(alloc)?;
+        messages.append(&mut last)?;
         Ok(messages)
     }
 }
