@@ -1,0 +1,82 @@
+-- The read of the synchronisation ends, or waits for more.
+use Rattle.std.proofs.Common.{◌≡◌, ◌≤◌, ◌×◌, ℕ, true, nat_eq, Option, Some, None, refl, sym, ◌∙◌, ap, subst}
+use Rattle.fab_base.specs.declared.answers.Answer.{Answer}
+use Rattle.messages.specs.declared.packets.Message.{Message}
+use Rattle.messages.specs.declared.packets.Message.TheVariants as message
+use Rattle.messages.specs.declared.replies.Lineage.{Lineage}
+use Rattle.messages.specs.declared.replies.Reply.{Reply}
+use Rattle.messages.specs.declared.replies.Reply.TheVariants.{Moved}
+use Rattle.stripe_code.specs.Codes.{coding}
+use Rattle.protocol.specs.Nodes.{Node, no_step, replied_at}
+use Rattle.coord_phase.specs.Operations.{counts}
+use Rattle.node.specs.declared.call_sources.CallSource.{CallSource}
+use Rattle.node.specs.declared.jobs.Followed.{Followed}
+use Rattle.node.specs.declared.jobs.OpenJob.{OpenJob}
+use Rattle.node.specs.declared.outs.Tellings.{Tellings}
+use Rattle.node.specs.declared.tasks.Tasks.{Tasks}
+use Rattle.node.specs.Jobs.{followed_step, then_told}
+use Rattle.node.specs.Operations.{EndsOrWaits, coordinator_of, shown_of}
+use Rattle.node.specs.Reads.{HasCountedRead, MovesOn}
+use Rattle.node.specs.States.{KeptParts, state_in, state_with}
+use Rattle.node.specs.Tasks.{IsJobAt, IsJobIn, read_seq, step_on, tasks_in}
+use Rattle.node.proofs.ReadReplies.{counts_read, read_free, read_waits, reads_call, replied_ends, replied_waits}
+use Rattle.node.proofs.tasks.Tasks.hear_moved_read.Goals as goal
+use Rattle.node.proofs.tasks.Tasks.hear_moved_read.Goals.{In_ok-moved}
+
+-- the read is of the brick
+at_brick : (c : In_ok-moved) → IsJobAt c.args.layout.now c.args.self.now.work.calls c.in-Some.open
+at_brick c = subst (IsJobIn c.args.layout.now c.args.self.now.work.calls) c.in-Some.is c.requires.of.job_is
+
+-- it has the call
+same_call : (c : In_ok-moved) → nat_eq (read_seq c.in-Some.open) c.args.call.seq ≡ true
+same_call c = reads_call c.args.self.now.job c.in-Some.open c.args.call.seq c.in-Some.is c.requires.reads
+
+-- the reply counts in it
+counted_so : (c : In_ok-moved)
+    → counts (shown_of c.in-Some.open.read) c.args.packet.now.from (message.Reply c.args.call (Moved c.args.view (Some c.requires.moved.0))) ≡ true
+counted_so c =
+    subst (λ (m : Message). counts (shown_of c.in-Some.open.read) c.args.packet.now.from m ≡ true)
+    (c.requires.reply ∙ ap (message.Reply c.args.call) c.requires.moved.1)
+    (counts_read c.args.self.now c.in-Some.open c.args.call.seq c.args.packet.now.from c.args.packet.now.message c.in-Some.is (same_call c) c.requires.counts)
+
+-- where the next call comes from
+abbrev next_at : In_ok-moved → CallSource
+next_at c = record { me = c.args.self.now.work.calls.me; seq = c.args.self.now.work.calls.seq; stamps = c.args.self.now.work.calls.stamps; now = c.args.now }
+
+moves_on : (c : In_ok-moved) → MovesOn c.args.layout.now c.in-Some.open c.args.packet.now.from c.args.view (next_at c) c.in_ok-moved.field-0
+moves_on c =
+    subst (λ (at : CallSource). MovesOn c.args.layout.now c.in-Some.open c.args.packet.now.from c.args.view at c.in_ok-moved.field-0)
+    c.source-at.ensures c.in_ok-moved.ensures
+
+-- the machine's step, where the brick has the read under way
+step_for : (c : In_ok-moved) (kept : KeptParts) → (let tasks : Tasks = record { work = c.args.self.now.work; job = Some c.in-Some.open } in
+    step_on c.args.layout.now c.args.now c.args.packet.now.from c.args.call (Moved c.args.view (Some c.requires.moved.0)) c.args.self.now kept
+    ≡ step_on c.args.layout.now c.args.now c.args.packet.now.from c.args.call (Moved c.args.view (Some c.requires.moved.0)) tasks kept)
+step_for c kept =
+    λ i. step_on c.args.layout.now c.args.now c.args.packet.now.from c.args.call (Moved c.args.view (Some c.requires.moved.0))
+    (record { work = c.args.self.now.work; job = c.in-Some.is i }) kept
+
+pub returns-in-Some-2-clause-turn : goal.returns-in-Some-2-clause-turn
+unfolding state_with
+returns-in-Some-2-clause-turn c =
+    let layout = c.args.layout.now in
+    let before = c.args.self.now in
+    let held = c.in-Some.open in
+    let from = c.args.packet.now.from in
+    let call = c.args.call in
+    let lineage : Lineage = c.requires.moved.0 in
+    let told = c.in-Some-2.told in
+    let next = c.in-Some-2.next in
+    let is = subst (λ (o : Option (Tellings × Followed)). MovesOn layout held from c.args.view (next_at c) o) c.in-Some-2.is (moves_on c) in
+    let answer : Answer = is.0 in
+    let at = at_brick c in (
+      ap (λ (job : Option OpenJob). record before { job = job }) (sym c.in-Some.is),
+      ap (λ (t : Tellings). t.begun) is.1.1.0,
+      ?,
+      subst (λ (r : Reply). (kept : KeptParts) → step_on layout c.args.now from call r before kept
+          ≡ then_told told (followed_step before.work.calls.me held.job.group (state_in kept before.work) next)) (sym c.requires.moved.1)
+          (λ kept. step_for c kept
+          ∙ replied_ends layout held at.open_is from call c.args.view lineage (counted_so c) (next_at c) (state_in kept before.work)
+          (record { boot = refl; seq = refl; known = refl }) (read_free layout before.work held kept at) before.work.calls.me c.args.now (same_call c) refl refl
+          answer is.1.0 told next is.1.1.0 is.1.1.1.0),
+    )
