@@ -17,7 +17,8 @@ use Rattle.messages.specs.declared.packets.Message.{Message}
 use Rattle.messages.specs.declared.packets.Packet.{Packet}
 use Rattle.protocol.specs.declared.tellings.SyncAnswer.{SyncAnswer}
 use Rattle.protocol.specs.declared.tellings.SyncAnswer.TheVariants.{Synced, Stopped, Spent}
-use Rattle.protocol.specs.Coordinators.{Coordinator, Looks}
+use Rattle.protocol.specs.Coordinators.{Coordinator}
+use Rattle.protocol.specs.declared.phases.Phase.TheVariants.{Looks}
 use Rattle.protocol.specs.Views.{group_kept}
 use Rattle.protocol.specs.Jobs.{Attempt, Job, JobNext, Reads, Finishes, GivesUp, job_after, job_ask, most_tries, spent_answer, stopped_answer}
 use Rattle.protocol.specs.declared.tellings.Report.{Report}
