@@ -28,8 +28,8 @@ unfolding state_with
 returns-clause-packets c = λ layout kept are.
     let tasks = c.args.self.now in
     let me = tasks.work.calls.me in
-    let held : OpenJob = c.in-Some.open.now in
-    let here : tasks.job ≡ Some held = sym c.in-Some.ensures in
+    let held : OpenJob = c.in-Some.open in
+    let here : tasks.job ≡ Some held = c.in-Some.is in
     let at = subst (λ (j : Option OpenJob). IsJobIn layout tasks.work.calls j) here are.job_is in
     let first = c.in_ok-messages.messages.items in
     let last = c.in_ok-last.last.items in

@@ -12,9 +12,9 @@ use Rattle.node.proofs.Beside.{calls_apart}
 use Rattle.node.proofs.Underway.{apart_so, mapped_view}
 use Rattle.node.proofs.tasks.Tasks.view_of.Goals as goal
 
-pub returns-else-reads : goal.returns-else-reads
+pub returns : goal.returns
 unfolding state_with
-returns-else-reads c = λ kept.
+returns c = λ kept.
     let tasks = c.args.self.now in
     let seq = c.args.seq in
     let f = λ (k : ℕ). option_map coordinator_of (get nat_cmp tasks.work.calls.operations k) in
