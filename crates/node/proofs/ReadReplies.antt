@@ -26,7 +26,8 @@ use Rattle.node.specs.declared.outs.Tellings.{Tellings}
 use Rattle.node.specs.Jobs.{FollowsFrom, GoesOn, IsOpenJobOf, MakesFrom, closed, followed_step, job_at, job_of, reading_of, sent_in, then_told, with_reading}
 use Rattle.node.specs.Operations.{EndsOrWaits, IsOperationOf, coordinator_of, shown_of}
 use Rattle.node.specs.Outcomes.{told_list}
-use Rattle.node.specs.Reads.{HasCountedRead, MovesOn, read_step}
+use Rattle.node.specs.declared.jobs.ReadTurn.{ReadTurn}
+use Rattle.node.specs.Reads.{HasCountedRead, IsReadTurn, read_step, turn_step}
 use Rattle.node.specs.declared.open_work.OpenWork.{OpenWork}
 use Rattle.node.specs.declared.tasks.Tasks.{Tasks}
 use Rattle.node.specs.Moves as moves
@@ -69,6 +70,20 @@ module _ (layout : Layout) (me : BrickId) (now : ℕ) (from : BrickId) where
       ∙ knows_once beside known job c next
       ∙ (λ i. carried_read (coding layout) (sym me_is i) (sym now_is i) (with_known beside known) (sym known_is i) job c
       (on_reply layout.block (block_code layout.block) (fresh_stamp (sym me_is i) c.stamp.view (sym now_is i) (sym boot_is i) (sym known_is i)) c from call reply))
+
+  -- what the reply comes to is what the brick does
+  pub turn_is : (at : CallSource) (held after : OpenJob) (node : Node) (call : Call) (reply : Reply) (told : Message) (turned : ReadTurn)
+      → IsReadTurn layout held from told at turned after → told ≡ message.Reply call reply → nat_eq (read_seq held) call.seq ≡ true
+      → at.me ≡ me → at.now ≡ now → at.seq ≡ node.seq → at.stamps.boot ≡ node.boot → at.stamps.known ≡ known_after node.known reply
+      → node.calls (read_seq held) ≡ None
+      → replied_at (coding layout) me now from (with_reading (Some (reading_of held)) node) call reply
+      ((with_reading (Some (reading_of held)) node).calls call.seq)
+      ≡ turn_step me after (with_known node (known_after node.known reply)) turned
+  turn_is at held after node call reply told turned is told_is same me_is now_is seq_is boot_is known_is free =
+      let later : Node = with_known node (known_after node.known reply) in
+      replied_read at held node call reply same me_is now_is boot_is known_is
+      ∙ is.step later call reply told_is (record { boot = sym boot_is; seq = sym seq_is; known = sym known_is }) free
+      ∙ (λ i. turn_step (me_is i) after later turned)
 
 -- ---- a reply that counts, and tells a later view
 

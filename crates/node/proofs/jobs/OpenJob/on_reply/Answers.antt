@@ -60,6 +60,7 @@ decided_so c call reply is =
 
 pub returns-then-is_none-clause-turn : goal.returns-then-is_none-clause-turn
 returns-then-is_none-clause-turn c =
+    let d = (goal.at.returns-then-is_none-clause-turn c).In_ok-outs in
     let layout = c.args.layout.now in
     let before = c.args.self.now in
     let at = c.args.at in
@@ -76,7 +77,7 @@ returns-then-is_none-clause-turn c =
           (fresh_stamp at.me k.stamp.view at.now at.stamps.boot at.stamps.known) k c.args.from call reply in
           goes_so layout at before node makes free next after c.on_reply.new.stamps.known outs refl refl
           (subst (λ (n : machine.Next). CarriesOut layout before.read after.read at.stamps.known c.on_reply.new.stamps.known (or_waits k n) outs)
-          (decided_so c call reply is) carried) none;
+          (decided_so d call reply is) carried) none;
       left = record {
         group = refl;
         seq = subst (λ (answers : List Answered). KeepsCall answers before.read after.read) none carried.keeps;
@@ -97,6 +98,7 @@ end-next-requires-clause-one c =
 
 pub returns-clause-turn : goal.returns-clause-turn
 returns-clause-turn c =
+    let d = (goal.at.returns-clause-turn c).In_ok-outs in
     let layout = c.args.layout.now in
     let before = c.args.self.now in
     let at = c.args.at in
@@ -118,7 +120,7 @@ returns-clause-turn c =
           let decided = machine.on_reply layout.block (block_code layout.block)
           (fresh_stamp at.me k.stamp.view at.now at.stamps.boot at.stamps.known) k c.args.from call reply in
           let carried = subst (λ (n : machine.Next). CarriesOut layout before.read c.on_reply.new.self at.stamps.known c.on_reply.new.stamps.known (or_waits k n) outs)
-          (decided_so c call reply is) (c.in_ok-outs.ensures.step layout c.requires.of.is_operation) in
+          (decided_so d call reply is) (c.in_ok-outs.ensures.step layout c.requires.of.is_operation) in
           let end = ends_in k decided seq some.0 outs.answers carried.answers one in
           let answer : Answer = end.0 in
           let seen : Option Stamp = end.1.0 in

@@ -1,20 +1,23 @@
 -- The read of the synchronisation ends, or waits for more.
 use Rattle.std.proofs.Common.{◌≡◌, ◌≤◌, ◌×◌, ℕ, true, nat_eq, Option, Some, None, refl, sym, ◌∙◌, ap, subst}
 use Rattle.fab_base.specs.declared.answers.Answer.{Answer}
+use Rattle.fab_base.specs.declared.identities.GroupId.{GroupId}
 use Rattle.messages.specs.declared.packets.Message.{Message}
 use Rattle.messages.specs.declared.packets.Message.TheVariants as message
 use Rattle.messages.specs.declared.replies.Lineage.{Lineage}
 use Rattle.messages.specs.declared.replies.Reply.{Reply}
 use Rattle.messages.specs.declared.replies.Reply.TheVariants.{Moved}
 use Rattle.stripe_code.specs.Codes.{coding}
-use Rattle.protocol.specs.Nodes.{Node, no_step, replied_at}
-use Rattle.coord_phase.specs.Operations.{counts}
+use Rattle.protocol.specs.Coordinators as machine
+use Rattle.protocol.specs.Nodes.{Node, no_step}
+use Rattle.coord_phase.specs.Decisions.{decided_on}
+use Rattle.coord_phase.specs.Operations.{counts, heard}
 use Rattle.node.specs.declared.call_sources.CallSource.{CallSource}
 use Rattle.node.specs.declared.jobs.Followed.{Followed}
 use Rattle.node.specs.declared.jobs.OpenJob.{OpenJob}
 use Rattle.node.specs.declared.outs.Tellings.{Tellings}
 use Rattle.node.specs.declared.tasks.Tasks.{Tasks}
-use Rattle.node.specs.Jobs.{followed_step, then_told}
+use Rattle.node.specs.Jobs.{FollowsFrom, followed_step, then_told}
 use Rattle.node.specs.Operations.{EndsOrWaits, coordinator_of, shown_of}
 use Rattle.node.specs.Reads.{HasCountedRead, MovesOn}
 use Rattle.node.specs.States.{KeptParts, state_in, state_with}
@@ -56,27 +59,81 @@ step_for c kept =
     λ i. step_on c.args.layout.now c.args.now c.args.packet.now.from c.args.call (Moved c.args.view (Some c.requires.moved.0))
     (record { work = c.args.self.now.work; job = c.in-Some.is i }) kept
 
+-- it ends so
+ends_at : (c : In_ok-moved) (told : Tellings) (next : Followed) → c.in_ok-moved.field-0 ≡ Some (told, next)
+    → MovesOn c.args.layout.now c.in-Some.open c.args.packet.now.from c.args.view (next_at c) (Some (told, next))
+ends_at c told next is =
+    subst (λ (o : Option (Tellings × Followed)). MovesOn c.args.layout.now c.in-Some.open c.args.packet.now.from c.args.view (next_at c) o) is (moves_on c)
+
+-- or waits
+waits_at : (c : In_ok-moved) → c.in_ok-moved.field-0 ≡ None → EndsOrWaits (coordinator_of c.in-Some.open.read) c.args.packet.now.from c.args.view None
+waits_at c is =
+    subst (λ (o : Option (Tellings × Followed)). MovesOn c.args.layout.now c.in-Some.open c.args.packet.now.from c.args.view (next_at c) o) is (moves_on c)
+
 pub returns-in-Some-2-clause-turn : goal.returns-in-Some-2-clause-turn
 unfolding state_with
 returns-in-Some-2-clause-turn c =
+    let d = (goal.at.returns-in-Some-2-clause-turn c).In_ok-moved in
     let layout = c.args.layout.now in
     let before = c.args.self.now in
+    let me = before.work.calls.me in
+    let held = c.in-Some.open in
+    let told = c.in-Some-2.told in
+    let next = c.in-Some-2.next in
+    let is = ends_at d told next c.in-Some-2.is in
+    let at = at_brick d in (
+      ap (λ (job : Option OpenJob). record before { job = job }) (sym c.in-Some.is),
+      ap (λ (t : Tellings). t.begun) is.1.1.0,
+      subst (λ (g : GroupId). FollowsFrom layout before.work.calls.seq g next) (sym c.group.ensures) is.1.1.1.1.0,
+      subst (λ (r : Reply). (kept : KeptParts) → step_on layout c.args.now c.args.packet.now.from c.args.call r before kept
+          ≡ then_told told (followed_step me c.group.result (state_in kept before.work) next)) (sym c.requires.moved.1)
+          (λ kept. step_for d kept
+          ∙ replied_ends layout held at.open_is c.args.packet.now.from c.args.call c.args.view c.requires.moved.0 (counted_so d) (next_at d)
+          (state_in kept before.work) (record { boot = refl; seq = refl; known = refl }) (read_free layout before.work held kept at)
+          me c.args.now (same_call d) refl refl is.0 is.1.0 told next is.1.1.0 is.1.1.1.0
+          ∙ ap (λ (g : GroupId). then_told told (followed_step me g (state_in kept before.work) next)) (sym c.group.ensures)),
+    )
+
+pub returns-in-Some-2-clause-may : goal.returns-in-Some-2-clause-may
+returns-in-Some-2-clause-may c =
+    let d = (goal.at.returns-in-Some-2-clause-may c).In_ok-moved in
+    let layout = c.args.layout.now in
+    let is = ends_at d c.in-Some-2.told c.in-Some-2.next c.in-Some-2.is in (
+      layout,
+      subst (λ (g : GroupId). FollowsFrom layout c.args.self.now.work.calls.seq g c.in-Some-2.next) (sym c.group.ensures) is.1.1.1.1.0,
+      ap (λ (t : Tellings). t.begun) is.1.1.0,
+      is.1.1.1.1.1,
+    )
+
+pub count-requires-clause-waits : goal.count-requires-clause-waits
+count-requires-clause-waits c =
+    let d = (goal.at.count-requires-clause-waits c).In_ok-moved in
+    let held = c.in-Some.open in
+    let from = c.args.packet.now.from in
+    subst (λ (m : Message). decided_on None (shown_of held.read) from m ≡ machine.Waits (heard (shown_of held.read) from m).state)
+    (sym (c.requires.reply ∙ ap (message.Reply c.args.call) c.requires.moved.1))
+    (read_waits c.args.layout.now held (at_brick d).open_is from c.args.call c.args.view c.requires.moved.0 (counted_so d) (waits_at d c.in_default.is))
+
+pub returns-clause-turn : goal.returns-clause-turn
+unfolding state_with
+returns-clause-turn c =
+    let d = (goal.at.returns-clause-turn c).In_ok-moved in
+    let layout = c.args.layout.now in
+    let before = c.args.self.now in
+    let me = before.work.calls.me in
     let held = c.in-Some.open in
     let from = c.args.packet.now.from in
     let call = c.args.call in
-    let lineage : Lineage = c.requires.moved.0 in
-    let told = c.in-Some-2.told in
-    let next = c.in-Some-2.next in
-    let is = subst (λ (o : Option (Tellings × Followed)). MovesOn layout held from c.args.view (next_at c) o) c.in-Some-2.is (moves_on c) in
-    let answer : Answer = is.0 in
-    let at = at_brick c in (
-      ap (λ (job : Option OpenJob). record before { job = job }) (sym c.in-Some.is),
-      ap (λ (t : Tellings). t.begun) is.1.1.0,
-      ?,
-      subst (λ (r : Reply). (kept : KeptParts) → step_on layout c.args.now from call r before kept
-          ≡ then_told told (followed_step before.work.calls.me held.job.group (state_in kept before.work) next)) (sym c.requires.moved.1)
-          (λ kept. step_for c kept
-          ∙ replied_ends layout held at.open_is from call c.args.view lineage (counted_so c) (next_at c) (state_in kept before.work)
-          (record { boot = refl; seq = refl; known = refl }) (read_free layout before.work held kept at) before.work.calls.me c.args.now (same_call c) refl refl
-          answer is.1.0 told next is.1.1.0 is.1.1.1.0),
+    let now : OpenJob = c.count.new.self in
+    let after : Tasks = record { work = before.work; job = Some now } in
+    let at = at_brick d in
+    let has = subst (λ (m : Message). HasCountedRead from m held now) c.requires.reply c.in_ok-count.ensures.counted in (
+      record { was = held; now = now; job_before = c.in-Some.is; job_after = refl; counted = has; work_is = refl },
+      subst (λ (r : Reply). HasCountedRead from (message.Reply call r) held now
+          → (kept : KeptParts) → step_on layout c.args.now from call r before kept ≡ no_step (tasks_in kept after)) (sym c.requires.moved.1)
+          (λ counts kept. step_for d kept
+          ∙ replied_waits layout held at.open_is from call c.args.view c.requires.moved.0 (counted_so d) (next_at d)
+          (state_in kept before.work) (record { boot = refl; seq = refl; known = refl }) (read_free layout before.work held kept at)
+          me c.args.now (same_call d) refl refl (waits_at d c.in_default.is) now counts)
+          has,
     )
