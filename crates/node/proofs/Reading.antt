@@ -162,7 +162,7 @@ module _ (layout : Layout) (at : CallSource) (before : OpenJob) (node : Node) (m
       ∙ ap (then_told told) (sym last_is)
 
 -- what was prepared comes after it, by whichever way it ended
-pub ended_goes : (layout : Layout) (held : OpenJob) (at : CallSource) (p : Prepared) (cause : Option Cause) → IsPrepared layout held at p
-    → GoesOn layout held.job held.view at cause (ended_by cause p.answered p.aborted)
-ended_goes layout held at p None is = is.answered
-ended_goes layout held at p (Some cause) is = is.aborted cause
+pub ended_goes : (layout : Layout) (job : OpenJob) (at : CallSource) (p : Prepared) (cause : Option Cause) → IsPrepared layout job at p
+    → GoesOn layout job.job job.view at cause (ended_by cause p.answered p.aborted)
+ended_goes layout job at p None is = is.answered
+ended_goes layout job at p (Some cause) is = is.aborted cause

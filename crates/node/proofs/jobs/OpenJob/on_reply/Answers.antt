@@ -1,5 +1,5 @@
 -- The read goes on, or what was prepared comes after it.
-use Rattle.std.proofs.Common.{◌≡◌, ◌≤◌, ◌×◌, ℕ, Bool, true, false, not, List, [], ◌∷◌, ◌++◌, length, Option, Some, None, is_some, option_to_list, refl, sym, ◌∙◌, ap, subst, arith}
+use Rattle.std.proofs.Common.{◌≡◌, ◌≤◌, ℕ, Bool, true, false, not, List, [], ◌∷◌, ◌++◌, length, Option, Some, None, is_some, option_to_list, refl, sym, ◌∙◌, ap, subst, arith}
 use Rattle.fab_base.specs.declared.answers.Answer.{Answer}
 use Rattle.fab_base.specs.declared.answers.Cause.{Cause}
 use Rattle.fab_base.specs.declared.identities.BrickId.{BrickId}
@@ -123,10 +123,10 @@ returns-clause-turn c =
           (decided_so d call reply is) (c.in_ok-outs.ensures.step layout c.requires.of.is_operation) in
           let end = ends_in k decided seq some.0 outs.answers carried.answers one in
           let answer : Answer = end.0 in
-          let seen : Option Stamp = end.1.0 in
-          let stored : Option Stamp = end.1.1.0 in
-          let next_is : decided ≡ machine.Ends answer seen stored = end.1.1.1.0 in
-          let cause_is : cause_in outs.answers ≡ abort_cause answer = end.1.1.1.1 in
+          let seen : Option Stamp = end.1 in
+          let stored : Option Stamp = end.2 in
+          let next_is : decided ≡ machine.Ends answer seen stored = end.3 in
+          let cause_is : cause_in outs.answers ≡ abort_cause answer = end.4 in
           let done = subst (λ (n : machine.Next). CarriesOut layout before.read c.on_reply.new.self at.stamps.known c.on_reply.new.stamps.known (or_waits k n) outs)
           next_is carried in
           ap (carried_read (coding layout) at.me at.now (with_reading (Some (reading_of before)) node) at.stamps.known (job_of before) k) next_is
@@ -138,3 +138,16 @@ returns-clause-turn c =
           (c.end-next.ensures.step at.me group node);
       left = (c.end-next.ensures.from layout at.seq group is_prepared.read_answered is_prepared.read_aborted, c.end-next.ensures.begun);
     }
+
+pub unreachable-requires : goal.unreachable-requires
+unreachable-requires c =
+    let k = coordinator_of c.args.self.now.read in
+    let next = decided_on c.fresh_stamp-fresh.result (shown_of c.args.self.now.read) c.args.from c.args.message.now in
+    let outs = c.in_ok-outs.outs in
+    let carried = c.in_ok-outs.ensures.step c.args.layout.now c.requires.of.is_operation in
+    let never = subst (λ (o : Option Prepared). MayFollow c.args.layout.now c.args.self.now c.args.at c.args.from c.args.message.now o) c.in-None.is
+    c.in_ok-prepared.ensures in
+    let some = one_answered c.outs.inside.answer c.is_none.result c.is_none.ensures c.if-is_none.false in
+    let both : [] ≡ some.0 ∷ [] =
+    sym (carried.answers ∙ unanswered k next k.call.seq (never c.fresh_stamp-fresh.result)) ∙ sym (ap (λ (o : Outcome). o.answers) c.outs.view_is) ∙ some.1 in
+    cc

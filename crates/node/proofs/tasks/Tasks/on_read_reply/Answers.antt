@@ -1,5 +1,5 @@
 -- The read of the synchronisation goes on, or ends.
-use Rattle.std.proofs.Common.{◌≡◌, ◌≤◌, ◌×◌, ℕ, true, nat_eq, Option, Some, None, refl, sym, ◌∙◌, ap, subst, arith}
+use Rattle.std.proofs.Common.{◌≡◌, ◌≤◌, ℕ, true, nat_eq, Option, Some, None, refl, sym, ◌∙◌, ap, subst, arith}
 use Rattle.std.specs.Option.{option_map, is_some}
 use Rattle.std.specs.Ordering.{nat_cmp}
 use Rattle.std.specs.BTreeMap.{BTreeMap, get}

@@ -9,7 +9,7 @@ use Rattle.node.specs.States.{StepsAs, state_in, state_with}
 use Rattle.node.specs.Tasks.{IsAside, read_seq, tasks_in}
 use Rattle.node.proofs.Beside.{calls_apart, replied_beside}
 use Rattle.node.proofs.Underway.{KeepsFree, apart_so, at_call, job_kept, no_parts, replied_free, same_free, steps_beside}
-use Rattle.node.proofs.Undertaken.{at_either, if_failed}
+use Rattle.node.proofs.Undertaken.{at_either}
 use Rattle.node.proofs.tasks.Tasks.on_reply.Goals as goal
 
 pub returns-clause-step : goal.returns-clause-step

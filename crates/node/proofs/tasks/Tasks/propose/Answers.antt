@@ -1,5 +1,5 @@
 -- The proposal begins beside the synchronisation.
-use Rattle.std.proofs.Common.{◌≡◌, Option, Some, refl, sym, ap, subst}
+use Rattle.std.proofs.Common.{◌≡◌, false, Option, Some, refl, sym, ap, subst}
 use Rattle.std.proofs.lemmas.Result.{IfOk-weaker}
 use Rattle.protocol.specs.Nodes.{Node, NodeStep}
 use Rattle.node.specs.declared.jobs.OpenJob.{OpenJob}

@@ -1,5 +1,5 @@
 -- The read that begins is one of the brick.
-use Rattle.std.proofs.Common.{◌≡◌, ◌+◌, ◌×◌, ◌∙◌, ap, subst}
+use Rattle.std.proofs.Common.{◌≡◌, ◌+◌, ◌∙◌, ap, subst}
 use Rattle.messages.specs.declared.calls.Call.{Call}
 use Rattle.protocol.specs.Nodes.{Node}
 use Rattle.node.specs.declared.jobs.Followed.{Followed}
@@ -25,6 +25,6 @@ returns-in-Reads-clause-same c = λ layout follows.
       boot = same.boot;
       of = λ of. record {
         work_is = record { calls = same.of of.work_is.calls; proposing = of.work_is.proposing };
-        job_is = read_is_at layout before.calls after held c.made_read.ensures.operations last is.0 is.1.0;
+        job_is = read_is_at layout before.calls after held c.made_read.ensures.operations last is.0 is.1;
       };
     }
