@@ -145,7 +145,7 @@ unreachable-requires c =
     let next = decided_on c.fresh_stamp-fresh.result (shown_of c.args.self.now.read) c.args.from c.args.message.now in
     let outs = c.in_ok-outs.outs in
     let carried = c.in_ok-outs.ensures.step c.args.layout.now c.requires.of.is_operation in
-    let never = subst (λ (o : Option Prepared). MayFollow c.args.layout.now c.args.self.now c.args.at c.args.from c.args.message.now o) c.in-None.is
+    let never = subst (λ (o : Option Prepared). MayFollow c.args.layout.now c.args.self.now c.args.at c.args.from c.args.message.now o) c.in_default.is
     c.in_ok-prepared.ensures in
     let some = one_answered c.outs.inside.answer c.is_none.result c.is_none.ensures c.if-is_none.false in
     let both : [] ≡ some.0 ∷ [] =

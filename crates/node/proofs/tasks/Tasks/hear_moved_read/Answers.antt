@@ -99,7 +99,7 @@ count-requires-clause-waits c =
     let layout = c.args.layout.now in
     let held = c.in-Some.open in
     let from = c.args.packet.now.from in
-    let waits = subst (λ (o : Option (Tellings × Followed)). MovesOn layout c.in-Some.open c.args.packet.now.from c.args.view c.source-at.result o) c.in_default.is
+    let waits = subst (λ (o : Option (Tellings × Followed)). MovesOn layout c.in-Some.open c.args.packet.now.from c.args.view c.source-at.result o) c.in_default-2.is
     c.in_ok-told.ensures in
     subst (λ (m : Message). decided_on None (shown_of held.read) from m ≡ machine.Waits (heard (shown_of held.read) from m).state)
     (sym (c.requires.reply ∙ ap (message.Reply c.args.call) c.requires.moved.1))
@@ -118,15 +118,15 @@ returns-clause-turn c =
     let now : OpenJob = c.count.new.self in
     let after : Tasks = record { work = before.work; job = Some now } in
     let at = at_brick d in
-    let waits = subst (λ (o : Option (Tellings × Followed)). MovesOn layout c.in-Some.open c.args.packet.now.from c.args.view c.source-at.result o) c.in_default.is
+    let waits = subst (λ (o : Option (Tellings × Followed)). MovesOn layout c.in-Some.open c.args.packet.now.from c.args.view c.source-at.result o) c.in_default-2.is
     c.in_ok-told.ensures in
     let has = subst (λ (m : Message). HasCountedRead from m held now) c.requires.reply c.in_ok-count.ensures.counted in (
       record { was = held; now = now; job_before = c.in-Some.is; job_after = refl; counted = has; work_is = refl },
       subst (λ (r : Reply). HasCountedRead from (message.Reply call r) held now
           → (kept : KeptParts) → step_on layout c.args.now from call r before kept ≡ no_step (tasks_in kept after)) (sym c.requires.moved.1)
-          (λ counts kept. step_for d kept
+          (λ seen kept. step_for d kept
           ∙ replied_waits layout held at.open_is from call c.args.view c.requires.moved.0 (counted_so d) (next_at d)
           (state_in kept before.work) (record { boot = refl; seq = refl; known = refl }) (read_free layout before.work held kept at)
-          me c.args.now (same_call d) refl refl waits now counts)
+          me c.args.now (same_call d) refl refl waits now seen)
           has,
     )
