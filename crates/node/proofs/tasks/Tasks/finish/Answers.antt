@@ -29,4 +29,4 @@ returns-in-Follows-clause-same c = λ layout now from call reply before seq is f
     let turn_is = subst (λ (turn : TaskTurn). IsTaskTurn layout now from call reply before turn mid) c.in-Follows.is is in
     let last = c.take_up.ensures.same layout
     (subst (λ (t : Tasks). FollowsFrom layout t.work.calls.seq c.in-Follows.group c.in-Follows.next) (sym turn_is.0) turn_is.2) in
-    record { me = last.me ∙ first.me; boot = last.boot ∙ first.boot; of = λ of. last.of (first.of of) }
+    record { me = last.me ∙ first.me; boot = last.boot ∙ first.boot; of = λ of. last.of (record { work_is = (first.of of).work_is; job_is = tt }) }
