@@ -164,11 +164,11 @@ AreSame bricks bricks_after = ⊥
 -- What was done with the bricks and the client's link leaves the same bricks, in order. If none was halted none is, unless the disk failed; and where they, their
 -- clock and the link were sound they are.
 pub record KeepsHosted {D L C : Type 0} (d : on_disk.Ghosts D) (l : on_link.Ghosts L) (c : on_clock.Ghosts C) (before after : TimedBricks D L C)
-    (link link_after : L) (ending : Ending) : Type 0 where
+    (over over_after : L) (ending : Ending) : Type 0 where
   pub same : AreSame before.bricks.bricks after.bricks.bricks
   pub runs_still : AreRunning before.bricks.bricks → ending ≢ Disk → AreRunning after.bricks.bricks
   pub bricks : AreSound d l c before.bricks.bricks before.clock → AreSound d l c after.bricks.bricks after.clock
-  pub link : l.sound link → l.sound link_after
+  pub link : l.sound over → l.sound over_after
 
 -- what is done with the bricks that were started so far, and with the host
 abbrev pub Deed : Type 0 → Type 0 → Type 0 → Type 0 → Type 0 → Type 1
