@@ -1,8 +1,8 @@
 #!/usr/bin/env python3
 """How much processor time `replay run` takes a line, and how much memory.
 
-    bench/replay/run.py [PROGRAM] [--beside COMMAND].. [--lines N].. [--stops N] [--calms N] [--late] [--openings N] [--audits N]
-                        [--seconds S]
+    bench/replay/run.py [PROGRAM] [--beside COMMAND].. [--lines N].. [--stops N] [--calms N] [--moved N] [--late] [--openings N]
+                        [--audits N] [--seconds S]
 
 It makes schedules of 20,000, 100,000 and 1,000,000 lines (or of those that --lines names), runs the built program on each, and prints a
 row: the processor time of the run, user and system, divided by the number of lines, and the most memory that it held at one time.
@@ -19,6 +19,9 @@ With --stops a schedule is run in their place that stops a brick so many times a
 short at one of the calls of its disk, with one of three picks, and then it starts. Every start opens its store.
 
 With --calms a schedule of N writes is run in their place, each alone among all bricks, by a line `calm` of its own.
+
+With --moved a group of N stripes, which one brick keeps, is run in their place: each stripe is written, and then another brick proposes itself as the
+only member of the next view, and synchronises that. In the end both bricks hear that it is synced, and the first drops all that it kept.
 
 With --late 180 operations begin in its place, and stay open while 40,000 writes run alone, one after another. Then a line `calm` has each of the 180
 run alone. A row gives what these 180 lines took together, as the difference to a run without them. And a layout of 64 groups of 65,536 stripes is run
@@ -102,6 +105,28 @@ def calms(count):
     return LAYOUT.replace("block = 64", "block = 1") + "".join(row + "\n" for row in rows)
 
 
+def moved(stripes):
+    """The input that moves a group of so many stripes from brick 0 to brick 1."""
+    rows, first = [], 1
+    # Order, Ordered, Write, Stored, and a Collect that is never delivered
+    for stripe in range(stripes):
+        rows.append(f"writeall 0 0 {stripe} {1 + stripe % 255:02x}")
+        rows += [f"deliver {first + step}" for step in range(4)]
+        first += 5
+    # Prepare, Promise, Accept, Accepted, and a Learn to both
+    rows += ["view 1 0 1"] + [f"deliver {first + step}" for step in range(6)]
+    first += 6
+    # Read, Found, OrderRead, OrderedRead, OldRead, Old, Write, Stored, and a Collect that is never delivered
+    rows.append("sync 1 0")
+    for stripe in range(stripes):
+        rows += [f"deliver {first + step}" for step in range(8)]
+        first += 9
+    # Synced to both
+    rows += [f"deliver {first}", f"deliver {first + 1}"]
+    layout = f"block = 1\nbricks = 2\nrecords = 1048576\n[[group]]\nm = 1\nmembers = [0]\nstripes = {stripes}\n---\n"
+    return layout + "".join(row + "\n" for row in rows)
+
+
 def late():
     """The input of 180 operations that stay open, of 40,000 writes that each run alone, and the lines that then have each of the 180 run alone."""
     rows = [f"writeall {number % 3} 0 {number // 3} {number % 256:02x}" for number in range(LATE)]
@@ -155,6 +180,9 @@ def inputs(asked):
         return [(3 * asked.stops, stops(asked.stops))]
     if asked.calms:
         return [(2 * asked.calms, calms(asked.calms))]
+    if asked.moved:
+        text = moved(asked.moved)
+        return [(text.count("\n") - text[: text.index("---\n") + 4].count("\n"), text)]
     return [(lines, schedule(lines)) for lines in asked.lines or [20_000, 100_000, 1_000_000]]
 
 
@@ -243,6 +271,7 @@ def main():
     words.add_argument("--lines", action="append", type=int, metavar="N")
     words.add_argument("--stops", type=int, metavar="N")
     words.add_argument("--calms", type=int, metavar="N")
+    words.add_argument("--moved", type=int, metavar="N")
     words.add_argument("--late", action="store_true")
     words.add_argument("--openings", type=int, metavar="N")
     words.add_argument("--audits", type=int, metavar="N")

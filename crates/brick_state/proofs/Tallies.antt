@@ -477,3 +477,52 @@ bottom_fits live dropped few most some = ⊎_elim (λ none. omega (arith, few (o
 
 pub full_fits : (records : ℕ) (stripes : Stripes) → leb records (live_in stripes) ≡ false → records ≤ 4294967295 → live_in stripes < 4294967295
 full_fits records stripes free few = omega (arith, leb-false records (live_in stripes) free, few)
+
+-- ---- which slots are named
+
+some_named : (slot : ℕ) (xs : List ℕ) → 0 < named slot xs → Contains xs slot
+some_named slot [] some = absurd (omega (arith, some))
+some_named slot (x ∷ xs) some = by (eqb x slot) refl (λ more. some_named slot xs more)
+  where
+    step : named slot (x ∷ xs) ≡ cond (eqb x slot) 1 0 + named slot xs
+    step = sum_by-cons (λ (y : ℕ). cond (eqb y slot) 1 0) x xs
+
+    later : Contains xs slot → Contains (x ∷ xs) slot
+    later (k, lt, e) = (suc k, omega (arith, lt), e)
+
+    by : (b : Bool) → eqb x slot ≡ b → (0 < named slot xs → Contains xs slot) → Contains (x ∷ xs) slot
+    by true at rest = (0, omega arith, eqb-true x slot at)
+    by false at rest = later (rest (omega (arith, some, step, ap {B = ℕ} (λ (b : Bool). cond b 1 0) at)))
+
+named_some : (slot : ℕ) (xs : List ℕ) → Contains xs slot → 0 < named slot xs
+named_some slot [] (k, lt, e) = absurd (omega (arith, lt))
+named_some slot (x ∷ xs) (zero, lt, e) = omega (
+  arith,
+  sum_by-cons (λ (y : ℕ). cond (eqb y slot) 1 0) x xs,
+  ap {B = ℕ} (λ (b : Bool). cond b 1 0) (eq-eqb x slot e),
+)
+named_some slot (x ∷ xs) (suc k, lt, e) = omega (
+  arith,
+  sum_by-cons (λ (y : ℕ). cond (eqb y slot) 1 0) x xs,
+  named_some slot xs (k, omega (arith, lt), e),
+)
+
+module _ (slots : ℕ) (stripes : Stripes) (counts : List ℕ) (are : AreNames stripes counts) (beyond : NoneBeyond slots stripes counts) (slot : ℕ)
+    (is_slot : slot < slots) where
+  -- a slot whose count is not 0 is named
+  pub taken_named : 0 < get_or counts slot 0 → Contains (slots_in stripes) slot
+  taken_named some = some_named slot (slots_in stripes)
+      (omega (arith, some, counted_at slots stripes counts are beyond slot is_slot, names-slots slot stripes))
+
+  pub named_taken : Contains (slots_in stripes) slot → 0 < get_or counts slot 0
+  named_taken there = omega (
+    arith,
+    named_some slot (slots_in stripes) there,
+    counted_at slots stripes counts are beyond slot is_slot,
+    names-slots slot stripes,
+  )
+
+  -- and it has a count
+  pub named_within : Contains (slots_in stripes) slot → slot < length counts
+  named_within there = ⊎_elim (λ within. within)
+      (λ past. absurd (omega (arith, named_taken there, count_past counts slot past))) (cases_lt slot (length counts))

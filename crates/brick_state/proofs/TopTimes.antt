@@ -17,7 +17,7 @@ use Rattle.brick_state.specs.States.{StripeOf, stripe_of, stamp_of, has_version,
 use Rattle.brick_state.specs.Changes.{changed, IsAllowed, time_lost, time_come}
 use Rattle.brick_state.specs.Times.{greatest, stripe_time}
 use Rattle.brick_state.specs.TopTimes.{IsReplaced}
-use Rattle.brick_state.specs.ViewStripes.{time_of, IsChanged, IsReordered}
+use Rattle.brick_state.specs.ViewStripes.{time_of, IsChanged, IsExtended, IsReordered}
 use Rattle.brick_state.proofs.Greatest.{greatest-push}
 
 -- ---- the greatest of a map's values
@@ -149,3 +149,7 @@ pub time-reordered : (number : ℕ) (t replaced : Stamp) (old new : List (ℕ ×
 time-reordered number t replaced old new is =
     subst (λ (n : ℕ). IsReplaced (time_of old) n t.time (time_of new)) (sym (ap (λ (s : Stamp). s.time) is.was))
     (time-changed number (Order t) old new is.is tt)
+
+-- after a version above the newest one is added
+pub time-extended : (number : ℕ) (e : Entry) (old new : List (ℕ × Stripe)) → IsExtended number e old new → time_of new ≡ max (time_of old) e.stamp.time
+time-extended number e old new is = omega (arith, (time-changed number (Add e) old new is.is is.above).same)

@@ -1,47 +1,12 @@
 -- The slots that versions name, stripe by stripe.
-use Rattle.std.proofs.Common.{◌≡◌, ℕ, Option, Some, Bool, true, false, cond, not, List, [], ◌∷◌, ◌++◌, map, refl, sym, ap, ◌∙◌, append_assoc}
-use Rattle.std.specs.List.{AllByRecursion, filter}
+use Rattle.std.proofs.Common.{◌≡◌, ℕ, Option, Some, true, List, [], ◌∷◌, ◌++◌, map}
+use Rattle.std.specs.List.{AllByRecursion}
 use Rattle.brick_state.specs.Entries.{Entry}
-use Rattle.brick_state.specs.declared.stripes.Stripe.{Stripe}
-use Rattle.brick_state.specs.States.{Place, StripeOf, StateOf, is_first, stripe_of}
+use Rattle.brick_state.specs.States.{Place, StripeOf, StateOf}
 use Rattle.brick_state.specs.Folds.{Limits, is_slot}
 use Rattle.brick_state.specs.Rewrites.{start_of}
 use Rattle.brick_state.specs.KeptStates.{Rises, IsKeptStripe, IsKeptState}
-use Rattle.brick_state.specs.Maps.{ViewKey, placed, flat, listed, is_listed, seen_entry}
-use Rattle.brick_state.specs.declared.view_tables.ViewTable.{ViewTable}
 use Rattle.brick_state.specs.Slots.{slot_of, slots_in, slots_of}
-use Rattle.brick_state.proofs.StripeMaps.{is_first-true}
-use Rattle.brick_state.proofs.ViewMaps.{listed-append}
-
--- a stripe that nothing happened to names none
-pub slots_step : (p : Place) (s : Stripe) (rest : List (Place × Stripe)) → slots_in (listed ((p, s) ∷ rest)) ≡ map slot_of s.added.versions.items ++ slots_in
-    (listed rest)
-unfolding slots_in listed
-slots_step p s rest = by (is_first p (stripe_of s)) refl
-  where
-    by : (b : Bool) → is_first p (stripe_of s) ≡ b
-        → slots_in (cond (not b) (seen_entry (p, s) ∷ filter is_listed (map seen_entry rest))
-        (filter is_listed (map seen_entry rest))) ≡ map slot_of s.added.versions.items ++ slots_in (filter is_listed (map seen_entry rest))
-    by true first = ap (λ (t : StripeOf Entry). map slot_of t.added ++ slots_in (filter is_listed (map seen_entry rest)))
-        (sym (is_first-true p (stripe_of s) first))
-    by false other = refl
-
-pub slots_none : slots_in (listed []) ≡ []
-unfolding slots_in listed
-slots_none = refl
-
--- those of one list of stripes after another
-slots-append : (xs ys : List (Place × StripeOf Entry)) → slots_in (xs ++ ys) ≡ slots_in xs ++ slots_in ys
-unfolding slots_in
-slots-append [] ys = refl
-slots-append (e ∷ xs) ys = ap (λ slots. map slot_of e.1.added ++ slots) (slots-append xs ys) ∙ sym (append_assoc (map slot_of e.1.added) (slots_in xs) (slots_in ys))
-
--- those of a view, and then those of the others
-pub slots-view : (e : ViewKey × ViewTable) (views : List (ViewKey × ViewTable)) → slots_in (listed (flat (e ∷ views)))
-    ≡ slots_in (listed (placed e.0 e.1.stripes.entries)) ++ slots_in (listed (flat views))
-unfolding flat
-slots-view e views = ap slots_in (listed-append (placed e.0 e.1.stripes.entries) (flat views))
-    ∙ slots-append (listed (placed e.0 e.1.stripes.entries)) (listed (flat views))
 
 -- what holds of the slots holds of the slot of each version
 entries_each : (P : ℕ → Type 0) (entries : List Entry) (more : List ℕ) → AllByRecursion P (map slot_of entries ++ more)

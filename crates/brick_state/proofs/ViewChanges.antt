@@ -7,12 +7,14 @@ use Rattle.std.specs.Option.{option_map, unwrap_or}
 use Rattle.std.proofs.lemmas.Map.Entries.{sum_by-set_value, sum_by-remove_entry}
 use Rattle.fab_base.specs.declared.stamps.Stamp.{Stamp}
 use Rattle.fab_base.specs.Stamps.{stamp_same, first_stamp}
+use Rattle.std.proofs.lemmas.List.{length_push}
+use Rattle.brick_state.specs.Entries.{Entry}
 use Rattle.brick_state.specs.declared.stripes.Stripe.{Stripe}
 use Rattle.brick_state.specs.declared.stripes.StripeChange.{StripeChange}
-use Rattle.brick_state.specs.declared.stripes.StripeChange.TheVariants.{Order}
+use Rattle.brick_state.specs.declared.stripes.StripeChange.TheVariants.{Order, Add}
 use Rattle.brick_state.specs.States.{stripe_of, weight}
 use Rattle.brick_state.specs.Changes.{changed}
-use Rattle.brick_state.specs.ViewStripes.{live_of, IsChanged, IsReordered}
+use Rattle.brick_state.specs.ViewStripes.{live_of, IsChanged, IsExtended, IsReordered}
 use Rattle.brick_state.specs.Tallies.{order_weight}
 
 module _ (number : ℕ) (change : StripeChange) (s new : Stripe) (old now : List (ℕ × Stripe)) (there : lookup (is_at (nat_cmp number)) old ≡ Some s)
@@ -55,3 +57,12 @@ order_weight_fits t = by (stamp_same t first_stamp)
     by : (b : Bool) → cond b 0 1 ≤ 1
     by true = omega arith
     by false = omega arith
+
+-- a version that is added is one live record more
+pub live-extended : (number : ℕ) (e : Entry) (old new : List (ℕ × Stripe)) → IsExtended number e old new → live_of new ≡ live_of old + 1
+live-extended number e old new is = omega (
+  arith,
+  live-changed number (Add e) is.is.from is.is.to old new is.is.there is.is.written is.is.now,
+  ap weight is.is.now,
+  length_push (stripe_of is.is.from).added e,
+)

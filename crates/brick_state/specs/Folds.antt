@@ -9,6 +9,7 @@ use Rattle.fab_base.specs.Layouts.{most_groups}
 use Rattle.stamp_store.specs.declared.kept_records.Kept.TheVariants.{Boot, Ballots, Order}
 use Rattle.stamp_store.specs.declared.kept_records.Kept.TheVariants as kinds
 use Rattle.stamp_store.specs.declared.log_records.LogChange.{LogChange}
+use Rattle.stamp_store.specs.declared.log_records.Logged.{Logged}
 use Rattle.stamp_store.specs.declared.log_records.LogChange.TheVariants.{Same, Collect, Slot}
 use Rattle.brick_state.specs.declared.records.Record.{Record}
 use Rattle.brick_state.specs.declared.records.Record.TheVariants as forms
@@ -78,16 +79,20 @@ placed p st (Some s) = Some (with_stripe p s st)
 abbrev pub order_set : Limits → Place → Stamp → StateOf Entry → Option (StateOf Entry)
 order_set limits p t st = if nat_lt p.0 most_groups then (if adds_order t (stripe_at st p) && is_full limits st then None else Some (ordered p t st)) else None
 
+-- A log changed. None where it can't be: a group from most_groups on, or as of a log's change.
+abbrev pub log_set : Limits → Logged → StateOf Entry → Option (StateOf Entry)
+log_set limits r st =
+    if nat_lt r.group.0 most_groups
+    then placed (place r.group r.view r.stripe) st (log_changed limits (is_full limits st) r.change r.stamp (stripe_at st (place r.group r.view r.stripe)))
+    else None
+
 -- One record more. None where it can't be: a group from most_groups on, a view below 2, one live record too many, or as of a log's change.
 unfoldable pub applied : Limits → Record → StateOf Entry → Option (StateOf Entry)
 applied limits (forms.Kept (Boot count)) st = Some (booted count st)
 applied limits (forms.Kept (kinds.View g view synced)) st = if nat_lt g.0 most_groups && nat_le 2 view.number.0 then Some (viewed g.0 view synced st) else None
 applied limits (forms.Kept (Ballots g v promised accepted)) st = if nat_lt g.0 most_groups then Some (balloted g.0 promised accepted st) else None
 applied limits (forms.Kept (Order g v s t)) st = order_set limits (place g v s) t st
-applied limits (forms.Logged r) st =
-    if nat_lt r.group.0 most_groups
-    then placed (place r.group r.view r.stripe) st (log_changed limits (is_full limits st) r.change r.stamp (stripe_at st (place r.group r.view r.stripe)))
-    else None
+applied limits (forms.Logged r) st = log_set limits r st
 
 -- Records one after the other, up to the first that can't be.
 abbrev pub onward : Option (StateOf Entry) → StateOf Entry → (StateOf Entry → StateOf Entry) → StateOf Entry

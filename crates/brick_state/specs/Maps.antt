@@ -7,7 +7,8 @@ use Rattle.fab_base.specs.declared.stamps.Stamp.{Stamp}
 use Rattle.brick_state.specs.Entries.{Entry}
 use Rattle.brick_state.specs.declared.stripes.Stripe.{Stripe}
 use Rattle.brick_state.specs.declared.view_tables.ViewTable.{ViewTable}
-use Rattle.brick_state.specs.States.{Place, StripeOf, is_first, put, stripe_in, stripe_of, with_order}
+use Rattle.brick_state.specs.States.{Place, StripeOf, is_first, newest_entry, put, stripe_in, stripe_of, with_added, with_order}
+use Rattle.brick_state.specs.Folds.{is_above}
 use Rattle.brick_state.specs.ViewStripes.{HasRoomAt}
 
 -- a view of a group; views compare by group, then by number
@@ -56,6 +57,11 @@ pub record HasRoom (views : BTreeMap ViewKey ViewTable) (p : Place) : Type 0 whe
 abbrev pub AnswersAt : Place → List (Place × StripeOf Entry) → List (Place × StripeOf Entry) → Option (StripeOf Entry) → Bool → Type 0
 AnswersAt p old new None answer = (answer ≡ false) × (new ≡ old)
 AnswersAt p old new (Some s) answer = (answer ≡ true) × (new ≡ put p s old)
+
+-- a version above the newest one is added to the stripe at a place
+pub record IsExtendedAt (p : Place) (e : Entry) (old new : List (Place × StripeOf Entry)) : Type 0 where
+  pub is : new ≡ put p (with_added e (stripe_in old p)) old
+  pub above : is_above (newest_entry (stripe_in old p)) e.stamp ≡ true
 
 -- the order stamp of the stripe at a place is set in the place of another one
 pub record IsReorderedAt (p : Place) (t replaced : Stamp) (old new : List (Place × StripeOf Entry)) : Type 0 where

@@ -7,11 +7,12 @@ ghost use Rattle.brick_state.specs.Folds.{slot_named};
 use crate::groups::{Group, MOST_GROUPS};
 use crate::records::Record;
 use crate::stripe_tables::StripeTable;
-use crate::stripes::{Place, Stripe, ZERO_SLOT};
-use crate::{log_changes, rewrites, slots, stripe_maps};
+use crate::stripes::{Entry, Place, Stripe, ZERO_SLOT};
+use crate::{log_changes, rewrites, stripe_maps};
 use fab_base::{Ballot, GroupId, Members, NoMem, Stamp, StripeNo, View, ViewNo};
 use stamp_store::{Kept, LogChange, Logged};
 use std::alloc::Global;
+use version_log::Version;
 
 /// What a brick keeps, with the slots of its blocks.
 #[derive(Drop)]
@@ -26,11 +27,12 @@ pub struct Index {
 }
 
 impl Index {
-    ghost use Rattle.std.specs.Prelude.{◌≡◌, ◌-◌, ◌^◌, min, true, false, Ok, Some, None, ◌&&◌, nat_lt, nat_le, ◌<◌, if◌then◌else◌, IfNone, IfSome, IfOk, OnOk, OnErr, IsOk, IsTrue};
-    ghost use Rattle.brick_state.specs.States.{empty, live, group_at, first_stripe, stripe_of, stamp_of, viewed, balloted, stripe_at};
+    ghost use Rattle.std.specs.Prelude.{◌≡◌, ◌↔◌, ℕ, ◌-◌, ◌^◌, min, true, false, Ok, Some, None, ◌&&◌, nat_lt, nat_le, ◌<◌, if◌then◌else◌, IfNone, IfSome, IfOk, OnOk, OnErr, IsOk, IsTrue};
+    ghost use Rattle.brick_state.specs.States.{empty, live, group_at, first_stripe, stripe_of, stamp_of, viewed, balloted, stripe_at, newest_entry, added};
     ghost use Rattle.brick_state.specs.Times.{top_time};
-    ghost use Rattle.brick_state.specs.Folds.{applied, order_set, place, is_full, placed, log_changed, slot_named};
+    ghost use Rattle.brick_state.specs.Folds.{applied, order_set, log_set, place, is_full, is_above, slot_named};
     ghost use Rattle.brick_state.specs.Maps.{HasRoom};
+    ghost use Rattle.std.specs.List.{Contains};
     ghost use Rattle.brick_state.specs.Tallies.{HasSlotRoom};
     ghost use Rattle.brick_state.specs.Slots.{slots_of, IsFree};
     ghost use Rattle.brick_state.specs.Rewrites.{live_records};
@@ -96,14 +98,20 @@ impl Index {
         stripe_maps::find(self.stripes.views(), place)
     }
 
-    /// The slots that versions name, one that versions share once for each.
-    pub fn slots(&self) -> Result<Vec<u32>, NoMem>
-        ensures { IfOk result (λ slots. slots.items ≡ slots_of (state_of self.now)) }
+    /// Whether a version names this slot.
+    pub fn is_named(&self, slot: u32) -> bool
+        requires { slot < (limits_of self.now).slots }
+        ensures { IsTrue result ↔ Contains (slots_of (state_of self.now)) slot }
     {
-        let mut made = Vec::new(self.alloc);
-        made.reserve(self.live() as usize)?;
-        slots::put_slots(&mut made, self.stripes.views())?;
-        Ok(made)
+        self.stripes.is_named(slot)
+    }
+
+    /// No version names a slot from here on, but that of the zero block.
+    pub fn named_end(&self) -> u32
+        ensures within { result ≤ (limits_of self.now).slots }
+        ensures named { (slot : ℕ) → slot < (limits_of self.now).slots → Contains (slots_of (state_of self.now)) slot → slot < result }
+    {
+        self.stripes.named_end()
     }
 
     /// The least slot that no version names, where there are fewer live records than slots.
@@ -326,11 +334,69 @@ impl Index {
         stripe_maps::order(self.stripes.views(), place)
     }
 
+    // Most changes of a log add a version with a block of its own to a stripe that is listed: these take one look-up, and no memory.
     fn change_log(&mut self, logged: &Logged) -> Result<bool, NoMem>
-        ensures answer { IfOk result (Answers (state_of self.new)
-            (if nat_lt logged.now.group.0 most_groups then placed (place logged.now.group logged.now.view logged.now.stripe) (state_of self.old)
-            (log_changed (limits_of self.old) (is_full (limits_of self.old) (state_of self.old)) logged.now.change logged.now.stamp
-            (stripe_at (state_of self.old) (place logged.now.group logged.now.view logged.now.stripe))) else None)) }
+        ensures answer { IfOk result (Answers (state_of self.new) (log_set (limits_of self.old) logged.now (state_of self.old))) }
+        ensures refused { result ≡ Ok false → state_of self.new ≡ state_of self.old }
+        ensures err { OnErr result (state_of self.new ≡ state_of self.old) }
+        ensures limits { limits_of self.new ≡ limits_of self.old }
+        ensures enough { HasRoom self.old.stripes.views (place logged.now.group logged.now.view logged.now.stripe)
+            → HasSlotRoom self.old.stripes.slots self.old.stripes.counts (slot_named logged.now.change) → IsOk result }
+    {
+        if self.add_listed(logged) {
+            return Ok(true);
+        }
+        self.change_any_log(logged)
+    }
+
+    // Adds a version with a block of its own to a stripe that is listed, while there are fewer live records than there may be. False where that isn't
+    // so: then nothing is changed.
+    fn add_listed(&mut self, logged: &Logged) -> bool
+        ensures added { IsTrue result → Answers (state_of self.new) (log_set (limits_of self.old) logged.now (state_of self.old)) true }
+        ensures left { result ≡ false → state_of self.new ≡ state_of self.old }
+        ensures limits { limits_of self.new ≡ limits_of self.old }
+        ensures room { HasRoom self.old.stripes.views (place logged.now.group logged.now.view logged.now.stripe) → result ≡ false
+            → HasRoom self.new.stripes.views (place logged.now.group logged.now.view logged.now.stripe) }
+        ensures counts { result ≡ false → self.new.stripes.counts ≡ self.old.stripes.counts }
+    {
+        match logged.change {
+            LogChange::Slot { bottom, slot } => {
+                if bottom {
+                    return false;
+                }
+                let place = (logged.group.0, logged.view.0, logged.stripe.0);
+                let entry = Version {
+                    stamp: logged.stamp,
+                    block: slot,
+                };
+                self.add_entry(place, entry)
+            }
+            LogChange::Same => false,
+            LogChange::Collect => false,
+        }
+    }
+
+    // The same of a version with the slot of its block.
+    fn add_entry(&mut self, place: Place, entry: Entry) -> bool
+        ensures group { IsTrue result → place.0 < most_groups }
+        ensures free { IsTrue result → is_full (limits_of self.old) (state_of self.old) ≡ false }
+        ensures slot { IsTrue result → entry.block < (limits_of self.old).slots }
+        ensures above { IsTrue result → is_above (newest_entry (stripe_at (state_of self.old) place)) entry.stamp ≡ true }
+        ensures added { IsTrue result → state_of self.new ≡ added place entry (state_of self.old) }
+        ensures left { result ≡ false → state_of self.new ≡ state_of self.old }
+        ensures limits { limits_of self.new ≡ limits_of self.old }
+        ensures room { HasRoom self.old.stripes.views place → result ≡ false → HasRoom self.new.stripes.views place }
+        ensures counts { result ≡ false → self.new.stripes.counts ≡ self.old.stripes.counts }
+    {
+        if place.0 >= MOST_GROUPS || self.is_full() {
+            return false;
+        }
+        self.stripes.add_listed(place, entry)
+    }
+
+    // Any change of a log.
+    fn change_any_log(&mut self, logged: &Logged) -> Result<bool, NoMem>
+        ensures answer { IfOk result (Answers (state_of self.new) (log_set (limits_of self.old) logged.now (state_of self.old))) }
         ensures refused { result ≡ Ok false → state_of self.new ≡ state_of self.old }
         ensures err { OnErr result (state_of self.new ≡ state_of self.old) }
         ensures limits { limits_of self.new ≡ limits_of self.old }

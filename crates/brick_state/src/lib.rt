@@ -11,7 +11,6 @@ mod log_changes;
 pub mod records;
 mod rewrites;
 mod slot_tables;
-mod slots;
 mod stripe_maps;
 mod stripe_tables;
 pub mod stripes;

@@ -72,6 +72,13 @@ impl SlotTable {
         (slot as usize) < self.counts.len()
     }
 
+    /// Whether a version names the slot.
+    pub fn is_taken(&self, slot: u32) -> bool
+        ensures { result ≡ nat_lt 0 (slice_index_or self.now slot 0) }
+    {
+        (slot as usize) < self.counts.len() && self.counts[slot as usize] > 0
+    }
+
     /// Counts a version more for a slot, where there is such a slot.
     pub fn take(&mut self, slot: u32)
         requires { slice_index_or self.old slot 0 < 4294967295 }

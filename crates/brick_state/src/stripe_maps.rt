@@ -1,7 +1,7 @@
 //! The stripes of a brick by group and view, and in each view by their numbers. Places where nothing happened may be in the
 //! map or not: a clause sees no difference.
 
-ghost use Rattle.std.specs.Prelude.{◌≡◌, true, ◌+◌, ◌<◌, ◌≤◌, [], filter, IsOk, OnOk, IsSome, IfNone, IfSome};
+ghost use Rattle.std.specs.Prelude.{◌≡◌, true, false, IsTrue, ◌+◌, ◌<◌, ◌≤◌, [], filter, IsOk, OnOk, IsSome, IfNone, IfSome};
 ghost use Rattle.std.specs.Map.{keys_of};
 ghost use Rattle.std.specs.BTreeMap.{get, values};
 ghost use Rattle.std.specs.List.Sorted.{IsStrictlySortedBy};
@@ -9,7 +9,7 @@ ghost use Rattle.brick_state.specs.States.{place_cmp, weight, first_stripe, stri
 ghost use Rattle.brick_state.specs.Changes.{changed, IsAllowed};
 ghost use Rattle.brick_state.specs.Times.{greatest, time_in};
 ghost use Rattle.brick_state.specs.ViewStripes.{time_of};
-ghost use Rattle.brick_state.specs.Maps.{listed_in, HasRoom, IsReorderedAt, view_cmp, is_below_view};
+ghost use Rattle.brick_state.specs.Maps.{listed_in, HasRoom, IsExtendedAt, IsReorderedAt, view_cmp, is_below_view};
 
 use crate::stripes::{Entry, Place, Stripe, StripeChange};
 use crate::view_tables::ViewTable;
@@ -130,6 +130,20 @@ pub fn replace_order(views: &mut Views, place: Place, stamp: Stamp) -> Option<St
     match views.get_mut(&(place.0, place.1)) {
         Some(table) => table.replace_order(place.2, stamp),
         None => None,
+    }
+}
+
+/// Adds a version to a stripe that is listed, where it is above the newest one and there is room for it. False where that isn't so: then nothing is changed.
+pub fn add_listed(views: &mut Views, place: Place, entry: Entry) -> bool
+    requires few { live_in (listed_in views.old) < 4294967295 }
+    ensures sorted { IsStrictlySortedBy place_cmp (keys_of (listed_in views.old)) }
+    ensures left { result ≡ false → listed_in views.new ≡ listed_in views.old }
+    ensures room { HasRoom views.old place → result ≡ false → HasRoom views.new place }
+    ensures added { IsTrue result → IsExtendedAt place entry (listed_in views.old) (listed_in views.new) }
+{
+    match views.get_mut(&(place.0, place.1)) {
+        Some(table) => table.add_listed(place.2, entry),
+        None => false,
     }
 }
 

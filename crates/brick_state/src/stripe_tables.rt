@@ -1,11 +1,12 @@
 //! The stripes of a brick with what is counted of them.
 
-ghost use Rattle.std.specs.Prelude.{◌≡◌, ◌≢◌, ◌+◌, ◌-◌, ◌<◌, ◌≤◌, ℕ, ◌==◌, ◌^◌, ◌&&◌, false, if◌then◌else◌, Some, None, not, filter, length, IfOk, OnOk, IsOk, IfNone, IfSome, IsSome, IsTrue, nat_lt, replicate, slice_index_or, sum_by, true, []};
+ghost use Rattle.std.specs.Prelude.{◌≡◌, ◌↔◌, ◌≢◌, ◌+◌, ◌-◌, ◌<◌, ◌≤◌, ℕ, ◌==◌, ◌^◌, ◌&&◌, false, if◌then◌else◌, Some, None, not, filter, length, IfOk, OnOk, IsOk, IfNone, IfSome, IsSome, IsTrue, nat_lt, replicate, slice_index_or, sum_by, true, []};
+ghost use Rattle.std.specs.List.{Contains};
 ghost use Rattle.std.specs.Map.{remove_entry};
 ghost use Rattle.std.specs.BTreeMap.{is_at, get, values};
 ghost use Rattle.fab_base.specs.Stamps.{stamp_below, stamp_same, first_stamp};
 ghost use Rattle.brick_state.specs.States.{first_stripe, stripe_in, has_version, stripe_of, stamp_of, put, live_in, weight, with_order, with_added, with_bottom, with_collected, is_of_view, newest_entry};
-ghost use Rattle.brick_state.specs.Maps.{listed_in, HasRoom, view_cmp, AnswersAt};
+ghost use Rattle.brick_state.specs.Maps.{IsExtendedAt, listed_in, HasRoom, view_cmp, AnswersAt};
 ghost use Rattle.brick_state.specs.Folds.{adds_order, is_above};
 ghost use Rattle.brick_state.specs.Slots.{slots_in, IsFree};
 ghost use Rattle.brick_state.specs.Times.{time_in};
@@ -96,6 +97,22 @@ impl StripeTable {
         self.counts.first_free()
     }
 
+    /// Whether a version names this slot.
+    pub fn is_named(&self, slot: u32) -> bool
+        requires { slot < self.now.slots }
+        ensures { IsTrue result ↔ Contains (slots_in (listed_in self.now.views)) slot }
+    {
+        self.counts.is_taken(slot)
+    }
+
+    /// No version names a slot from here on.
+    pub fn named_end(&self) -> u32
+        ensures within { result ≤ self.now.slots }
+        ensures named { (slot : ℕ) → slot < self.now.slots → Contains (slots_in (listed_in self.now.views)) slot → slot < result }
+    {
+        self.slots.min(self.counts.len() as u32)
+    }
+
     /// Makes room for a change of a stripe that names this slot.
     pub fn make_room(&mut self, alloc: Global, place: Place, slot: u32) -> Result<(), NoMem>
         ensures same { listed_in self.new.views ≡ listed_in self.old.views }
@@ -162,6 +179,27 @@ impl StripeTable {
             }
             None => false,
         }
+    }
+
+    /// Adds a version to a stripe that is listed, where it is above the newest one and there is room for it, by one look-up. False where that isn't so: then nothing is changed.
+    pub fn add_listed(&mut self, place: Place, entry: Entry) -> bool
+        requires few { live_in (listed_in self.old.views) < 4294967295 }
+        ensures added { IsTrue result → IsExtendedAt place entry (listed_in self.old.views) (listed_in self.new.views) }
+        ensures slot { IsTrue result → entry.block < self.old.slots }
+        ensures left { result ≡ false → listed_in self.new.views ≡ listed_in self.old.views }
+        ensures room { HasRoom self.old.views place → result ≡ false → HasRoom self.new.views place }
+        ensures counts { result ≡ false → self.new.counts ≡ self.old.counts }
+        ensures slots { self.new.slots ≡ self.old.slots }
+    {
+        if !self.has_slot(entry.block) || !self.counts.has(entry.block) {
+            return false;
+        }
+        if !stripe_maps::add_listed(&mut self.views, place, entry) {
+            return false;
+        }
+        self.live += 1;
+        self.counts.take(entry.block);
+        true
     }
 
     /// Adds a version.

@@ -1,9 +1,10 @@
 //! What is kept of one stripe.
 
-ghost use Rattle.std.specs.Prelude.{◌≡◌, ◌-◌, ◌^◌, ◌<◌, min, filter, vec_len, vec_capacity};
+ghost use Rattle.std.specs.Prelude.{◌≡◌, true, false, IsTrue, ◌-◌, ◌^◌, ◌<◌, min, filter, vec_len, vec_capacity};
 ghost use Rattle.std.specs.List.{list_any};
 ghost use Rattle.fab_base.specs.Stamps.{stamp_same, stamp_below};
-ghost use Rattle.brick_state.specs.States.{first_stripe, weight, stripe_of, stamp_of, newest_entry, has_version};
+ghost use Rattle.brick_state.specs.States.{first_stripe, weight, stripe_of, stamp_of, newest_entry, has_version, with_added};
+ghost use Rattle.brick_state.specs.Folds.{is_above};
 ghost use Rattle.brick_state.specs.Times.{greatest, stripe_time};
 ghost use Rattle.brick_state.specs.Changes.{changed, IsAllowed, time_lost, time_come};
 ghost use Rattle.brick_state.specs.Tallies.{order_weight};
@@ -156,6 +157,29 @@ impl Stripe {
                     None
                 }
             }
+        }
+    }
+
+    /// Adds a version where it is above the newest one and there is room for it. False where that isn't so: then nothing is changed.
+    pub fn add(&mut self, entry: Entry) -> bool
+        ensures left { result ≡ false → self.new ≡ self.old }
+        ensures above { IsTrue result → is_above (newest_entry (stripe_of self.old)) entry.stamp ≡ true }
+        ensures added { IsTrue result → stripe_of self.new ≡ with_added entry (stripe_of self.old) }
+    {
+        if !self.added.has_room() || !self.is_below(entry.stamp) {
+            return false;
+        }
+        self.added.put(entry.stamp, entry.block);
+        true
+    }
+
+    // Whether all versions are below a stamp.
+    fn is_below(&self, stamp: Stamp) -> bool
+        ensures { result ≡ is_above (newest_entry (stripe_of self.now)) stamp }
+    {
+        match self.newest() {
+            Some(newest) => newest.stamp.is_below(stamp),
+            None => true,
         }
     }
 

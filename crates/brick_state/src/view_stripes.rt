@@ -1,16 +1,16 @@
 //! The stripes of a group in a view, by their numbers.
 
-ghost use Rattle.std.specs.Prelude.{◌≡◌, ◌+◌, ◌≤◌, IsOk, OnOk, IfNone, IfSome, IsSome};
+ghost use Rattle.std.specs.Prelude.{◌≡◌, false, IsTrue, ◌+◌, ◌≤◌, IsOk, OnOk, IfNone, IfSome, IsSome};
 ghost use Rattle.std.specs.Ordering.{nat_cmp};
 ghost use Rattle.std.specs.BTreeMap.{get, values, IsOrdered};
 ghost use Rattle.brick_state.specs.States.{stripe_of, stamp_of};
 ghost use Rattle.brick_state.specs.Changes.{changed};
 ghost use Rattle.brick_state.specs.Times.{greatest, stripe_time};
 ghost use Rattle.brick_state.specs.TopTimes.{IsReplaced};
-ghost use Rattle.brick_state.specs.ViewStripes.{live_of, time_of, HasRoomAt, MayChange, IsChanged, IsReordered};
+ghost use Rattle.brick_state.specs.ViewStripes.{live_of, time_of, HasRoomAt, MayChange, IsChanged, IsExtended, IsReordered};
 ghost use Rattle.brick_state.specs.Maps.{listed, placed, key_of};
 
-use crate::stripes::{Place, Stripe, StripeChange};
+use crate::stripes::{Entry, Place, Stripe, StripeChange};
 use crate::top_times;
 use fab_base::{NoMem, Stamp};
 use std::alloc::Global;
@@ -29,18 +29,16 @@ pub struct Tally {
     pub come: u64,
 }
 
-// Lists a stripe, as one where nothing happened where it is new.
-fn make_entry(alloc: Global, stripes: &mut BTreeMap<u32, Stripe>, place: Place) -> Result<(), NoMem>
-    requires { IsOrdered nat_cmp stripes.old }
+// Lists a stripe that is new, as one where nothing happened, with room for a version.
+fn list(alloc: Global, stripes: &mut BTreeMap<u32, Stripe>, place: Place) -> Result<(), NoMem>
+    requires ordered { IsOrdered nat_cmp stripes.old }
+    requires new { get nat_cmp stripes.old place.2 ≡ None }
     ensures same { listed (placed (key_of place) stripes.new.entries) ≡ listed (placed (key_of place) stripes.old.entries) }
     ensures ordered { IsOrdered nat_cmp stripes.new }
-    ensures there { OnOk result (IsSome (get nat_cmp stripes.new place.2)) }
-    ensures enough { IsSome (get nat_cmp stripes.old place.2) → IsOk result × (stripes.new ≡ stripes.old) }
+    ensures room { OnOk result (HasRoomAt stripes.new place.2) }
 {
-    if stripes.contains_key(&place.2) {
-        return Ok(());
-    }
-    let stripe = Stripe::first(alloc, place);
+    let mut stripe = Stripe::first(alloc, place);
+    stripe.added.reserve()?;
     stripes.insert(place.2, stripe)?;
     Ok(())
 }
@@ -57,13 +55,12 @@ pub fn make_room(
     ensures room { OnOk result (HasRoomAt stripes.new place.2) }
     ensures enough { HasRoomAt stripes.old place.2 → IsOk result }
 {
-    make_entry(alloc, stripes, place)?;
     match stripes.get_mut(&place.2) {
         Some(stripe) => {
             stripe.added.reserve()?;
             Ok(())
         }
-        None => Ok(()),
+        None => list(alloc, stripes, place),
     }
 }
 
@@ -92,6 +89,18 @@ pub fn change(stripes: &mut BTreeMap<u32, Stripe>, number: u32, change: StripeCh
             }
         }
         None => unreachable!(),
+    }
+}
+
+/// Adds a version to a stripe that is listed, where it is above the newest one and there is room for it. False where that isn't so: then nothing is changed.
+pub fn add_listed(stripes: &mut BTreeMap<u32, Stripe>, number: u32, entry: Entry) -> bool
+    ensures ordered { IsOrdered nat_cmp stripes.new }
+    ensures left { result ≡ false → stripes.new.entries ≡ stripes.old.entries }
+    ensures added { IsTrue result → IsExtended number entry stripes.old.entries stripes.new.entries }
+{
+    match stripes.get_mut(&number) {
+        Some(stripe) => stripe.add(entry),
+        None => false,
     }
 }
 

@@ -1,13 +1,13 @@
 //! The stripes of a group in a view, with what is counted of them.
 
-ghost use Rattle.std.specs.Prelude.{◌≡◌, ◌<◌, ◌≤◌, [], IsOk, OnOk, IfNone, IfSome, IsSome};
+ghost use Rattle.std.specs.Prelude.{◌≡◌, false, IsTrue, ◌<◌, ◌≤◌, [], IsOk, OnOk, IfNone, IfSome, IsSome};
 ghost use Rattle.std.specs.Ordering.{nat_cmp};
 ghost use Rattle.std.specs.BTreeMap.{get, IsOrdered};
 ghost use Rattle.std.proofs.Props.{props};
 ghost use Rattle.brick_state.specs.Changes.{changed};
-ghost use Rattle.brick_state.specs.ViewStripes.{live_of, time_of, HasRoomAt, MayChange, IsChanged, IsReordered};
+ghost use Rattle.brick_state.specs.ViewStripes.{live_of, time_of, HasRoomAt, MayChange, IsChanged, IsExtended, IsReordered};
 
-use crate::stripes::{Place, Stripe, StripeChange, order_weight};
+use crate::stripes::{Entry, Place, Stripe, StripeChange, order_weight};
 use crate::view_stripes;
 use fab_base::{NoMem, Stamp};
 use std::alloc::Global;
@@ -77,6 +77,20 @@ impl ViewTable {
         let tally = view_stripes::change(&mut self.stripes, number, change);
         self.live = self.live - tally.fewer + tally.more;
         self.top = view_stripes::top_after(&self.stripes, self.top, tally.lost, tally.come);
+    }
+
+    /// Adds a version to a stripe that is listed, where it is above the newest one and there is room for it. False where that isn't so: then nothing is changed.
+    pub fn add_listed(&mut self, number: u32, entry: Entry) -> bool
+        requires few { live_of self.old.stripes.entries < 4294967295 }
+        ensures left { result ≡ false → self.new.stripes.entries ≡ self.old.stripes.entries }
+        ensures added { IsTrue result → IsExtended number entry self.old.stripes.entries self.new.stripes.entries }
+    {
+        if !view_stripes::add_listed(&mut self.stripes, number, entry) {
+            return false;
+        }
+        self.live += 1;
+        self.top = self.top.max(entry.stamp.time);
+        true
     }
 
     /// Sets the order stamp of a stripe that is listed, and answers the one that it had. None where the stripe isn't listed: then nothing is changed.

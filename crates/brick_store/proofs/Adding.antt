@@ -2,13 +2,8 @@
 use Rattle.std.proofs.Common.{◌≡◌, ◌≢◌, inl, inr, ℕ, ◌<◌, Bool, true, false, cond, eqb, Option, Some, List, [], ◌∷◌, length, Result, Ok, Err, refl, sym, ap, subst, ◌∙◌, arith}
 use Rattle.std.specs.Option.{unwrap_or}
 use Rattle.std.specs.List.{AllByRecursion}
-use Rattle.std.specs.declared.cmp.Ordering.{Ordering}
-use Rattle.std.specs.declared.cmp.Ordering.TheVariants.{Less, Equal, Greater}
-use Rattle.std.specs.Ordering.{nat_cmp, is_eq}
 use Rattle.std.specs.Prelude.{replicate}
-use Rattle.std.specs.BTreeMap.{BTreeMap, get, is_at}
 use Rattle.std.specs.Result.{OnOk, OnErr}
-use Rattle.std.proofs.lemmas.Map.Lookups.{exact_unsigned}
 use Rattle.std.proofs.lemmas.Bool.Decides.{nat_tests}
 use Rattle.fab_disk.specs.declared.disk.Disk as on_disk
 use Rattle.fab_disk.proofs.Changing.{same as at_once}
@@ -25,6 +20,7 @@ use Rattle.brick_state.specs.Folds.{Limits, applied, is_full}
 use Rattle.brick_state.specs.Indexes.{state_of}
 use Rattle.brick_state.specs.Indexes as indexes
 use Rattle.brick_state.proofs.Keeping.{applied_keeps}
+use Rattle.brick_store.specs.BlockTables.{SlotBlocks, block_under}
 use Rattle.brick_store.specs.declared.faults.StoreFault.{StoreFault}
 use Rattle.brick_store.specs.declared.faults.StoreFault.TheVariants.{NoMemory}
 use Rattle.brick_store.specs.Blocks.{resolved, cached}
@@ -61,23 +57,14 @@ slots_both : (P Q : ℕ → Type 0) (st : StateOf Entry) → AllSlots P st → A
 slots_both P Q st all also = stripes_both P Q st.stripes all also
 
 -- memory holds the same under a slot as other memory does
-abbrev pub SameUnder : BTreeMap ℕ (List ℕ) → BTreeMap ℕ (List ℕ) → ℕ → Type 0
-SameUnder blocks now slot = get nat_cmp now slot ≡ get nat_cmp blocks slot
-
-pub other_apart : (slot other : ℕ) → other ≢ slot → is_at (nat_cmp slot) other ≡ false
-other_apart slot other apart = away (nat_cmp slot other) refl
-  where
-    away : (r : Ordering) → nat_cmp slot other ≡ r → is_eq r ≡ false
-    away Less at = refl
-    away Greater at = refl
-    away Equal at = absurd (apart (sym (exact_unsigned slot other at)))
+abbrev pub SameUnder : SlotBlocks → SlotBlocks → ℕ → Type 0
+SameUnder blocks now slot = block_under now slot ≡ block_under blocks slot
 
 -- as it does where one slot changed that no version names
-pub same_others : (blocks now : BTreeMap ℕ (List ℕ)) (slot : ℕ) (st : StateOf Entry)
-    → ((other : ℕ) → is_at (nat_cmp slot) other ≡ false → get nat_cmp now other ≡ get nat_cmp blocks other) → AllSlots (λ other. other ≢ slot) st
+pub same_others : (blocks now : SlotBlocks) (slot : ℕ) (st : StateOf Entry)
+    → ((other : ℕ) → other ≢ slot → block_under now other ≡ block_under blocks other) → AllSlots (λ other. other ≢ slot) st
     → AllSlots (SameUnder blocks now) st
-same_others blocks now slot st updates unnamed = slots_imply (λ other. other ≢ slot) (SameUnder blocks now)
-    (λ other apart. updates other (other_apart slot other apart)) st unnamed
+same_others blocks now slot st others unnamed = slots_imply (λ other. other ≢ slot) (SameUnder blocks now) others st unnamed
 
 -- it is so of each version where it is so of each slot
 entries_every : (P : ℕ → Type 0) → ((slot : ℕ) → P slot) → (entries : List Entry) → AllByRecursion (λ v. P v.block) entries
@@ -90,27 +77,27 @@ stripes_every P each [] = tt
 stripes_every P each (e ∷ stripes) = (entries_every P each e.1.added, stripes_every P each stripes)
 
 -- the slot of a version that was not added is forgotten
-pub same_settled : (blocks now : BTreeMap ℕ (List ℕ)) (slot : ℕ) (st st_now : StateOf Entry) (result : Result (Unit {0}) StoreFault)
+pub same_settled : (blocks now : SlotBlocks) (slot : ℕ) (st st_now : StateOf Entry) (result : Result (Unit {0}) StoreFault)
     → OnOk result (now ≡ blocks) → ((other : ℕ) → other ≢ slot → SameUnder blocks now other) → OnErr result (st_now ≡ st)
     → AllSlots (λ other. other ≢ slot) st → AllSlots (SameUnder blocks now) st_now
 same_settled blocks now slot st st_now (Ok u) added others same unnamed = stripes_every (SameUnder blocks now)
-    (λ other. ap (λ (b : BTreeMap ℕ (List ℕ)). get nat_cmp b other) added) st_now.stripes
+    (λ other. ap (λ (b : SlotBlocks). block_under b other) added) st_now.stripes
 same_settled blocks now slot st st_now (Err e) added others same unnamed =
     subst (λ (s : StateOf Entry). AllSlots (SameUnder blocks now) s) (sym same)
     (slots_imply (λ other. other ≢ slot) (SameUnder blocks now) others st unnamed)
 
-cached_same : (size : ℕ) (blocks now : BTreeMap ℕ (List ℕ)) (slot : ℕ) → SameUnder blocks now slot → cached size now slot ≡ cached size blocks slot
+cached_same : (size : ℕ) (blocks now : SlotBlocks) (slot : ℕ) → SameUnder blocks now slot → cached size now slot ≡ cached size blocks slot
 cached_same size blocks now slot same = ap (λ (o : Option (List ℕ)). cond (eqb slot 4294967295) (replicate size 0) (unwrap_or o [])) same
 
 -- the block in a slot that is held
-pub cached_is : (size : ℕ) (blocks : BTreeMap ℕ (List ℕ)) (slot : ℕ) (bytes : List ℕ) → slot < 4294967295 → get nat_cmp blocks slot ≡ Some bytes
+pub cached_is : (size : ℕ) (blocks : SlotBlocks) (slot : ℕ) (bytes : List ℕ) → slot < 4294967295 → block_under blocks slot ≡ Some bytes
     → cached size blocks slot ≡ bytes
 cached_is size blocks slot bytes small held =
     let other : eqb slot 4294967295 ≡ false = grind (arith, nat_tests, small) in
-    ap (λ (b : Bool). cond b (replicate size 0) (unwrap_or (get nat_cmp blocks slot) [])) other ∙ ap (λ (o : Option (List ℕ)). unwrap_or o []) held
+    ap (λ (b : Bool). cond b (replicate size 0) (unwrap_or (block_under blocks slot) [])) other ∙ ap (λ (o : Option (List ℕ)). unwrap_or o []) held
 
 -- a clause sees no difference
-pub brick_same : {D : Type 0} (blocks now : BTreeMap ℕ (List ℕ)) (frames : Held D) (st : StateOf Entry) → AllSlots (SameUnder blocks now) st
+pub brick_same : {D : Type 0} (blocks now : SlotBlocks) (frames : Held D) (st : StateOf Entry) → AllSlots (SameUnder blocks now) st
     → brick_of now frames st ≡ brick_of blocks frames st
 brick_same {D} blocks now frames st same =
     ap with_state (resolved_same (cached frames.shape.block now) (cached frames.shape.block blocks) st
@@ -122,7 +109,7 @@ brick_same {D} blocks now frames st same =
 
 module _ {D : Type 0} (d : on_disk.Ghosts D) where
   -- and the store stands with it
-  pub standing_same : (blocks now : BTreeMap ℕ (List ℕ)) (zero_block : List ℕ) (frames : Held D) (index : Index) → AllSlots (SameUnder blocks now)
+  pub standing_same : (blocks now : SlotBlocks) (zero_block : List ℕ) (frames : Held D) (index : Index) → AllSlots (SameUnder blocks now)
       (state_of index)
       → Standing d.tells d.seen d.may_leave frames index blocks zero_block → Standing d.tells d.seen d.may_leave frames index now zero_block
   standing_same blocks now zero_block frames index same standing = record {
@@ -152,7 +139,7 @@ module _ {D : Type 0} (d : on_disk.Ghosts D) where
       stored_now slot (inr there, under) = inr (there.0, there.1 ∙ sym (cached_same frames.shape.block blocks now slot under))
 
   -- what stood in the slots of versions still does, and the block that was put
-  stored_before : (slot : ℕ) (bytes : List ℕ) (blocks : BTreeMap ℕ (List ℕ)) (zero_block : List ℕ) (old : Held D) (index : Index)
+  stored_before : (slot : ℕ) (bytes : List ℕ) (blocks : SlotBlocks) (zero_block : List ℕ) (old : Held D) (index : Index)
       → Standing d.tells d.seen d.may_leave old index blocks zero_block → old.halted ≡ false
       → AllSlots (λ other. other ≢ slot) (state_of index) → d.tells → (content : List ℕ) → KeepsSlots old.shape (Some (slot, bytes))
       (d.seen old.disk) content → AllSlots (IsStored old.shape blocks content) (state_of index)
@@ -161,18 +148,18 @@ module _ {D : Type 0} (d : on_disk.Ghosts D) where
       (λ other both. stored_still old.shape (Some (slot, bytes)) blocks (d.seen old.disk) content kept other both.1 both.0) (state_of index)
       (slots_both (IsStored old.shape blocks (d.seen old.disk)) (λ other. other ≢ slot) (state_of index) (standing.on_disk told runs).stored unnamed)
 
-  stored_here : (slot : ℕ) (bytes : List ℕ) (blocks : BTreeMap ℕ (List ℕ)) (shape : Shape) (content : List ℕ) → slot < 4294967295
-      → get nat_cmp blocks slot ≡ Some bytes → StandsIn shape (Some (slot, bytes)) content → IsStored shape blocks content slot
+  stored_here : (slot : ℕ) (bytes : List ℕ) (blocks : SlotBlocks) (shape : Shape) (content : List ℕ) → slot < 4294967295
+      → block_under blocks slot ≡ Some bytes → StandsIn shape (Some (slot, bytes)) content → IsStored shape blocks content slot
   stored_here slot bytes blocks shape content small held put =
       inr (put.0, put.1 ∙ sym (cached_is shape.block blocks slot bytes small held))
 
   -- what the record of a version with a block of its own says of the whole call
-  pub changes_put : {calls : ℕ} (slot : ℕ) (bytes : List ℕ) (blocks : BTreeMap ℕ (List ℕ)) (zero_block : List ℕ) (old new : Held D) (index : Index)
+  pub changes_put : {calls : ℕ} (slot : ℕ) (bytes : List ℕ) (blocks : SlotBlocks) (zero_block : List ℕ) (old new : Held D) (index : Index)
       (item : Record) (st_now next : StateOf Entry) (body : ℕ) (result : Result (Unit {0}) StoreFault)
       → Standing d.tells d.seen d.may_leave old index blocks zero_block → old.halted ≡ false → is_full (indexes.limits_of index) (state_of index) ≡ false
       → applied (indexes.limits_of index) item (state_of index) ≡ Some next
       → ((P : ℕ → Type 0) → P slot → AllSlots P (state_of index) → AllSlots P next)
-      → slot < 4294967295 → get nat_cmp blocks slot ≡ Some bytes → AllSlots (λ other. other ≢ slot) (state_of index)
+      → slot < 4294967295 → block_under blocks slot ≡ Some bytes → AllSlots (λ other. other ≢ slot) (state_of index)
       → Step d (state_of index) (changed (indexes.limits_of index) item (state_of index)) (Longer old (state_of index) body) old new result
       → OnOk result (st_now ≡ changed (indexes.limits_of index) item (state_of index)) → OnErr result (st_now ≡ state_of index)
       → StateChange d calls old (Some (slot, bytes)) (state_of index) (changed (indexes.limits_of index) item (state_of index)) new.disk (end_of result)
@@ -193,12 +180,12 @@ module _ {D : Type 0} (d : on_disk.Ghosts D) where
       (before told content kept)) step_next made_next not_made change_next
 
   -- and that the store stands after it
-  pub standing_put : {calls : ℕ} {Listed : ℕ → Type 0} (slot : ℕ) (bytes : List ℕ) (blocks : BTreeMap ℕ (List ℕ)) (zero_block : List ℕ) (old new : Held D) (index index_now : Index)
+  pub standing_put : {calls : ℕ} {Listed : ℕ → Type 0} (slot : ℕ) (bytes : List ℕ) (blocks : SlotBlocks) (zero_block : List ℕ) (old new : Held D) (index index_now : Index)
       (item : Record) (next : StateOf Entry) (result : Result (Unit {0}) StoreFault)
       → Standing d.tells d.seen d.may_leave old index blocks zero_block → old.halted ≡ false
       → applied (indexes.limits_of index) item (state_of index) ≡ Some next
       → ((P : ℕ → Type 0) → P slot → AllSlots P (state_of index) → AllSlots P next)
-      → slot < 4294967295 → get nat_cmp blocks slot ≡ Some bytes → length bytes ≡ old.shape.block → AllSlots (λ other. other ≢ slot) (state_of index)
+      → slot < 4294967295 → block_under blocks slot ≡ Some bytes → length bytes ≡ old.shape.block → AllSlots (λ other. other ≢ slot) (state_of index)
       → AllByRecursion GroupHasMembers next.groups → indexes.limits_of index_now ≡ indexes.limits_of index
       → Step d (state_of index) (changed (indexes.limits_of index) item (state_of index)) Listed old new result
       → OnOk result (state_of index_now ≡ changed (indexes.limits_of index) item (state_of index))
@@ -222,7 +209,7 @@ module _ {D : Type 0} (d : on_disk.Ghosts D) where
 
   -- a store of which a call was refused before it tried, for want of memory
   pub changes_stopped : (only_now : (disk : D) (image : List ℕ) → d.left_since disk (d.moment disk) image → d.may_leave disk image)
-      (blocks : BTreeMap ℕ (List ℕ)) (zero_block : List ℕ) (old : Held D) (index : Index) (after : StateOf Version) (body calls : ℕ)
+      (blocks : SlotBlocks) (zero_block : List ℕ) (old : Held D) (index : Index) (after : StateOf Version) (body calls : ℕ)
       → Standing d.tells d.seen d.may_leave old index blocks zero_block → old.halted ≡ false → is_full (indexes.limits_of index) (state_of index) ≡ false
       → Told d (brick_of blocks old (state_of index))
       (brick_of blocks old (state_of index)) after body true calls (Err NoMemory)
@@ -253,7 +240,7 @@ module _ {D : Type 0} (d : on_disk.Ghosts D) where
 
   -- in the words of what a clause sees of the store
   pub told_stopped : (only_now : (disk : D) (image : List ℕ) → d.left_since disk (d.moment disk) image → d.may_leave disk image)
-      (blocks : BTreeMap ℕ (List ℕ)) (zero_block : List ℕ) (old : Held D) (index : Index) (b : Brick D) (after : StateOf Version) (body calls : ℕ)
+      (blocks : SlotBlocks) (zero_block : List ℕ) (old : Held D) (index : Index) (b : Brick D) (after : StateOf Version) (body calls : ℕ)
       (fault : StoreFault)
       → brick_of blocks old (state_of index) ≡ b → fault ≡ NoMemory → Standing d.tells d.seen d.may_leave old index blocks zero_block → old.halted ≡ false
       → is_full (indexes.limits_of index) (state_of index) ≡ false

@@ -3,9 +3,7 @@ use Rattle.std.proofs.Common.{◌≡◌, ◌≢◌, ◌⊎◌, inl, inr, ⊎_eli
 use Rattle.std.specs.Option.{unwrap_or, option_map}
 use Rattle.std.proofs.lemmas.Option.{same_Some}
 use Rattle.std.specs.List.{AllByRecursion}
-use Rattle.std.specs.Ordering.{nat_cmp}
 use Rattle.std.specs.Prelude.{replicate}
-use Rattle.std.specs.BTreeMap.{BTreeMap, get}
 use Rattle.std.specs.Result.{OnOk, OnErr}
 use Rattle.fab_disk.specs.declared.disk.Disk as on_disk
 use Rattle.fab_disk.specs.Disk.{Only}
@@ -27,6 +25,7 @@ use Rattle.brick_state.specs.Folds.{Limits, applied, folded, is_full}
 use Rattle.brick_state.specs.Indexes.{state_of}
 use Rattle.brick_state.specs.Indexes as indexes
 use Rattle.brick_state.specs.KeptStates.{IsKeptState}
+use Rattle.brick_store.specs.BlockTables.{SlotBlocks, block_under}
 use Rattle.brick_store.specs.declared.faults.StoreFault.{StoreFault}
 use Rattle.brick_store.specs.declared.faults.StoreFault.TheVariants.{Disk, Full, Halted, NoMemory}
 use Rattle.brick_store.specs.Blocks.{resolved, cached}
@@ -55,18 +54,18 @@ leads_folded limits [] old st leads = leads
 leads_folded limits (frame ∷ frames) old st leads = rw leads.1 (rw leads.3 (leads_folded limits frames leads.2 st leads.4))
 
 -- what lies in the slot is what is held in memory
-pub stored_same : (shape : Shape) (blocks : BTreeMap ℕ (List ℕ)) (image : List ℕ) (slot : ℕ) → IsStored shape blocks image slot
+pub stored_same : (shape : Shape) (blocks : SlotBlocks) (image : List ℕ) (slot : ℕ) → IsStored shape blocks image slot
     → block_at shape image slot ≡ cached shape.block blocks slot
 stored_same shape blocks image slot (inl zero) = rw zero refl
 stored_same shape blocks image slot (inr there) = by (eqb slot 4294967295) refl
   where
     by : (b : Bool) → eqb slot 4294967295 ≡ b → cond b (replicate shape.block 0) (block_in shape slot image) ≡ cond b (replicate shape.block 0)
-        (unwrap_or (get nat_cmp blocks slot) [])
+        (unwrap_or (block_under blocks slot) [])
     by true at = refl
-    by false at = there.1 ∙ ap (λ (c : Bool). cond c (replicate shape.block 0) (unwrap_or (get nat_cmp blocks slot) [])) at
+    by false at = there.1 ∙ ap (λ (c : Bool). cond c (replicate shape.block 0) (unwrap_or (block_under blocks slot) [])) at
 
 -- an image whose slots hold the blocks stands for the state
-pub stands_for : (shape : Shape) (blocks : BTreeMap ℕ (List ℕ)) (st : StateOf Entry) (image : List ℕ) → LeadsTo shape st image
+pub stands_for : (shape : Shape) (blocks : SlotBlocks) (st : StateOf Entry) (image : List ℕ) → LeadsTo shape st image
     → AllSlots (IsStored shape blocks image) st
     → StandsFor shape (resolved (cached shape.block blocks) st) image
 stands_for shape blocks st image leads stored = record {
@@ -80,7 +79,7 @@ stands_for shape blocks st image leads stored = record {
 }
 
 -- a block that lay in its slot still does
-pub stored_still : (shape : Shape) (put : Option (ℕ × List ℕ)) (blocks : BTreeMap ℕ (List ℕ)) (content image : List ℕ)
+pub stored_still : (shape : Shape) (put : Option (ℕ × List ℕ)) (blocks : SlotBlocks) (content image : List ℕ)
     → KeepsSlots shape put content image
     → (slot : ℕ) → IsOther put slot → IsStored shape blocks content slot → IsStored shape blocks image slot
 stored_still shape put blocks content image kept slot free (inl zero) = inl zero
@@ -90,7 +89,7 @@ stored_still shape put blocks content image kept slot free (inr there) =
 -- ---- a store
 
 -- what a clause sees of a store of these frames, blocks and state
-abbrev pub brick_of : {D : Type 0} → BTreeMap ℕ (List ℕ) → Held D → StateOf Entry → Brick D
+abbrev pub brick_of : {D : Type 0} → SlotBlocks → Held D → StateOf Entry → Brick D
 brick_of blocks frames st = record {
   disk = frames.disk;
   shape = frames.shape;
@@ -190,7 +189,7 @@ Longer old st body = IsAppended (has_room_for old.shape (size_of old.frames) bod
 
 module _ {D : Type 0} (d : on_disk.Ghosts D) where
   -- a store between two calls can be changed, while it is not halted
-  pub may_of : (blocks : BTreeMap ℕ (List ℕ)) (zero_block : List ℕ) (old : Held D) (index : Index)
+  pub may_of : (blocks : SlotBlocks) (zero_block : List ℕ) (old : Held D) (index : Index)
       → Standing d.tells d.seen d.may_leave old index blocks zero_block → old.halted ≡ false → CanChange d (state_of index) old
   may_of blocks zero_block old index standing runs = record {
     runs = runs;
@@ -200,7 +199,7 @@ module _ {D : Type 0} (d : on_disk.Ghosts D) where
   }
 
   -- what the change of the list says of the whole call
-  pub changes_tried : (put : Option (ℕ × List ℕ)) (blocks : BTreeMap ℕ (List ℕ)) (st next : StateOf Entry) (old new : Held D) (st_now : StateOf Entry)
+  pub changes_tried : (put : Option (ℕ × List ℕ)) (blocks : SlotBlocks) (st next : StateOf Entry) (old new : Held D) (st_now : StateOf Entry)
       (body : ℕ) (adds : Bool) (calls : ℕ) (result : Result (Unit {0}) StoreFault)
       → CanChange d st old → (adds ≡ true → live st ≢ old.shape.records)
       → (d.tells → (content : List ℕ) → KeepsSlots old.shape put (d.seen old.disk) content → AllSlots (IsStored old.shape blocks content) st)
@@ -253,7 +252,7 @@ module _ {D : Type 0} (d : on_disk.Ghosts D) where
       keeps_err (Err e) h = record { shape = step.shape; state = now_is st h }
 
   -- the store stands after the call
-  pub standing_after : {calls : ℕ} {Listed : ℕ → Type 0} (put : Option (ℕ × List ℕ)) (blocks : BTreeMap ℕ (List ℕ)) (zero_block : List ℕ) (next : StateOf Entry)
+  pub standing_after : {calls : ℕ} {Listed : ℕ → Type 0} (put : Option (ℕ × List ℕ)) (blocks : SlotBlocks) (zero_block : List ℕ) (next : StateOf Entry)
       (old new : Held D) (index index_now : Index) (result : Result (Unit {0}) StoreFault)
       → Standing d.tells d.seen d.may_leave old index blocks zero_block → old.halted ≡ false
       → indexes.limits_of index_now ≡ indexes.limits_of index → Step d (state_of index) next Listed old new result
@@ -325,7 +324,7 @@ module _ {D : Type 0} (d : on_disk.Ghosts D) where
 
   -- a store of which a call was refused before it tried
   pub changes_refused : (only_now : (disk : D) (image : List ℕ) → d.left_since disk (d.moment disk) image → d.may_leave disk image)
-      (blocks : BTreeMap ℕ (List ℕ)) (zero_block : List ℕ) (old : Held D) (index : Index) (after : StateOf Version) (body : ℕ) (adds : Bool) (calls : ℕ)
+      (blocks : SlotBlocks) (zero_block : List ℕ) (old : Held D) (index : Index) (after : StateOf Version) (body : ℕ) (adds : Bool) (calls : ℕ)
       (fault : StoreFault)
       → Standing d.tells d.seen d.may_leave old index blocks zero_block → IsRefused old.halted adds (indexes.limits_of index).records
       (live (state_of index)) (Err fault)
@@ -347,7 +346,7 @@ module _ {D : Type 0} (d : on_disk.Ghosts D) where
   )
 
   -- what stood in the slots of versions still does, where no block is put
-  stored_plain : (blocks : BTreeMap ℕ (List ℕ)) (zero_block : List ℕ) (old : Held D) (index : Index)
+  stored_plain : (blocks : SlotBlocks) (zero_block : List ℕ) (old : Held D) (index : Index)
       → Standing d.tells d.seen d.may_leave old index blocks zero_block → old.halted ≡ false → d.tells → (content : List ℕ)
       → KeepsSlots old.shape None (d.seen old.disk) content → AllSlots (IsStored old.shape blocks content) (state_of index)
   stored_plain blocks zero_block old index standing runs told content kept =
@@ -355,7 +354,7 @@ module _ {D : Type 0} (d : on_disk.Ghosts D) where
       (λ slot. stored_still old.shape None blocks (d.seen old.disk) content kept slot tt) (state_of index) (standing.on_disk told runs).stored
 
   -- what the record of a change that adds no block of its own says of the whole call
-  pub changes_plain : {calls : ℕ} (blocks : BTreeMap ℕ (List ℕ)) (zero_block : List ℕ) (old new : Held D) (index : Index) (item : Record)
+  pub changes_plain : {calls : ℕ} (blocks : SlotBlocks) (zero_block : List ℕ) (old new : Held D) (index : Index) (item : Record)
       (st_now next : StateOf Entry) (body : ℕ) (adds : Bool) (result : Result (Unit {0}) StoreFault)
       → Standing d.tells d.seen d.may_leave old index blocks zero_block → old.halted ≡ false
       → (adds ≡ true → is_full (indexes.limits_of index) (state_of index) ≡ false)
@@ -379,7 +378,7 @@ module _ {D : Type 0} (d : on_disk.Ghosts D) where
       (subst (λ (n : StateOf Entry). StateChange d calls old None st n new.disk (end_of result)) to change)
 
   -- and that the store stands after it
-  pub standing_plain : {calls : ℕ} {Listed : ℕ → Type 0} (blocks : BTreeMap ℕ (List ℕ)) (zero_block : List ℕ) (old new : Held D) (index index_now : Index) (item : Record)
+  pub standing_plain : {calls : ℕ} {Listed : ℕ → Type 0} (blocks : SlotBlocks) (zero_block : List ℕ) (old new : Held D) (index index_now : Index) (item : Record)
       (next : StateOf Entry) (result : Result (Unit {0}) StoreFault)
       → Standing d.tells d.seen d.may_leave old index blocks zero_block → old.halted ≡ false
       → applied (indexes.limits_of index) item (state_of index) ≡ Some next → ((P : ℕ → Type 0) → P 4294967295 → AllSlots P (state_of index)
@@ -404,7 +403,7 @@ module _ {D : Type 0} (d : on_disk.Ghosts D) where
       (stored_plain blocks zero_block old index standing runs told content kept_slots))
 
   -- in the words of what a clause sees of the store
-  pub told_of : (blocks : BTreeMap ℕ (List ℕ)) (old new : Held D) (st st_now next : StateOf Entry) (b : Brick D)
+  pub told_of : (blocks : SlotBlocks) (old new : Held D) (st st_now next : StateOf Entry) (b : Brick D)
       (F : StateOf Version → StateOf Version) (A : StateOf Version → Bool) (C : Brick D → ℕ) (body : ℕ) (adds : Bool) (calls : ℕ)
       (result : Result (Unit {0}) StoreFault)
       → brick_of blocks old st ≡ b → resolved (cached old.shape.block blocks) next ≡ F (resolved (cached old.shape.block blocks) st)
@@ -423,7 +422,7 @@ module _ {D : Type 0} (d : on_disk.Ghosts D) where
       (resolved (cached old.shape.block blocks) next) body x calls result) add tried)))
 
   pub told_refused : (only_now : (disk : D) (image : List ℕ) → d.left_since disk (d.moment disk) image → d.may_leave disk image)
-      (blocks : BTreeMap ℕ (List ℕ)) (zero_block : List ℕ) (old : Held D) (index : Index) (b : Brick D) (F : StateOf Version → StateOf Version)
+      (blocks : SlotBlocks) (zero_block : List ℕ) (old : Held D) (index : Index) (b : Brick D) (F : StateOf Version → StateOf Version)
       (A : StateOf Version → Bool) (body : ℕ) (adds : Bool) (calls : ℕ) (fault : StoreFault)
       → brick_of blocks old (state_of index) ≡ b → adds ≡ A (resolved (cached old.shape.block blocks) (state_of index))
       → Standing d.tells d.seen d.may_leave old index blocks zero_block

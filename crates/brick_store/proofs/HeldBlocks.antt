@@ -1,78 +1,86 @@
 -- The blocks that are held in memory.
-use Rattle.std.proofs.Common.{◌≡◌, inl, ℕ, zero, suc, ◌+◌, ◌<◌, ◌≤◌, cond, Some, None, List, [], ◌∷◌, ◌++◌, length, take, get_or, add-one, refl, sym, ap, subst, ◌∙◌, arith}
-use Rattle.std.specs.declared.cmp.Ordering.{Ordering}
-use Rattle.std.specs.declared.cmp.Ordering.TheVariants.{Less, Equal, Greater}
-use Rattle.std.specs.Ordering.{nat_cmp, is_eq}
-use Rattle.std.specs.List.{AllByRecursion}
-use Rattle.std.specs.Map.{lookup}
-use Rattle.std.specs.BTreeMap.{BTreeMap, get, is_at}
-use Rattle.std.proofs.lemmas.Map.Lookups.{exact_unsigned}
-use Rattle.std.proofs.lemmas.List.{take_all}
-use Rattle.std.proofs.Math.Seq.{take-suc}
+use Rattle.std.proofs.Common.{◌≡◌, ◌≢◌, ◌⊎◌, inl, inr, ⊎_elim, ℕ, zero, suc, ◌+◌, ◌<◌, true, eqb, ltb, Option, Some, List, [], ◌∷◌, refl, sym, ap, subst, ◌∙◌, arith}
+use Rattle.std.specs.List.{AllByRecursion, Contains}
+use Rattle.std.specs.Option.{IsSome}
+use Rattle.std.proofs.lemmas.Bool.{or_cases, ltb-true, eqb-true, cases_eq, cases_lt}
+use Rattle.std.proofs.lemmas.Option.{same_Some}
 use Rattle.fab_disk.specs.Disk.{IsUntouched}
 use Rattle.frame_store.specs.declared.shapes.Shape.{Shape}
+use Rattle.frame_store.specs.Images.{HasSlot}
 use Rattle.frame_store.specs.Stores.{Held, IsSame}
-use Rattle.brick_store.specs.Openings.{IsHeld, IsReadFrom, AreRead}
+use Rattle.brick_state.specs.Folds.{Limits, is_slot}
+use Rattle.brick_store.specs.BlockTables.{SlotBlocks, block_under}
+use Rattle.brick_store.specs.Openings.{IsHeld, IsReadFrom, AreRead, IsInside}
 
-some_same : {X : Type 0} {a b : X} → Some a ≡ Some b → a ≡ b
-some_same h = cc
+-- what is held after one block more: that one, and what was held before
+module _ (old new : SlotBlocks) (k : ℕ) (v : List ℕ) (there : block_under new k ≡ Some v)
+    (others : (other : ℕ) → other ≢ k → block_under new other ≡ block_under old other) where
+  cases : (slot : ℕ) → (slot ≡ k) ⊎ (slot ≢ k)
+  cases slot = cases_eq slot k
 
--- one block more
-pub read_more : (tells : Type 0) (shape : Shape) (size : ℕ) (content : List ℕ) (old new : BTreeMap ℕ (List ℕ)) (k : ℕ) (v : List ℕ)
-    → ((q : ℕ) → get nat_cmp new q ≡ cond (is_at (nat_cmp k) q) (Some v) (get nat_cmp old q))
-    → IsReadFrom tells shape size content k v → AreRead tells shape size content old → AreRead tells shape size content new
-read_more tells shape size content old new k v updates here all slot bytes found = by (nat_cmp k slot) refl (sym (updates slot) ∙ found)
+  pub read_more : (tells : Type 0) (shape : Shape) (size : ℕ) (content : List ℕ) → IsReadFrom tells shape size content k v
+      → AreRead tells shape size content old → AreRead tells shape size content new
+  read_more tells shape size content here all slot bytes found = ⊎_elim at away (cases slot)
+    where
+      at : slot ≡ k → IsReadFrom tells shape size content slot bytes
+      at is = subst (λ (b : List ℕ). IsReadFrom tells shape size content slot b)
+          (same_Some _ _ (sym there ∙ ap (λ (n : ℕ). block_under new n) (sym is) ∙ found))
+          (subst (λ (n : ℕ). IsReadFrom tells shape size content n v) (sym is) here)
+
+      away : slot ≢ k → IsReadFrom tells shape size content slot bytes
+      away other = all slot bytes (sym (others slot other) ∙ found)
+
+  pub held_still : (other : ℕ) → IsHeld old other → IsHeld new other
+  held_still other (inl zero_block) = inl zero_block
+  held_still other (inr some) = ⊎_elim at away (cases other)
+    where
+      at : other ≡ k → IsHeld new other
+      at is = inr (subst (λ (o : Option (List ℕ)). IsSome o) (sym (ap (λ (n : ℕ). block_under new n) is ∙ there)) refl)
+
+      away : other ≢ k → IsHeld new other
+      away apart = inr (subst (λ (o : Option (List ℕ)). IsSome o) (sym (others other apart)) some)
+
+-- one slot more was looked at
+pub held_more : (used : List ℕ) (old new : SlotBlocks) (k : ℕ) → ((other : ℕ) → IsHeld old other → IsHeld new other)
+    → (Contains used k → IsHeld new k) → ((slot : ℕ) → slot < k → Contains used slot → IsHeld old slot)
+    → (slot : ℕ) → slot < k + 1 → Contains used slot → IsHeld new slot
+held_more used old new k others here before slot within there =
+    ⊎_elim (λ below. others slot (before slot below there))
+    (λ past. subst (λ (n : ℕ). Contains used n → IsHeld new n) (omega (arith, within, past)) here there) (cases_lt slot k)
+
+-- ---- slots that versions name
+
+all_each : (P Q : ℕ → Type 0) (xs : List ℕ) → ((x : ℕ) → Contains xs x → Q x → P x) → AllByRecursion Q xs → AllByRecursion P xs
+all_each P Q [] each all = tt
+all_each P Q (x ∷ xs) each all = (each x (0, omega arith, refl) all.0, all_each P Q xs (λ y there. each y (later y there)) all.1)
   where
-    by : (r : Ordering) → nat_cmp k slot ≡ r → cond (is_eq r) (Some v) (get nat_cmp old slot) ≡ Some bytes
-        → IsReadFrom tells shape size content slot bytes
-    by Less at is = all slot bytes is
-    by Greater at is = all slot bytes is
-    by Equal at is =
-        let there : IsReadFrom tells shape size content slot v = subst (λ (n : ℕ). IsReadFrom tells shape size content n v)
-        (exact_unsigned k slot at) here in
-        subst (λ (b : List ℕ). IsReadFrom tells shape size content slot b) (some_same is) there
+    later : (y : ℕ) → Contains xs y → Contains (x ∷ xs) y
+    later y (k, lt, e) = (suc k, omega (arith, lt), e)
 
--- none is held yet
-pub none_read : (tells : Type 0) (shape : Shape) (size : ℕ) (content : List ℕ) (blocks : BTreeMap ℕ (List ℕ)) → blocks.entries ≡ []
-    → AreRead tells shape size content blocks
-none_read tells shape size content blocks none slot bytes found = absurd (none_some (sym (nothing_at blocks.entries none) ∙ found))
+-- each of them is held, if those are that lie before the end
+pub all_held : (limits : Limits) (used : List ℕ) (blocks : SlotBlocks) (end : ℕ) → AllByRecursion (λ slot. is_slot limits slot ≡ true) used
+    → ((slot : ℕ) → slot < limits.slots → Contains used slot → slot < end)
+    → ((slot : ℕ) → slot < end → Contains used slot → IsHeld blocks slot) → AllByRecursion (IsHeld blocks) used
+all_held limits used blocks end are ends held = all_each (IsHeld blocks) (λ slot. is_slot limits slot ≡ true) used
+    (λ slot there is. by slot there (or_cases (eqb slot 4294967295) (ltb slot limits.slots) is)) are
   where
-    none_some : None ≡ Some bytes → ⊥
-    none_some h = cc
+    by : (slot : ℕ) → Contains used slot → (eqb slot 4294967295 ≡ true) ⊎ (ltb slot limits.slots ≡ true) → IsHeld blocks slot
+    by slot there (inl zero_block) = inl zero_block
+    by slot there (inr lt) = held slot (ends slot (ltb-true slot limits.slots lt) there) there
 
-    nothing_at : (es : List (ℕ × List ℕ)) → es ≡ [] → lookup (is_at (nat_cmp slot)) es ≡ None
-    nothing_at es is = ap (lookup (is_at (nat_cmp slot))) is
+contained : (P : ℕ → Type 0) (xs : List ℕ) (x : ℕ) → AllByRecursion P xs → Contains xs x → P x
+contained P [] x all (k, lt, e) = absurd (omega (arith, lt))
+contained P (y ∷ ys) x all (zero, lt, e) = subst P e all.0
+contained P (y ∷ ys) x all (suc k, lt, e) = contained P ys x all.1 (k, omega (arith, lt), e)
 
--- a slot more is held
-all_push : {X : Type 0} (P : X → Type 0) (xs : List X) (x : X) → AllByRecursion P xs → P x → AllByRecursion P (xs ++ x ∷ [])
-all_push P [] x all here = (here, tt)
-all_push P (y ∷ ys) x all here = (all.0, all_push P ys x all.1 here)
-
-all_step : {X : Type 0} (P Q : X → Type 0) (xs : List X) → ((x : X) → P x → Q x) → AllByRecursion P xs → AllByRecursion Q xs
-all_step P Q [] step all = tt
-all_step P Q (x ∷ xs) step all = (step x all.0, all_step P Q xs step all.1)
-
-pub held_more : (old new : BTreeMap ℕ (List ℕ)) (slots : List ℕ) (i slot : ℕ) → i < length slots → slot ≡ get_or slots i 0
-    → ((other : ℕ) → IsHeld old other → IsHeld new other) → IsHeld new slot
-    → AllByRecursion (IsHeld old) (take i slots) → AllByRecursion (IsHeld new) (take (i + 1) slots)
-held_more old new slots i slot within is others here all =
-    let more : take (i + 1) slots ≡ take i slots ++ slot ∷ [] = rw add-one (take-suc slots i 0 within) ∙ ap (λ (x : ℕ). take i slots ++ x ∷ [])
-    (sym is) in
-    subst (λ (xs : List ℕ). AllByRecursion (IsHeld new) xs) (sym more)
-    (all_push (IsHeld new) (take i slots) slot (all_step (IsHeld old) (IsHeld new) (take i slots) others all) here)
-
-pub all_held : (blocks : BTreeMap ℕ (List ℕ)) (slots : List ℕ) (i : ℕ) → length slots ≤ i → AllByRecursion (IsHeld blocks) (take i slots)
-    → AllByRecursion (IsHeld blocks) slots
-all_held blocks slots i past all = subst (λ (xs : List ℕ). AllByRecursion (IsHeld blocks) xs) (take_all i slots past) all
-
--- what holds of each slot holds of one of them
-pub slot_at : (P : ℕ → Type 0) (slots : List ℕ) (i slot : ℕ) → i < length slots → slot ≡ get_or slots i 0 → AllByRecursion P slots → P slot
-slot_at P slots i slot within is all = subst P (sym is) (at slots i within all)
+-- a slot that is named lies in the file, if all do
+pub named_inside : (shape : Shape) (size : ℕ) (used : List ℕ) (slot : ℕ) → slot < 4294967295 → Contains used slot
+    → AllByRecursion (IsInside shape size) used → HasSlot shape size slot
+named_inside shape size used slot small there all = by (contained (IsInside shape size) used slot all there)
   where
-    at : (xs : List ℕ) (k : ℕ) → k < length xs → AllByRecursion P xs → P (get_or xs k 0)
-    at [] k lt a = absurd (omega arith)
-    at (x ∷ xs) zero lt a = a.0
-    at (x ∷ xs) (suc k) lt a = at xs k (omega arith) a.1
+    by : IsInside shape size slot → HasSlot shape size slot
+    by (inl zero_block) = absurd (omega (arith, small, eqb-true slot 4294967295 zero_block))
+    by (inr has) = has
 
 -- ---- calls that read alone
 
@@ -98,7 +106,7 @@ same_both a b c first second = record {
 }
 
 -- what was read from this file was read from that one, where they are the same
-pub read_moved : (tells : Type 0) (shape shape_then : Shape) (size size_then : ℕ) (content content_then : List ℕ) (old new : BTreeMap ℕ (List ℕ))
+pub read_moved : (tells : Type 0) (shape shape_then : Shape) (size size_then : ℕ) (content content_then : List ℕ) (old new : SlotBlocks)
     → shape ≡ shape_then → size ≡ size_then → content ≡ content_then
     → (AreRead tells shape size content old → AreRead tells shape size content new) → AreRead tells shape_then size_then content_then old
     → AreRead tells shape_then size_then content_then new

@@ -11,10 +11,10 @@ use Rattle.fab_base.specs.declared.stamps.Stamp.{Stamp}
 use Rattle.fab_base.specs.Stamps.{stamp_below, stamp_same}
 use Rattle.version_log.specs.Versions.{Version, newest, below, is_below, has_stamp, block_of}
 use Rattle.version_log.proofs.RisingLogs.{find-map, filter-map, last-map}
-use Rattle.std.specs.BTreeMap.{BTreeMap}
 use Rattle.brick_state.specs.Entries.{Entry}
 use Rattle.brick_state.specs.States.{last, Place, StripeOf, StateOf, stripe_at}
 use Rattle.brick_state.proofs.Listings.{all_filter}
+use Rattle.brick_store.specs.BlockTables.{SlotBlocks}
 use Rattle.brick_store.specs.Blocks.{resolved, cached, log_of, log_at}
 use Rattle.brick_store.specs.Standing.{IsCached}
 use Rattle.brick_store.proofs.Resolving.{stripe_at-resolved}
@@ -49,7 +49,7 @@ all_found {X} P p (y ∷ xs) x all e = by (p y) (all_found P p xs x all.1) e
 
 -- ---- the log of a stripe
 
-module _ (zero : List ℕ) (blocks : BTreeMap ℕ (List ℕ)) (from_start : Bool) (added : List Entry) where
+module _ (zero : List ℕ) (blocks : SlotBlocks) (from_start : Bool) (added : List Entry) where
   abbrev log : List Version
   log = log_held zero blocks from_start added
 
@@ -128,7 +128,7 @@ module _ (zero : List ℕ) (blocks : BTreeMap ℕ (List ℕ)) (from_start : Bool
       by (Some e) at is = subst (IsHeld blocks) (same_Some _ _ is) (all_found (λ (v : Entry). IsHeld blocks v.block) (has_stamp t) added e all at)
 
 -- what lies in memory is held
-pub cached_held : (size : ℕ) (blocks : BTreeMap ℕ (List ℕ)) (added : List Entry) → AllByRecursion (λ e. IsCached size blocks e.block) added
+pub cached_held : (size : ℕ) (blocks : SlotBlocks) (added : List Entry) → AllByRecursion (λ e. IsCached size blocks e.block) added
     → AllHeld blocks added
 cached_held size blocks [] all = tt
 cached_held size blocks (e ∷ added) all = (by all.0, cached_held size blocks added all.1)
@@ -138,7 +138,7 @@ cached_held size blocks (e ∷ added) all = (by all.0, cached_held size blocks a
     by (inr there) = inr (subst (λ (o : Option (List ℕ)). IsSome o) (sym there.1) refl)
 
 -- what is held of a stripe is what is seen of it
-pub log_seen : (size : ℕ) (zero : List ℕ) (blocks : BTreeMap ℕ (List ℕ)) (st : StateOf Entry) (p : Place) (from_start : Bool) (added : List Entry)
+pub log_seen : (size : ℕ) (zero : List ℕ) (blocks : SlotBlocks) (st : StateOf Entry) (p : Place) (from_start : Bool) (added : List Entry)
     → zero ≡ replicate size 0
     → (stripe_at st p).from_start ≡ from_start → (stripe_at st p).added ≡ added → log_held zero blocks from_start added ≡ log_at size
     (resolved (cached size blocks) st) p

@@ -2,7 +2,6 @@
 use Rattle.std.proofs.Common.{◌≡◌, ℕ, Bool, true, false, Option, Some, None, List, [], ◌∷◌, map, sym, subst, arith}
 use Rattle.std.specs.List.{AllByRecursion}
 use Rattle.std.specs.Prelude.{replicate}
-use Rattle.std.specs.BTreeMap.{BTreeMap}
 use Rattle.std.specs.Bool.{IsTrue}
 use Rattle.std.specs.List.Sorted.{IsStrictlySortedBy}
 use Rattle.std.proofs.lemmas.List.Elements.{All-from_recursion}
@@ -24,6 +23,7 @@ use Rattle.brick_state.specs.Folds.{Limits}
 use Rattle.brick_state.specs.Rewrites.{start_of}
 use Rattle.brick_state.specs.KeptStates.{Rises, IsKeptState}
 use Rattle.brick_state.proofs.SoundStripes.{sound_at}
+use Rattle.brick_store.specs.BlockTables.{SlotBlocks}
 use Rattle.brick_store.specs.Blocks.{resolved, resolved_stripe, cached, log_of}
 use Rattle.brick_store.specs.Bricks.{IsOrdered}
 use Rattle.brick_store.specs.Images.{StandsFor}
@@ -80,7 +80,7 @@ kept_ordered size block limits st kept = record {
 }
 
 -- what an open store keeps stands on its disk
-pub standing_stands : {D : Type 0} (d : on_disk.Ghosts D) (blocks : BTreeMap ℕ (List ℕ)) (zero_block : List ℕ) (store : Held D) (index : Index)
+pub standing_stands : {D : Type 0} (d : on_disk.Ghosts D) (blocks : SlotBlocks) (zero_block : List ℕ) (store : Held D) (index : Index)
     → Standing d.tells d.seen d.may_leave store index blocks zero_block → d.tells → store.halted ≡ false
     → Stands d (StandsFor store.shape (resolved (cached store.shape.block blocks) (state_of index))) store.disk
 standing_stands d blocks zero_block store index standing told runs =

@@ -1,3 +1,4 @@
+pub mod BlockTables
 pub mod EmptyStores
 pub mod Resolving
 pub mod Reading

@@ -2,10 +2,8 @@
 use Rattle.std.proofs.Common.{◌≡◌, ◌⊎◌, inl, inr, ℕ, ◌-◌, ◌^◌, ◌<◌, ◌≤◌, Bool, true, false, cond, eqb, ltb, Option, Some, None, Result, Ok, Err, List, [], ◌∷◌, length, drop, refl, sym, ap, subst, ◌∙◌, arith, length-take, length-drop}
 use Rattle.std.specs.Prelude.{replicate}
 use Rattle.std.specs.List.{AllByRecursion}
-use Rattle.std.specs.Ordering.{nat_cmp}
 use Rattle.std.specs.Option.{IsSome, unwrap_or}
 use Rattle.std.specs.Result.{IfOk}
-use Rattle.std.specs.BTreeMap.{BTreeMap, get}
 use Rattle.std.proofs.lemmas.Bool.{or_cases, ltb-true, cases_lt}
 use Rattle.std.proofs.lemmas.List.{nil_from_length}
 use Rattle.frame_store.specs.declared.frames.Frame.{Frame}
@@ -24,6 +22,7 @@ use Rattle.brick_state.specs.Slots.{slots_in, slots_of}
 use Rattle.brick_state.specs.KeptStates.{IsKeptState}
 use Rattle.brick_state.proofs.Keeping.{empty_kept, folded_keeps}
 use Rattle.brick_state.proofs.UsedSlots.{kept_slots, each_slot}
+use Rattle.brick_store.specs.BlockTables.{SlotBlocks, block_under}
 use Rattle.brick_store.specs.declared.faults.OpenFault.{OpenFault}
 use Rattle.brick_store.specs.Blocks.{cached}
 use Rattle.brick_store.specs.Images.{records_of, limits_of}
@@ -92,28 +91,28 @@ none_outside seen held st shows kept found = by held.frames refl
 
 -- ---- what is held is cached
 
-module _ (tells : Type 0) (shape : Shape) (size : ℕ) (content : List ℕ) (blocks : BTreeMap ℕ (List ℕ))
+module _ (tells : Type 0) (shape : Shape) (size : ℕ) (content : List ℕ) (blocks : SlotBlocks)
     (read : AreRead tells shape size content blocks) where
   held_cached : (slot : ℕ) → IsHeld blocks slot → IsCached shape.block blocks slot
   held_cached slot (inl zero_block) = inl zero_block
-  held_cached slot (inr some) = by (get nat_cmp blocks slot) refl some
+  held_cached slot (inr some) = by (block_under blocks slot) refl some
     where
-      by : (found : Option (List ℕ)) → get nat_cmp blocks slot ≡ found → IsSome found → IsCached shape.block blocks slot
+      by : (found : Option (List ℕ)) → block_under blocks slot ≡ found → IsSome found → IsCached shape.block blocks slot
       by None at is = absurd cc
       by (Some bytes) at is = inr (bytes, at, (read slot bytes at).len)
 
   held_stored : tells → length content ≡ size → (slot : ℕ) → IsHeld blocks slot → IsStored shape blocks content slot
   held_stored told long slot (inl zero_block) = inl zero_block
-  held_stored told long slot (inr some) = by (get nat_cmp blocks slot) refl some (eqb slot 4294967295) refl
+  held_stored told long slot (inr some) = by (block_under blocks slot) refl some (eqb slot 4294967295) refl
     where
-      by : (found : Option (List ℕ)) → get nat_cmp blocks slot ≡ found → IsSome found → (zero_block : Bool) → eqb slot 4294967295 ≡ zero_block
+      by : (found : Option (List ℕ)) → block_under blocks slot ≡ found → IsSome found → (zero_block : Bool) → eqb slot 4294967295 ≡ zero_block
           → IsStored shape blocks content slot
       by None at is zero_block which = absurd cc
       by (Some bytes) at is true which = inl which
       by (Some bytes) at is false which =
           let here = read slot bytes at in
           let in_memory : cached shape.block blocks slot ≡ bytes = ap
-          (λ (b : Bool). cond b (replicate shape.block 0) (unwrap_or (get nat_cmp blocks slot) [])) which
+          (λ (b : Bool). cond b (replicate shape.block 0) (unwrap_or (block_under blocks slot) [])) which
           ∙ ap (λ (o : Option (List ℕ)). unwrap_or o []) at in
           inr (subst (λ (n : ℕ). HasSlot shape n slot) (sym long) here.has, sym (here.told told) ∙ sym in_memory)
 
@@ -134,36 +133,32 @@ module _ (tells : Type 0) (shape : Shape) (size : ℕ) (content : List ℕ) (blo
 
 module _ {D : Type 0} (tells : Type 0) (seen : D → List ℕ) (held : Held D) (st : StateOf Entry) (whole : Bool)
     (fold : IsFold (limits_of held.shape) held.frames st whole) where
-  kept_in_shape : IsKeptState (limits_of held.shape) st
+  pub kept_in_shape : IsKeptState (limits_of held.shape) st
   kept_in_shape = subst (λ (s : StateOf Entry). IsKeptState (limits_of held.shape) s) fold.found
       (folded_keeps (limits_of held.shape) (records_of held.frames) empty (empty_kept (limits_of held.shape)))
 
   -- what was read of a store that is not worn
-  loaded_from : (limits : Limits) (blocks : BTreeMap ℕ (List ℕ)) (slots : List ℕ) → limits ≡ limits_of held.shape → slots ≡ slots_of st
-      → AllByRecursion (IsHeld blocks) slots → AreRead tells held.shape held.size (seen held.disk) blocks
+  loaded_from : (limits : Limits) (blocks : SlotBlocks) → limits ≡ limits_of held.shape → AllByRecursion (IsHeld blocks) (slots_of st)
+      → AreRead tells held.shape held.size (seen held.disk) blocks
       → (tells → Shows seen held) → st.boot < 2 ^ 32 - 1
       → IsLoaded tells held.shape held.frames (seen held.disk) limits st whole blocks
-  loaded_from limits blocks slots limits_are slots_are all read shows boots =
-      let here : AllByRecursion (IsHeld blocks) (slots_of st) = subst (λ (xs : List ℕ). AllByRecursion (IsHeld blocks) xs) slots_are all in
-      record {
-        limits_are = limits_are;
-        fold = fold;
-        kept = kept_in_shape;
-        held = all_cached tells held.shape held.size (seen held.disk) blocks read st here;
-        stored = λ told. all_stored tells held.shape held.size (seen held.disk) blocks read told (shows told).size st here;
-        boots = boots;
-      }
+  loaded_from limits blocks limits_are all read shows boots = record {
+    limits_are = limits_are;
+    fold = fold;
+    kept = kept_in_shape;
+    held = all_cached tells held.shape held.size (seen held.disk) blocks read st all;
+    stored = λ told. all_stored tells held.shape held.size (seen held.disk) blocks read told (shows told).size st all;
+    boots = boots;
+  }
 
   -- the same of a reading of the blocks that may have failed
-  pub loaded_if : (limits : Limits) (slots : List ℕ) (r : Result (BTreeMap ℕ (List ℕ)) OpenFault) → limits ≡ limits_of held.shape → slots ≡ slots_of st
-      → IfOk r (λ blocks. AllByRecursion (IsHeld blocks) slots) → IfOk r (λ blocks. AreRead tells held.shape held.size (seen held.disk) blocks)
+  pub loaded_if : (limits : Limits) (r : Result SlotBlocks OpenFault) → limits ≡ limits_of held.shape
+      → IfOk r (λ blocks. AllByRecursion (IsHeld blocks) (slots_of st)) → IfOk r (λ blocks. AreRead tells held.shape held.size (seen held.disk) blocks)
       → (tells → Shows seen held) → st.boot < 2 ^ 32 - 1
       → IfOk r (λ blocks. IsLoaded tells held.shape held.frames (seen held.disk) limits st whole blocks)
-  loaded_if limits slots (Ok blocks) limits_are slots_are all read shows boots =
-      loaded_from limits blocks slots limits_are slots_are all read shows boots
-  loaded_if limits slots (Err fault) limits_are slots_are all read shows boots = tt
+  loaded_if limits (Ok blocks) limits_are all read shows boots = loaded_from limits blocks limits_are all read shows boots
+  loaded_if limits (Err fault) limits_are all read shows boots = tt
 
   -- no slot is past the end of the file
-  pub inside_from : (slots : List ℕ) → slots ≡ slots_of st → Shows seen held → AllByRecursion (IsInside held.shape held.size) slots
-  inside_from slots slots_are shows = subst (λ (xs : List ℕ). AllByRecursion (IsInside held.shape held.size) xs) (sym slots_are)
-      (none_outside seen held st shows kept_in_shape fold.found)
+  pub inside_from : Shows seen held → AllByRecursion (IsInside held.shape held.size) (slots_of st)
+  inside_from shows = none_outside seen held st shows kept_in_shape fold.found

@@ -2,7 +2,6 @@
 use Rattle.std.proofs.Common.{◌≡◌, inl, inr, ⊎_elim, ℕ, ◌+◌, ◌<◌, Bool, true, cond, eqb, None, List, length, refl, sym, ap, subst, ◌∙◌, arith}
 use Rattle.std.specs.Prelude.{replicate}
 use Rattle.std.specs.List.{AllByRecursion}
-use Rattle.std.specs.BTreeMap.{BTreeMap}
 use Rattle.fab_disk.specs.Disk.{IsUntouched, LeavesOnly}
 use Rattle.fab_disk.proofs.Moments.{widened}
 use Rattle.frame_store.specs.declared.frames.Frame.{Frame}
@@ -16,6 +15,7 @@ use Rattle.brick_state.specs.Slots.{slots_of}
 use Rattle.brick_state.specs.States.{StateOf, booted, empty}
 use Rattle.brick_state.proofs.Keeping.{empty_kept, folded_keeps}
 use Rattle.brick_state.proofs.UsedSlots.{each_slot}
+use Rattle.brick_store.specs.BlockTables.{SlotBlocks}
 use Rattle.brick_store.specs.Blocks.{cached, resolved}
 use Rattle.brick_store.specs.Images.{records_of, limits_of, block_at, state_in, IsFound, StandsFor, StandsForEither}
 use Rattle.brick_store.specs.Standing.{AllSlots, IsStored}
@@ -80,7 +80,7 @@ module _ {D : Type 0} (seen : D → List ℕ) (held : Held D) (shows : Shows see
       each_slot (IsInside held.shape (length (seen held.disk))) st.stripes long
 
   -- An opening finds it: what is in memory is that state, counted.
-  pub found_counted : (blocks : BTreeMap ℕ (List ℕ)) (size : ℕ) (now : StateOf Entry) → size ≡ held.shape.block
+  pub found_counted : (blocks : SlotBlocks) (size : ℕ) (now : StateOf Entry) → size ≡ held.shape.block
       → AllSlots (IsStored held.shape blocks (seen held.disk)) (found_in held.shape held.frames)
       → now ≡ booted ((found_in held.shape held.frames).boot + 1) (found_in held.shape held.frames) → resolved (cached size blocks) now ≡ booted
       (found.boot + 1) found
@@ -103,7 +103,7 @@ module _ {D : Type 0} (seen : D → List ℕ) (held : Held D) (shows : Shows see
   found_boot : found.boot ≡ (found_in held.shape held.frames).boot
   found_boot = boot-resolved (block_at held.shape (seen held.disk)) (found_in held.shape held.frames)
 
-  pub found_there : (content : List ℕ) → seen held.disk ≡ content → (blocks : BTreeMap ℕ (List ℕ)) (size : ℕ) (now : StateOf Entry)
+  pub found_there : (content : List ℕ) → seen held.disk ≡ content → (blocks : SlotBlocks) (size : ℕ) (now : StateOf Entry)
       → size ≡ held.shape.block
       → AllSlots (IsStored held.shape blocks (seen held.disk)) (found_in held.shape held.frames)
       → now ≡ booted ((found_in held.shape held.frames).boot + 1) (found_in held.shape held.frames)

@@ -1,7 +1,6 @@
 -- A change that puts no block of its own in a slot: what it makes of the index is what a clause sees of it.
 use Rattle.std.proofs.Common.{◌≡◌, ℕ, ◌<◌, ◌≤◌, length, Bool, true, false, Some, None, List, refl, sym, ap, subst, ◌∙◌}
 use Rattle.std.specs.List.{AllByRecursion}
-use Rattle.std.specs.BTreeMap.{BTreeMap}
 use Rattle.fab_base.specs.declared.stamps.Stamp.{Stamp}
 use Rattle.std.specs.List.{slice_index_or}
 use Rattle.fab_base.specs.declared.member_lists.View.{View}
@@ -22,6 +21,7 @@ use Rattle.brick_state.specs.Rewrites.{learnt_number}
 use Rattle.brick_state.specs.Entries.{Entry}
 use Rattle.brick_state.specs.States.{StripeOf, StateOf, stripe_at, viewed, balloted, ordered, collected, added, stamp_of, has_version, no_group}
 use Rattle.brick_state.specs.Folds.{Limits, applied, place, entry, is_full}
+use Rattle.brick_store.specs.BlockTables.{SlotBlocks}
 use Rattle.brick_store.specs.Blocks.{resolved, cached, log_of, HasStamp, adds_stamp, learnt_view}
 use Rattle.brick_store.specs.Bricks.{Brick}
 use Rattle.brick_store.specs.Images.{limits_of}
@@ -33,7 +33,7 @@ use Rattle.brick_store.proofs.Changing.{brick_of}
 use Rattle.brick_store.proofs.Resolving.{groups-resolved, stripe_at-resolved, ordered-resolved, viewed-resolved, balloted-resolved, collected-resolved}
 use Rattle.brick_store.proofs.Versions.{some_newest, above_of, same_block, same_applied, slots_same, with_version_seen, next_seen}
 
-module _ {D : Type 0} (blocks : BTreeMap ℕ (List ℕ)) (frames : Held D) where
+module _ {D : Type 0} (blocks : SlotBlocks) (frames : Held D) where
   -- the record makes this of the index, in slots that were named before, and in lists of members that have some
   pub record IsPlain (limits : Limits) (item : Record) (st next : StateOf Entry) : Type 1 where
     pub is : applied limits item st ≡ Some next

@@ -2,7 +2,6 @@
 use Rattle.std.proofs.Common.{◌≡◌, ◌⊎◌, inl, inr, ℕ, ◌+◌, Bool, None, List, refl, sym, ap, subst, ◌∙◌, IsSome}
 use Rattle.std.specs.Prelude.{replicate}
 use Rattle.std.specs.List.{AllByRecursion}
-use Rattle.std.specs.BTreeMap.{BTreeMap}
 use Rattle.fab_disk.specs.declared.disk.Disk as on_disk
 use Rattle.fab_disk.specs.Disk.{IsUntouched, LeavesOnly}
 use Rattle.fab_disk.proofs.Moments.{started, goes_on, widened, joined}
@@ -21,6 +20,7 @@ use Rattle.brick_state.specs.Indexes.{state_of}
 use Rattle.brick_state.specs.Indexes as indexes
 use Rattle.brick_state.specs.KeptStates.{IsKeptState}
 use Rattle.brick_state.proofs.Keeping.{boot_kept}
+use Rattle.brick_store.specs.BlockTables.{SlotBlocks}
 use Rattle.brick_store.specs.Images.{limits_of}
 use Rattle.brick_store.specs.Standing.{AllSlots, GroupHasMembers, IsCached, IsStored, Leads, Standing}
 use Rattle.brick_store.specs.Steps.{LeadsTo, IsUnchanged, IsChanged, IsSettled, changed}
@@ -107,7 +107,7 @@ module _ {D : Type 0} (seen : D → List ℕ) (may_leave : D → List ℕ → Ty
 
 module _ {D : Type 0} (d : on_disk.Ghosts D) where
   -- so stands a store that was read, and then counted
-  pub standing_from : (new : Held D) (index : Index) (blocks : BTreeMap ℕ (List ℕ)) (zero_block : List ℕ) (shape : Shape) (frames : List Frame)
+  pub standing_from : (new : Held D) (index : Index) (blocks : SlotBlocks) (zero_block : List ℕ) (shape : Shape) (frames : List Frame)
       (content : List ℕ) (limits : Limits) (st : StateOf Entry) (whole : Bool)
       → new.shape ≡ shape → IsShape shape → IsLoaded d.tells shape frames content limits st whole blocks → zero_block ≡ replicate shape.block 0
       → indexes.limits_of index ≡ limits → state_of index ≡ booted (st.boot + 1) st

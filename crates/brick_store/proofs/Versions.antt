@@ -3,7 +3,6 @@ use Rattle.std.proofs.Common.{◌≡◌, ℕ, ◌-◌, ◌<◌, ltb, eqb, ◌||�
 use Rattle.std.specs.Prelude.{replicate}
 use Rattle.std.specs.Option.{IsSome, ForSome, unwrap_or, option_map}
 use Rattle.std.specs.Bool.{IsTrue}
-use Rattle.std.specs.BTreeMap.{BTreeMap}
 use Rattle.std.specs.List.{AllByRecursion, slice_get}
 use Rattle.std.proofs.lemmas.Bool.{lt-ltb}
 use Rattle.std.proofs.lemmas.List.{length-map}
@@ -21,6 +20,7 @@ use Rattle.brick_state.specs.States.{Place, StripeOf, StateOf, stripe_at, with_a
 use Rattle.brick_state.specs.Folds.{Limits, applied, log_changed, same_added, place, placed, entry, is_full, is_above}
 use Rattle.brick_state.specs.Rewrites.{start_of}
 use Rattle.brick_state.proofs.SoundStripes.{newest_of, newest_entry_is}
+use Rattle.brick_store.specs.BlockTables.{SlotBlocks}
 use Rattle.brick_store.specs.Blocks.{resolved, resolved_stripe, log_of, log_at, cached, block_added, with_version, IsNext}
 use Rattle.brick_store.specs.Bricks.{Brick}
 use Rattle.frame_store.specs.Stores.{Held}
@@ -69,7 +69,7 @@ slots_same P p t u st is zero all =
 last_map : (f : Entry → Version) (xs : List Entry) → slice_get (map f xs) (length (map f xs) - 1) ≡ option_map f (slice_get xs (length xs - 1))
 last_map f xs = ap (λ (n : ℕ). slice_get (map f xs) (n - 1)) (length-map xs f) ∙ slice_get-map f xs (length xs - 1)
 
-pub newest_seen : (size : ℕ) (blocks : BTreeMap ℕ (List ℕ)) (s : StripeOf Entry)
+pub newest_seen : (size : ℕ) (blocks : SlotBlocks) (s : StripeOf Entry)
     → newest (log_of size (resolved_stripe (cached size blocks) s)) ≡ option_map (version_of (cached size blocks)) (newest_entry s)
 newest_seen size blocks s = by s.from_start
   where
@@ -82,7 +82,7 @@ newest_seen size blocks s = by s.from_start
     by false = last_map f s.added
 
 -- a stamp that may be the next one is above the newest entry's; without a block of its own there is one
-pub above_of : (size : ℕ) (blocks : BTreeMap ℕ (List ℕ)) (s : StripeOf Entry) (t : Stamp) (block : Option (List ℕ))
+pub above_of : (size : ℕ) (blocks : SlotBlocks) (s : StripeOf Entry) (t : Stamp) (block : Option (List ℕ))
     → IsNext t (log_of size (resolved_stripe (cached size blocks) s)) block → is_above (newest_entry s) t ≡ true
 above_of size blocks s t block next = by (newest_entry s) (subst (λ (o : Option Version). ForSome o (λ top. IsTrue (stamp_below top.stamp t)))
     (newest_seen size blocks s) next.above)
@@ -94,7 +94,7 @@ above_of size blocks s t block next = by (newest_entry s) (subst (λ (o : Option
 abbrev no_block : Option (List ℕ)
 no_block = None
 
-pub some_newest : (size : ℕ) (blocks : BTreeMap ℕ (List ℕ)) (s : StripeOf Entry) (t : Stamp)
+pub some_newest : (size : ℕ) (blocks : SlotBlocks) (s : StripeOf Entry) (t : Stamp)
     → IsNext t (log_of size (resolved_stripe (cached size blocks) s)) None → (u : Entry) × (newest_entry s ≡ Some u)
 some_newest size blocks s t next =
     let found = by s.from_start s.added next.content in
@@ -113,7 +113,7 @@ some_newest size blocks s t next =
     by false (e ∷ entries) content = newest_some e entries
 
 -- and the block that is added is the newest version's
-pub same_block : (size : ℕ) (blocks : BTreeMap ℕ (List ℕ)) (s : StripeOf Entry) (u : Entry) → newest_entry s ≡ Some u
+pub same_block : (size : ℕ) (blocks : SlotBlocks) (s : StripeOf Entry) (u : Entry) → newest_entry s ≡ Some u
     → cached size blocks u.block ≡ block_added None (log_of size (resolved_stripe (cached size blocks) s))
 same_block size blocks s u is = sym (ap (λ (o : Option Version). unwrap_or (option_map block_of o) [])
     (newest_seen size blocks s ∙ ap (option_map (version_of (cached size blocks))) is))
@@ -121,7 +121,7 @@ same_block size blocks s u is = sym (ap (λ (o : Option Version). unwrap_or (opt
 -- ---- what a clause sees
 
 -- a stamp that may be the next one in what a clause sees may be it in the index
-pub next_seen : {D : Type 0} (blocks : BTreeMap ℕ (List ℕ)) (frames : Held D) (st : StateOf Entry) (p : Place) (t : Stamp) (block : Option (List ℕ))
+pub next_seen : {D : Type 0} (blocks : SlotBlocks) (frames : Held D) (st : StateOf Entry) (p : Place) (t : Stamp) (block : Option (List ℕ))
     (b : Brick D) → brick_of blocks frames st ≡ b
     → IsNext t (log_at b.shape.block b.state p) block
     → IsNext t (log_of frames.shape.block (resolved_stripe (cached frames.shape.block blocks) (stripe_at st p))) block
@@ -130,7 +130,7 @@ next_seen {D} blocks frames st p t block b view next =
     (subst (λ (x : Brick D). IsNext t (log_at x.shape.block x.state p) block) (sym view) next)
 
 -- the state with the version, where the block that is added lies in the slot
-pub with_version_seen : {D : Type 0} (blocks : BTreeMap ℕ (List ℕ)) (frames : Held D) (st : StateOf Entry) (p : Place) (t : Stamp)
+pub with_version_seen : {D : Type 0} (blocks : SlotBlocks) (frames : Held D) (st : StateOf Entry) (p : Place) (t : Stamp)
     (block : Option (List ℕ)) (slot : ℕ) (b : Brick D) → brick_of blocks frames st ≡ b
     → cached frames.shape.block blocks slot ≡ block_added block
     (log_of frames.shape.block (resolved_stripe (cached frames.shape.block blocks) (stripe_at st p)))

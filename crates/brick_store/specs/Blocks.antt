@@ -2,8 +2,6 @@
 use Rattle.std.specs.Prelude.{◌≡◌, ℕ, ◌-◌, ◌≤◌, Bool, true, not, ◌&&◌, ◌==◌, if◌then◌else◌, IsTrue, IsSome, find, option_and_then, Option, Some, None, List, [], ◌∷◌, ◌++◌, map, replicate, unwrap_or, option_map}
 use Rattle.fab_base.specs.declared.stamps.Stamp.{Stamp}
 use Rattle.std.specs.Option.{ForSome}
-use Rattle.std.specs.Ordering.{nat_cmp}
-use Rattle.std.specs.BTreeMap.{BTreeMap, get}
 use Rattle.fab_base.specs.declared.stamps.Ballot.{Ballot}
 use Rattle.fab_base.specs.declared.identities.BrickId.{BrickId}
 use Rattle.fab_base.specs.declared.member_lists.View.{View}
@@ -13,6 +11,7 @@ use Rattle.brick_state.specs.Rewrites.{learnt_number}
 use Rattle.version_log.specs.Versions.{Version, version, newest, block_of, has_stamp}
 use Rattle.brick_state.specs.Entries.{Entry}
 use Rattle.brick_state.specs.States.{StripeOf, StateOf, Place, stripe_at, group_at, viewed, added}
+use Rattle.brick_store.specs.BlockTables.{SlotBlocks, block_under}
 
 -- a stripe and a state whose slots are seen as what lies in them
 abbrev pub resolved_stripe : (ℕ → List ℕ) → StripeOf Entry → StripeOf Version
@@ -42,8 +41,8 @@ abbrev pub version_stamp : Version → Stamp
 version_stamp v = v.stamp
 
 -- the blocks that are held in memory, by slot; that of the zero block is not
-abbrev pub cached : ℕ → BTreeMap ℕ (List ℕ) → ℕ → List ℕ
-cached size blocks slot = if slot == 4294967295 then replicate size 0 else unwrap_or (get nat_cmp blocks slot) []
+abbrev pub cached : ℕ → SlotBlocks → ℕ → List ℕ
+cached size blocks slot = if slot == 4294967295 then replicate size 0 else unwrap_or (block_under blocks slot) []
 
 -- the number of the greatest view learnt, 1 before a view was, and the successor that was accepted
 abbrev pub learnt_of : Group → ℕ

@@ -1,3 +1,4 @@
+pub mod BlockTables
 pub mod Blocks
 pub mod Images
 pub mod Bricks

@@ -1,7 +1,5 @@
 -- What an opening reads.
 use Rattle.std.specs.Prelude.{Result, Ok, Err, ◌≡◌, ◌⊎◌, ℕ, ◌+◌, ◌-◌, ◌<◌, ◌≤◌, ◌^◌, ◌==◌, Bool, ◌&&◌, true, false, Option, Some, None, IsSome, option_and_then, List, [], ◌∷◌, length, IsOk}
-use Rattle.std.specs.Ordering.{nat_cmp}
-use Rattle.std.specs.BTreeMap.{BTreeMap, get}
 use Rattle.fab_base.specs.declared.faults.IoFault.{IoFault}
 use Rattle.fab_base.specs.declared.faults.NoMem.{NoMem}
 use Rattle.fab_base.specs.declared.faults.IoFault.TheVariants.{Failed}
@@ -13,6 +11,7 @@ use Rattle.fab_disk.specs.Changing.{End, Whole, Cut, NotBegun}
 use Rattle.frame_store.specs.declared.shapes.Shape.{Shape}
 use Rattle.frame_store.specs.Listed.{size_of}
 use Rattle.version_log.specs.Versions.{Version}
+use Rattle.brick_store.specs.BlockTables.{SlotBlocks, block_under}
 use Rattle.brick_store.specs.declared.faults.OpenFault.{OpenFault}
 use Rattle.brick_store.specs.declared.faults.OpenFault.TheVariants.{Disk}
 use Rattle.brick_store.specs.Bricks.{Brick}
@@ -72,8 +71,8 @@ pub record IsFold (limits : Limits) (frames : List Frame) (st : StateOf Entry) (
   pub members : AllByRecursion GroupHasMembers st.groups
 
 -- the block in the slot is held in memory; that of the zero block need not be
-abbrev pub IsHeld : BTreeMap ℕ (List ℕ) → ℕ → Type 0
-IsHeld blocks slot = ((slot == 4294967295) ≡ true) ⊎ IsSome (get nat_cmp blocks slot)
+abbrev pub IsHeld : SlotBlocks → ℕ → Type 0
+IsHeld blocks slot = ((slot == 4294967295) ≡ true) ⊎ IsSome (block_under blocks slot)
 
 -- a block that was read from a slot of a file of this size, and of this content where that is told
 pub record IsReadFrom (tells : Type 0) (shape : Shape) (size : ℕ) (content : List ℕ) (slot : ℕ) (bytes : List ℕ) : Type 0 where
@@ -81,8 +80,8 @@ pub record IsReadFrom (tells : Type 0) (shape : Shape) (size : ℕ) (content : L
   pub len : length bytes ≡ shape.block
   pub told : tells → bytes ≡ block_in shape slot content
 
-abbrev pub AreRead : Type 0 → Shape → ℕ → List ℕ → BTreeMap ℕ (List ℕ) → Type 0
-AreRead tells shape size content blocks = (slot : ℕ) (bytes : List ℕ) → get nat_cmp blocks slot ≡ Some bytes
+abbrev pub AreRead : Type 0 → Shape → ℕ → List ℕ → SlotBlocks → Type 0
+AreRead tells shape size content blocks = (slot : ℕ) (bytes : List ℕ) → block_under blocks slot ≡ Some bytes
     → IsReadFrom tells shape size content slot bytes
 
 -- the slot is that of the zero block, or one of the file's
@@ -117,7 +116,7 @@ pub record StopsReadying {D : Type 0} (seen certain : D → List ℕ) (moment : 
 
 -- What an opening read: the index is what is made of the frames, and the blocks of its versions are in memory.
 pub record IsLoaded (tells : Type 0) (shape : Shape) (frames : List Frame) (content : List ℕ) (limits : Limits) (st : StateOf Entry) (whole : Bool)
-    (blocks : BTreeMap ℕ (List ℕ)) : Type 0 where
+    (blocks : SlotBlocks) : Type 0 where
   pub limits_are : limits ≡ limits_of shape
   pub fold : IsFold (limits_of shape) frames st whole
   pub kept : IsKeptState (limits_of shape) st

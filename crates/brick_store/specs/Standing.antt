@@ -1,8 +1,6 @@
 -- What holds of an open store between two calls.
 use Rattle.std.specs.Prelude.{◌≡◌, ◌⊎◌, ℕ, ◌≤◌, ◌==◌, Bool, true, false, Option, Some, None, List, [], ◌∷◌, length, replicate}
-use Rattle.std.specs.Ordering.{nat_cmp}
 use Rattle.std.specs.List.{AllByRecursion}
-use Rattle.std.specs.BTreeMap.{BTreeMap, get}
 use Rattle.fab_base.specs.declared.identities.BrickId.{BrickId}
 use Rattle.fab_disk.specs.Disk.{Only}
 use Rattle.fab_base.specs.declared.member_lists.View.{View}
@@ -22,6 +20,7 @@ use Rattle.brick_state.specs.Folds.{Limits, applied}
 use Rattle.brick_state.specs.Indexes.{state_of}
 use Rattle.brick_state.specs.Indexes as indexes
 use Rattle.brick_state.specs.KeptStates.{IsKeptState}
+use Rattle.brick_store.specs.BlockTables.{SlotBlocks, block_under}
 use Rattle.brick_store.specs.Blocks.{cached}
 use Rattle.brick_store.specs.Images.{record_of, limits_of}
 
@@ -36,11 +35,11 @@ abbrev pub AllSlots : (ℕ → Type 0) → StateOf Entry → Type 0
 AllSlots P st = AllByRecursion (λ e. AllByRecursion (λ v. P v.block) e.1.added) st.stripes
 
 -- the block in a slot is held in memory; that of the zero block always is
-abbrev pub IsCached : ℕ → BTreeMap ℕ (List ℕ) → ℕ → Type 0
-IsCached size blocks slot = ((slot == 4294967295) ≡ true) ⊎ ((bytes : List ℕ) × (get nat_cmp blocks slot ≡ Some bytes) × (length bytes ≡ size))
+abbrev pub IsCached : ℕ → SlotBlocks → ℕ → Type 0
+IsCached size blocks slot = ((slot == 4294967295) ≡ true) ⊎ ((bytes : List ℕ) × (block_under blocks slot ≡ Some bytes) × (length bytes ≡ size))
 
 -- the block that is held in memory lies in the slot
-abbrev pub IsStored : Shape → BTreeMap ℕ (List ℕ) → List ℕ → ℕ → Type 0
+abbrev pub IsStored : Shape → SlotBlocks → List ℕ → ℕ → Type 0
 IsStored shape blocks content slot =
     ((slot == 4294967295) ≡ true) ⊎ (HasSlot shape (length content) slot × (block_in shape slot content ≡ cached shape.block blocks slot))
 
@@ -65,7 +64,7 @@ pub record IsIndexed (shape : Shape) (frames : List Frame) (limits : Limits) (st
 
 -- While the store is not halted, a crash leaves what a read gives, which opens as the frames, and the blocks that are held in
 -- memory lie in their slots.
-pub record IsOnDisk {D : Type 0} (tells : Type 0) (seen : D → List ℕ) (may_leave : D → List ℕ → Type 0) (blocks : BTreeMap ℕ (List ℕ))
+pub record IsOnDisk {D : Type 0} (tells : Type 0) (seen : D → List ℕ) (may_leave : D → List ℕ → Type 0) (blocks : SlotBlocks)
     (frames : Held D) (st : StateOf Entry) : Type 0 where
   pub only : Only (seen frames.disk) (may_leave frames.disk)
   pub shows : Shows seen frames
@@ -74,7 +73,7 @@ pub record IsOnDisk {D : Type 0} (tells : Type 0) (seen : D → List ℕ) (may_l
 
 -- A store between two calls: its frames, its index, and in memory the blocks of at least all versions.
 pub record Standing {D : Type 0} (tells : Type 0) (seen : D → List ℕ) (may_leave : D → List ℕ → Type 0) (frames : Held D) (index : Index)
-    (blocks : BTreeMap ℕ (List ℕ)) (zero_block : List ℕ) : Type 0 where
+    (blocks : SlotBlocks) (zero_block : List ℕ) : Type 0 where
   pub limits : IsShape frames.shape
   pub indexed : IsIndexed frames.shape frames.frames (indexes.limits_of index) (state_of index)
   pub cached_all : AllSlots (IsCached frames.shape.block blocks) (state_of index)

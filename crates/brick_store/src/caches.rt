@@ -1,21 +1,23 @@
 //! Reading the blocks of versions into memory.
 
-ghost use Rattle.std.specs.Prelude.{◌≡◌, ◌≢◌, ◌==◌, ℕ, true, false, Err, IfOk, OnOk, IsOk, length};
-ghost use Rattle.std.specs.List.{AllByRecursion};
+ghost use Rattle.std.specs.Prelude.{◌≡◌, ◌≢◌, ◌<◌, ℕ, false, Err, IfOk, OnOk, IsOk, length};
+ghost use Rattle.std.specs.List.{AllByRecursion, Contains};
 ghost use Rattle.fab_disk.specs.Disk.{IsUntouched, Kept};
 ghost use Rattle.fab_disk.specs.Plan.{KeepsPlan};
 ghost use Rattle.frame_store.specs.Images.{HasSlot, block_in};
 ghost use Rattle.frame_store.specs.Stores.{IsRead, IsSame};
-ghost use Rattle.brick_store.specs.Standing.{IsCached, IsStored};
+ghost use Rattle.brick_state.specs.Indexes.{state_of, limits_of};
+ghost use Rattle.brick_state.specs.KeptStates.{IsKeptState};
+ghost use Rattle.brick_state.specs.Slots.{slots_of};
 ghost use Rattle.brick_store.specs.Openings.{IsHeld, AreRead, IsInside};
 
+use crate::block_tables::BlockTable;
 use crate::faults::OpenFault;
-use brick_state::ZERO_SLOT;
+use brick_state::Index;
 use fab_base::Bytes;
 use fab_disk::Disk;
 use frame_store::FrameStore;
 use std::alloc::Global;
-use std::collections::BTreeMap;
 
 // Reads the block in a slot. NotAStore where the file has no such slot.
 fn read_block<D: Disk>(
@@ -47,17 +49,19 @@ fn read_block<D: Disk>(
     Ok(Bytes::from_vec(bytes))
 }
 
-// Reads the block in a slot into memory, where it is not there yet.
+// Reads the block in a slot into memory, where a version names it.
 fn hold_block<D: Disk>(
     alloc: Global,
     frames: &mut FrameStore<D>,
-    blocks: &mut BTreeMap<u32, Bytes>,
+    index: &Index,
+    blocks: &mut BlockTable,
     block: u16,
     slot: u32,
 ) -> Result<(), OpenFault>
     requires block { block ≡ frames.old.shape.block }
     requires runs { frames.old.halted ≡ false }
-    ensures held { OnOk result (IsHeld blocks.new slot) }
+    requires slot { (slot < (limits_of index.now).slots) × (slot < 4294967295) }
+    ensures held { OnOk result (Contains (slots_of (state_of index.now)) slot → IsHeld blocks.new slot) }
     ensures others { OnOk result ((other : ℕ) → IsHeld blocks.old other → IsHeld blocks.new other) }
     ensures read { OnOk result (AreRead D.tells frames.old.shape frames.old.size (D.seen frames.old.disk) blocks.old
         → AreRead D.tells frames.old.shape frames.old.size (D.seen frames.old.disk) blocks.new) }
@@ -65,44 +69,45 @@ fn hold_block<D: Disk>(
     ensures untouched { IsUntouched D.seen D.may_leave D.moment D.left_since frames.old.disk frames.new.disk }
     ensures certain { D.certain frames.new.disk ≡ D.certain frames.old.disk }
     ensures still_runs { IsOk result → frames.new.halted ≡ false }
-    ensures no_slot { result ≡ Err OpenFault.NotAStore → IsInside frames.old.shape frames.old.size slot → ⊥ }
+    ensures no_slot { result ≡ Err OpenFault.NotAStore → AllByRecursion (IsInside frames.old.shape frames.old.size) (slots_of (state_of index.now)) → ⊥ }
     ensures not_worn { result ≢ Err OpenFault.Worn }
     ensures plan { KeepsPlan D.plan D.unlisted frames.old.disk frames.new.disk (result ≡ Err OpenFault.Disk) }
     ensures cause { Kept (D.faults frames.old.disk) (D.faults frames.new.disk) (D.sound frames.old.disk) (D.sound frames.new.disk)
         (result ≡ Err OpenFault.Disk) }
 {
-    if slot == ZERO_SLOT || blocks.contains_key(&slot) {
+    if !index.is_named(slot) {
         return Ok(());
     }
     let bytes = read_block(alloc, frames, block, slot)?;
-    blocks.insert(slot, bytes)?;
+    blocks.hold(slot, bytes)?;
     Ok(())
 }
 
-// Reads the blocks in these slots into memory.
+/// Reads the blocks that versions name into memory, in the order of their slots.
 pub(crate) fn read_blocks<D: Disk>(
     alloc: Global,
     frames: &mut FrameStore<D>,
-    slots: &[u32],
+    index: &Index,
     block: u16,
-) -> Result<BTreeMap<u32, Bytes>, OpenFault>
+) -> Result<BlockTable, OpenFault>
     requires block { block ≡ frames.old.shape.block }
     requires runs { frames.old.halted ≡ false }
-    ensures held { IfOk result (λ blocks. AllByRecursion (IsHeld blocks) slots.now) }
+    requires kept { IsKeptState (limits_of index.now) (state_of index.now) }
+    ensures held { IfOk result (λ blocks. AllByRecursion (IsHeld blocks) (slots_of (state_of index.now))) }
     ensures read { IfOk result (λ blocks. AreRead D.tells frames.old.shape frames.old.size (D.seen frames.old.disk) blocks) }
     ensures same { IsSame frames.old frames.new }
     ensures untouched { IsUntouched D.seen D.may_leave D.moment D.left_since frames.old.disk frames.new.disk }
     ensures certain { D.certain frames.new.disk ≡ D.certain frames.old.disk }
     ensures still_runs { IsOk result → frames.new.halted ≡ false }
-    ensures no_slot { result ≡ Err OpenFault.NotAStore → AllByRecursion (IsInside frames.old.shape frames.old.size) slots.now → ⊥ }
+    ensures no_slot { result ≡ Err OpenFault.NotAStore → AllByRecursion (IsInside frames.old.shape frames.old.size) (slots_of (state_of index.now)) → ⊥ }
     ensures not_worn { result ≢ Err OpenFault.Worn }
     ensures plan { KeepsPlan D.plan D.unlisted frames.old.disk frames.new.disk (result ≡ Err OpenFault.Disk) }
     ensures cause { Kept (D.faults frames.old.disk) (D.faults frames.new.disk) (D.sound frames.old.disk) (D.sound frames.new.disk)
         (result ≡ Err OpenFault.Disk) }
 {
-    let mut blocks = BTreeMap::new(alloc);
-    for slot in slots {
-        hold_block(alloc, frames, &mut blocks, block, *slot)?;
+    let mut blocks = BlockTable::with_room(alloc, index.live() as usize)?;
+    for slot in 0..index.named_end() {
+        hold_block(alloc, frames, index, &mut blocks, block, slot)?;
     }
     Ok(blocks)
 }

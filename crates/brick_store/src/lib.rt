@@ -6,6 +6,7 @@
 
 mod additions;
 mod appends;
+mod block_tables;
 mod caches;
 mod commits;
 pub mod faults;

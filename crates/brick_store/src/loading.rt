@@ -10,6 +10,7 @@ ghost use Rattle.brick_state.specs.Indexes as indexes;
 ghost use Rattle.brick_store.specs.Images.{limits_of};
 ghost use Rattle.brick_store.specs.Openings.{IsFold, IsLoaded};
 
+use crate::block_tables::BlockTable;
 use crate::caches::read_blocks;
 use crate::faults::OpenFault;
 use crate::readings::Folded;
@@ -17,7 +18,6 @@ use fab_base::Bytes;
 use fab_disk::Disk;
 use frame_store::FrameStore;
 use std::alloc::Global;
-use std::collections::BTreeMap;
 
 /// Reads the blocks of what a store's list made. NotAStore only where the file changed since its frames were read.
 pub(crate) fn load<D: Disk>(
@@ -25,7 +25,7 @@ pub(crate) fn load<D: Disk>(
     frames: &mut FrameStore<D>,
     folded: &Folded,
     block: u16,
-) -> Result<BTreeMap<u32, Bytes>, OpenFault>
+) -> Result<BlockTable, OpenFault>
     requires shape { IsShape frames.old.shape }
     requires block { block ≡ frames.old.shape.block }
     requires limits { indexes.limits_of folded.now.index ≡ limits_of frames.old.shape }
@@ -47,6 +47,5 @@ pub(crate) fn load<D: Disk>(
     if folded.index.boot() == 4294967295 {
         return Err(OpenFault::Worn);
     }
-    let slots = folded.index.slots()?;
-    read_blocks(alloc, frames, &slots, block)
+    read_blocks(alloc, frames, &folded.index, block)
 }

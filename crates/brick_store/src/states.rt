@@ -7,11 +7,11 @@ ghost use Rattle.brick_state.specs.Folds.{place};
 ghost use Rattle.brick_store.specs.Blocks.{log_at};
 ghost use Rattle.brick_store.specs.Logs.{added_in, held, start_held, IsHeld};
 
+use crate::block_tables::BlockTable;
 use crate::stores::BrickStore;
 use brick_state::{Entry, ZERO_SLOT};
 use fab_base::{Bytes, GroupId, Stamp, StripeNo, ViewNo};
 use fab_disk::Disk;
-use std::collections::BTreeMap;
 use std::marker::Model;
 use version_log::{Version, VersionLog};
 
@@ -23,7 +23,7 @@ pub struct State<'a> {
     order: Stamp,
     from_start: bool,
     added: Option<&'a VersionLog<u32>>,
-    blocks: &'a BTreeMap<u32, Bytes>,
+    blocks: &'a BlockTable,
     zero: &'a Bytes,
 }
 
@@ -115,14 +115,14 @@ impl<D: Disk> BrickStore<D> {
 }
 
 // The block in a slot.
-fn block_in<'a>(zero: &'a Bytes, blocks: &'a BTreeMap<u32, Bytes>, slot: u32) -> &'a Bytes
+fn block_in<'a>(zero: &'a Bytes, blocks: &'a BlockTable, slot: u32) -> &'a Bytes
     requires { IsHeld blocks.now slot }
     ensures { result.now ≡ held zero.now blocks.now slot }
 {
     if slot == ZERO_SLOT {
         return zero;
     }
-    match blocks.get(&slot) {
+    match blocks.get(slot) {
         Some(block) => block,
         None => unreachable!(),
     }

@@ -13,6 +13,7 @@ ghost use Rattle.brick_store.specs.Changes.{Answers};
 ghost use Rattle.brick_store.specs.Ends.{end_of, BrickChange};
 
 use crate::additions::{forget_refused, held_under, hold_new};
+use crate::block_tables::BlockTable;
 use crate::commits::{commit, ready};
 use crate::faults::StoreFault;
 use crate::index_steps::{accepted_of, adds_stamp, learnt_view};
@@ -22,7 +23,6 @@ use fab_disk::Disk;
 use frame_store::FrameStore;
 use stamp_store::{Kept, LogChange, Logged};
 use std::alloc::Global;
-use std::collections::BTreeMap;
 use std::marker::Model;
 
 /// An open store over a disk.
@@ -39,7 +39,7 @@ pub struct BrickStore<D: Disk> {
     pub(crate) alloc: Global,
     pub(crate) frames: FrameStore<D>,
     pub(crate) index: Index,
-    pub(crate) blocks: BTreeMap<u32, Bytes>,
+    pub(crate) blocks: BlockTable,
     pub(crate) zero: Bytes,
 }
 

@@ -15,6 +15,7 @@ ghost use Rattle.brick_store.specs.Sizes.{boot_size};
 ghost use Rattle.brick_store.specs.Standing.{AllSlots, IsStored, Standing};
 ghost use Rattle.brick_store.specs.Openings.{IsFold, is_whole, found_in, Starts, opening_end};
 
+use crate::block_tables::BlockTable;
 use crate::faults::{OpenFault, StoreFault};
 use crate::loading::load;
 use crate::readings::Folded;
@@ -24,13 +25,12 @@ use fab_base::Bytes;
 use fab_disk::Disk;
 use frame_store::FrameStore;
 use std::alloc::Global;
-use std::collections::BTreeMap;
 
 // What an open store keeps in memory.
 #[derive(Drop)]
 pub(crate) struct TakenUp {
     pub(crate) index: Index,
-    pub(crate) blocks: BTreeMap<u32, Bytes>,
+    pub(crate) blocks: BlockTable,
     pub(crate) zero: Bytes,
 }
 

@@ -2,7 +2,7 @@
 use Rattle.std.proofs.Common.{Bool, List, None, Option, Some, [], ap, cond, inl, inr, map, refl, subst, sym, ℕ, ⊎_elim, ◌++◌, ◌∙◌, ◌∷◌, ◌≡◌, ◌≢◌, ◌⊎◌}
 use Rattle.std.proofs.lemmas.Bool.{cases_eq, eq-eqb, ne_eqb}
 use Rattle.std.proofs.lemmas.List.{append-nil, append_assoc}
-use Rattle.calm_laws.proofs.Scenes.{asked_of, Asks, Closes, Each, Fits, IsSeated, Part, Scene, Seated, Stage, asked, asking, part_after, reaction, replies_from, replying, with_queue}
+use Rattle.calm_laws.proofs.Scenes.{asked_of, Asks, Closes, Each, Fits, IsSeated, Part, Scene, Seated, Stage, asked, asking, part_after, reaction, replies_from, replying, with_queue, IsInView}
 use Rattle.fab_base.specs.declared.identities.BrickId.{BrickId}
 use Rattle.messages.specs.declared.calls.Call.{Call}
 use Rattle.messages.specs.declared.packets.Packet.{Packet}
@@ -27,14 +27,14 @@ told_all stage c (x ∷ xs) parts =
 
 -- all requests are delivered, one after another, and the replies follow what was waiting
 pub asks_pass : (stage : Stage) (xs : List Seated) (s : Scene) (rest : List Packet) → s.queue ≡ map (asking stage s.c) xs ++ rest
-    → Each (IsSeated stage) xs → ((x : Seated) → IsSeated stage x → Fits stage s.c x)
+    → Each (IsSeated stage) xs → ((x : Seated) → IsSeated stage x → Fits stage s.c x) → IsInView stage s.c
     → Closes stage (record s { parts = reacted_all stage s.c xs s.parts; queue = rest ++ told_all stage s.c xs s.parts }) → Closes stage s
-asks_pass stage [] s rest is seated fits closes =
+asks_pass stage [] s rest is seated fits in_view closes =
     with_queue stage s rest is (subst (λ (q : List Packet). Closes stage (record s { queue = q })) (append-nil rest) closes)
-asks_pass stage (x ∷ xs) s rest is seated fits closes =
-    Asks s x (map (asking stage s.c) xs ++ rest) is seated.0 (fits x seated.0)
+asks_pass stage (x ∷ xs) s rest is seated fits in_view closes =
+    Asks s x (map (asking stage s.c) xs ++ rest) is seated.0 (fits x seated.0) in_view
     (asks_pass stage xs (asked stage s x (map (asking stage s.c) xs ++ rest)) (rest ++ replies_from stage s.c (s.parts x.brick.0) x)
-    (append_assoc (map (asking stage s.c) xs) rest (replies_from stage s.c (s.parts x.brick.0) x)) seated.1 fits
+    (append_assoc (map (asking stage s.c) xs) rest (replies_from stage s.c (s.parts x.brick.0) x)) seated.1 fits in_view
     (subst (λ (q : List Packet). Closes stage (record s { parts = reacted_all stage s.c (x ∷ xs) s.parts; queue = q }))
     (sym (append_assoc rest (replies_from stage s.c (s.parts x.brick.0) x)
     (told_all stage s.c xs (put s.parts x.brick.0 (part_after stage s.c (s.parts x.brick.0) x))))) closes))

@@ -6,7 +6,7 @@ use Rattle.std.specs.Prelude.{nat_eq, slice_get, ◌-◌, ◌^◌}
 use Rattle.calm_laws.proofs.Asking.{Holds, each_then}
 use Rattle.calm_laws.proofs.Counts.{Carries, counted_of}
 use Rattle.calm_laws.proofs.Decided.{order_at_decides}
-use Rattle.calm_laws.proofs.Descending.{Lore, after_replies, having, told_fits}
+use Rattle.calm_laws.proofs.Descending.{Lore, after_replies, having, told_fits, IsAbove}
 use Rattle.calm_laws.proofs.Finds.{finding, total_below}
 use Rattle.protocol_laws.proofs.Logs.{LogAscends}
 use Rattle.calm_laws.proofs.OrderPhases.{lower_closes}
@@ -14,7 +14,7 @@ use Rattle.calm_laws.proofs.OrderRuns.{IsOrdering, IsUnheld, held_below}
 use Rattle.calm_laws.proofs.Ordering.{TameWith, looking, orders_at_ask, read_fits, told_below, told_facts}
 use Rattle.calm_laws.proofs.PhaseRuns.{Cast, next_open}
 use Rattle.calm_laws.proofs.Rounds.{reads_whole}
-use Rattle.calm_laws.proofs.Scenes.{Each, Part, Scene, Seated, Stage, made}
+use Rattle.calm_laws.proofs.Scenes.{Each, Part, Scene, Seated, Stage, made, IsInView}
 use Rattle.calm_laws.proofs.StorePhases.{AreOn, modify_phase}
 use Rattle.fab_base.proofs.StampOrder.{stamp_same_refl, stamp_same_true}
 use Rattle.fab_base.specs.Stamps.{first_stamp, stamp_below, stamp_same}
@@ -31,7 +31,7 @@ use Rattle.protocol.specs.declared.phases.Phase.{Phase}
 use Rattle.protocol.specs.declared.phases.Phase.TheVariants.{OrdersAt}
 
 -- a log of which all is below a bound
-below_whole : (bound : Stamp) (log : List Version) → ((d : Stamp) → is_held d log ≡ true → stamp_below d bound ≡ true) → below bound log ≡ log
+pub below_whole : (bound : Stamp) (log : List Version) → ((d : Stamp) → is_held d log ≡ true → stamp_below d bound ≡ true) → below bound log ≡ log
 below_whole bound [] all = refl
 below_whole bound (x ∷ log) all =
     ap (λ (b : Bool). cond b (x ∷ below bound log) (below bound log))
@@ -139,40 +139,43 @@ module _ (stage : Stage) (cast : Cast stage) (logs : ℕ → List Version) (lore
     answers = each_then (λ (x : Seated). may_be_found (cond (nat_eq j x.seat) stage.setting.layout.block 0) s.c.stamp (look x) ≡ true)
         (λ (x : Seated). answers_phase stage.setting.layout.block s.c.stamp x.seat s.c.phase (finding look x) ≡ true) cast.xs
         (λ x fits. ap (λ (p : Phase). answers_phase stage.setting.layout.block s.c.stamp x.seat p (finding look x)) phase ∙ fits)
-        (told_fits stage cast logs lore s.c.stamp (Want.Seat j));
+        (told_fits stage.setting.layout.block logs cast.xs s.c.stamp (Want.Seat j) lore.blocks);
     answers_later = λ x t. ap (λ (p : Phase). answers_phase stage.setting.layout.block s.c.stamp x.seat p (Later t)) phase;
     unfull = λ x log. refl;
     unmoved = λ x log. refl;
+    undropped = λ x log. refl;
     unrefused = λ x log. refl;
     decides_so = λ fresh counted roomy.
         order_at_decides stage.setting.layout.block stage.setting.code fresh (having s.c counted) roomy j phase;
   }
 
-  pub block_accepted : s.c.group ≡ stage.group → stamp_same s.c.stamp first_stamp ≡ false
-      → s.c.call.phase + total_below logs s.c.stamp cast.xs + 3 ≤ 2 ^ 32 - 1 → stamp_below lore.floor s.c.stamp ≡ true
+  pub block_accepted : IsInView stage s.c → stamp_same s.c.stamp first_stamp ≡ false
+      → s.c.call.phase + total_below logs s.c.stamp cast.xs + lore.phases + 4 ≤ 2 ^ 32 - 1 → IsAbove stage cast logs lore.phases lore.ground s.c.stamp
       → IsUnheld logs s.c.stamp cast.xs → j < stage.group.m → length (block_written s.c.ask.op) ≡ stage.setting.layout.block
       → ((old new : List ℕ) → length old ≡ stage.setting.layout.block → length new ≡ stage.setting.layout.block
       → length (stage.setting.code.delta old new) ≡ stage.setting.layout.block)
       → (others : List Seated) (before parts : ℕ → Part) (known : ℕ) → Holds (TameWith stage s.c.stamp logs) parts cast.xs
       → Carries stage (after_replies stage s known parts others before) (block_goes looked)
-  block_accepted group later early above unheld below_m written deltas others before parts known tame =
+  block_accepted in_view later early above unheld below_m written deltas others before parts known tame =
       go (common_version_at j looked) refl
     where
       go : (z : Option Stamp) → common_version_at j looked ≡ z
           → Carries stage (after_replies stage s known parts others before) (modified_if stage.setting.code (having s.c looked) j z)
       go None is = (
-        record { group = refl; boot = refl; seq = refl; of_group = refl; view = refl; stripe = refl },
-        lower_closes stage cast logs lore s group later early others before parts known looked s.c.stamp tame above (omega arith),
+        record { group = refl; prior = refl; boot = refl; seq = refl; of_group = refl; view = refl; stripe = refl },
+        lower_closes stage cast logs lore s in_view later early others before parts known looked s.c.stamp tame above (omega arith),
       )
       go (Some v) is =
           let common = common_parts j looked v is in
           let found = each_finds look v cast.xs (common_found looked v common.1) in (
-            record { group = refl; boot = refl; seq = refl; of_group = refl; view = refl; stripe = refl },
+            record { group = refl; prior = refl; boot = refl; seq = refl; of_group = refl; view = refl; stripe = refl },
             modify_phase stage cast (made stage (after_replies stage s known parts others before) (modifying stage.setting.code (having s.c looked) v j)) v j
                 (next_open stage cast s.c (modifying stage.setting.code (having s.c looked) v j) others before
-                (made stage (after_replies stage s known parts others before) (modifying stage.setting.code (having s.c looked) v j)) group
+                (made stage (after_replies stage s known parts others before) (modifying stage.setting.code (having s.c looked) v j)) in_view
                 (record {
-                  same = record { group = refl; boot = refl; seq = refl; of_group = refl; view = refl; stripe = refl };
+                  same = record { group = refl; prior = refl; boot = refl; seq = refl; of_group = refl; view = refl; stripe = refl };
+                  ahead = refl;
+                  own = refl;
                   later = refl;
                   counted = refl;
                 })

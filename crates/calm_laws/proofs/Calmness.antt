@@ -1,50 +1,55 @@
 -- A calm operation, of whose world this is known, is answered alone.
+use Rattle.protocol_laws.proofs.Tops.{before_floor}
+use Rattle.std.specs.List.{list_any}
+use Rattle.std.proofs.lemmas.Option.{same_Some}
+use Rattle.protocol.specs.Views.{kept_by, first_kept, floor_of, view_of}
+use Rattle.calm_laws.proofs.Backward.{BackCast, OldLore, may_look_back}
+use Rattle.fab_base.specs.declared.identities.ViewNo.{ViewNo}
+use Rattle.protocol.specs.declared.phases.Phase.{Phase}
 use Rattle.calm_laws.proofs.Plays.{Finishes}
-use Rattle.std.proofs.Common.{List, None, Option, Some, [], ap, ap₂, arith, drop, false, inl, le_of_lt, le_trans, length, map, refl, subst, suc, sym, take, true, zero-add, ℕ, ⊎_elim, ◌++◌, ◌+◌, ◌<◌, ◌∙◌, ◌∷◌, ◌≡◌, ◌≤◌, is_some, take_all}
-use Rattle.std.proofs.lemmas.Bool.{and_from, and_parts, cond_both, eqb-true, false≢true, ltb-true}
+use Rattle.std.proofs.Common.{cond, List, None, Option, Some, [], ap, ap₂, arith, drop, false, inl, le_of_lt, le_trans, length, map, refl, subst, suc, sym, take, true, zero-add, ℕ, ⊎_elim, ◌++◌, ◌+◌, ◌<◌, ◌∙◌, ◌∷◌, ◌≡◌, ◌≤◌, is_some, take_all, zero, inr, Bool}
+use Rattle.std.proofs.lemmas.Bool.{and_from, and_parts, cond_both, eqb-true, false≢true, ltb-true, ne_eqb, or_parts, not-true}
 use Rattle.std.proofs.lemmas.Bool.Decides.{nat_tests}
 use Rattle.std.proofs.lemmas.List.{append_assoc, length-take-le, take-append-drop}
-use Rattle.std.specs.Prelude.{filter, nat_eq, nat_lt, slice_get, ◌*◌}
+use Rattle.std.specs.Prelude.{filter, nat_eq, nat_lt, slice_get, ◌*◌, ◌-◌, not}
 use Rattle.calm_laws.proofs.Asking.{each_append, each_then}
 use Rattle.calm_laws.proofs.Beginnings.{OpenFacts, each_repeated, map_append, one_stands, open_facts, repeated_sends, waiting_untouched}
 use Rattle.calm_laws.proofs.Casting.{apart_chosen, apart_take, chosen, chosen_many, each_chosen, each_drop, each_take, sends_chosen, chosen_few, has_chosen}
-use Rattle.calm_laws.proofs.Descending.{Lore}
+use Rattle.calm_laws.proofs.Descending.{Lore, IsFloor, Ground, MayLookBack}
 use Rattle.calm_laws.proofs.Finds.{total_below}
 use Rattle.calm_laws.proofs.Finishing.{plays, runs_once}
 use Rattle.calm_laws.proofs.FirstRounds.{IsFirst, IsLow}
 use Rattle.calm_laws.proofs.Floors.{greatest_low, low_most, low_one, quorum_passes}
-use Rattle.calm_laws.proofs.Known.{Known, repeated}
-use Rattle.protocol_laws.proofs.Logs.{LogAscends, newest_stands}
+use Rattle.calm_laws.proofs.Known.{Known, repeated, StandsIn, KnownLogs, KnownFloor, KnownBack}
+use Rattle.protocol_laws.proofs.Logs.{LogAscends, newest_stands, held_stands}
 use Rattle.calm_laws.proofs.Looking.{look_first, looks_at_looking, looks_looking}
 use Rattle.calm_laws.proofs.OrderRuns.{IsUnheld}
 use Rattle.calm_laws.proofs.PhaseRuns.{Cast, IsOpen}
 use Rattle.calm_laws.proofs.Queues.{waiting}
 use Rattle.calm_laws.proofs.Rooms.{Room}
-use Rattle.calm_laws.proofs.Scenes.{Closes, Each, IsSeated, Part, Scene, Seated, Stage, asking, sends}
+use Rattle.calm_laws.proofs.Scenes.{Closes, Each, IsSeated, Part, Scene, Seated, Stage, asking, sends, IsInView, asks_own, first_ahead, IsOf, IsSeatedBack, asks_before, AreApart}
 use Rattle.calm_laws.proofs.Shows.{IsMember, Shows}
 use Rattle.calm_laws.proofs.Starts.{AreFew, block_first, write_first}
 use Rattle.calm_laws.proofs.StorePhases.{each_so}
 use Rattle.calm_laws.specs.Laws.{EncodesBlocks, EndsAlone, IsOver, most_records}
 use Rattle.fab_base.proofs.Seats.{brick_at_seat, seat_of_member, seat_within}
 use Rattle.fab_base.specs.Layouts.{Group, brick_at, seat_in}
-use Rattle.fab_base.specs.Stamps.{first_stamp, stamp_below}
+use Rattle.fab_base.specs.Stamps.{stamp_below}
 use Rattle.fab_base.specs.declared.asks.Op.{Op}
 use Rattle.fab_base.specs.declared.asks.Op.TheVariants.{ReadBlock, ReadStripe, WriteBlock, WriteStripe}
 use Rattle.fab_base.specs.declared.identities.BrickId.{BrickId}
-use Rattle.fab_base.specs.declared.identities.GroupId.{GroupId}
 use Rattle.fab_base.specs.declared.identities.StripeNo.{StripeNo}
 use Rattle.fab_base.specs.declared.stamps.Stamp.{Stamp}
 use Rattle.messages.specs.declared.packets.Packet.{Packet}
 use Rattle.messages.specs.declared.requests.Version.{Version}
 use Rattle.messages.specs.declared.requests.Want.{Want}
-use Rattle.protocol.specs.Calms.{IsCalm, IsReady, early, goes_among, is_one_of}
-use Rattle.protocol.specs.Coordinators.{Coordinator, block_written}
-use Rattle.protocol.specs.Nodes.{first_phase, group_at, has_block, has_length, phase_packets, replica_at, view_at}
+use Rattle.protocol.specs.Calms.{IsCalm, IsReady, early, goes_among, is_one_of, may_ask_prior, knows_synced}
+use Rattle.protocol.specs.Coordinators.{Coordinator, block_written, asked_group, looks_back}
+use Rattle.protocol.specs.Nodes.{first_phase, has_block, has_length, phase_packets, replica_at, view_at}
 use Rattle.protocol.specs.Replicas.{Replica, below, is_held, newest_of, top_of}
 use Rattle.protocol.specs.Settings.{IsSound, Setting, are_bytes}
 use Rattle.protocol.specs.Worlds.{Operation, World}
-use Rattle.quorum.proofs.Counts.{count_full}
-use Rattle.quorum.specs.Quorums.{IsWithinLimits, count, quorum_of}
+use Rattle.quorum.specs.Quorums.{IsWithinLimits, quorum_of}
 
 -- a part whose times are early has come to an early one
 top_early : (b : ℕ) (replica : Replica) → replica.order.time ≤ b
@@ -77,8 +82,21 @@ total_short logs bound (x ∷ xs) short =
     let rest = total_short logs bound xs short in
     omega (arith, here, low, rest)
 
+-- none of these has what not one of them has
+none_of : (test : BrickId → Bool) (bricks : List BrickId) → list_any test bricks ≡ false → (brick : BrickId) (k : ℕ) → slice_get bricks k ≡ Some brick
+    → test brick ≡ false
+none_of test [] none brick k at = absurd (let never : None ≡ Some brick = at in cc)
+none_of test (b ∷ bricks) none brick zero at =
+    subst (λ (z : BrickId). test z ≡ false) (same_Some b brick at) (or_parts (test b) (list_any test bricks) none).0
+none_of test (b ∷ bricks) none brick (suc k) at = none_of test bricks (or_parts (test b) (list_any test bricks) none).1 brick k at
+
+-- a stamp of the view before is below the first stamp of a view
+below_next : (d : Stamp) (e : ℕ) → view_of d ≡ e - 1 → nat_lt 1 e ≡ true → stamp_below d (floor_of e) ≡ true
+below_next d e of later =
+    before_floor d e (let above = ltb-true 1 e later in omega (arith, of, above))
+
 module _ (setting : Setting) (sound : IsSound setting) (lengths : EncodesBlocks setting) (w : World) (n : ℕ) (bricks : List BrickId)
-    (calm : IsCalm setting w n bricks) (known : Known setting w n calm.operation calm.coordinator) where
+    (calm : IsCalm setting w n bricks) (known : Known setting w n calm.operation calm.coordinator bricks) where
   abbrev o : Operation
   o = calm.operation
 
@@ -91,12 +109,29 @@ module _ (setting : Setting) (sound : IsSound setting) (lengths : EncodesBlocks 
     bricks = bricks;
     me = o.brick;
     now = w.clocks o.brick.0;
+    call = c.call;
     group = c.group;
     quorum = take (quorum_of c.group) (chosen bricks 0 c.group.members);
+    prior = kept_by c.prior c.group;
+    may_ask = may_ask_prior w c bricks;
+    old = λ i. ((w.nodes i).replicas c.call.group.0 (c.call.view.0 - 1) c.call.stripe.0).log;
   }
 
   limits : IsWithinLimits c.group.m (length c.group.members)
-  limits = sound.limits c.ask.group.0 c.group known.call.group_is
+  limits = known.logs.limits
+
+  -- its first phase asks the members of its view
+  ahead : looks_back c.phase ≡ false
+  ahead = ap (λ (p : Phase). looks_back p) known.call.phase ∙ first_ahead c.ask.op
+
+  of : IsOf stage c
+  of = record { group = refl; prior = refl; boot = refl; seq = refl; of_group = refl; view = sym known.call.view; stripe = refl }
+
+  in_view : IsInView stage c
+  in_view = record { of = of; ahead = ahead; own = known.call.view }
+
+  view_number : c.call.view.0 ≡ c.stamp.view.0
+  view_number = ap (λ (e : ViewNo). e.0) known.call.view
 
   -- the members among the bricks
   abbrev all : List Seated
@@ -109,7 +144,7 @@ module _ (setting : Setting) (sound : IsSound setting) (lengths : EncodesBlocks 
   all_seated =
       each_chosen (IsSeated stage) bricks 0 c.group.members
       (λ k member at one. (
-        seat_of_member c.group.members k member (sound.distinct c.ask.group.0 c.group known.call.group_is) at
+        seat_of_member c.group.members k member known.logs.distinct at
             ∙ ap (λ (j : ℕ). Some j) (sym (zero-add k)),
         one,
       ))
@@ -117,10 +152,10 @@ module _ (setting : Setting) (sound : IsSound setting) (lengths : EncodesBlocks 
   all_many : q ≤ length all
   all_many = le_trans calm.members (chosen_many bricks 0 c.group.members calm.distinct)
 
-  sends_all : (d : Coordinator) → d.group ≡ c.group → sends stage d ≡ map (asking stage d) all
-  sends_all d group =
-      sends_chosen stage d 0 d.group.members
-      ∙ ap (λ (g : Group). map (asking stage d) (chosen bricks 0 g.members)) group
+  sends_all : (d : Coordinator) → IsInView stage d → sends stage d ≡ map (asking stage d) all
+  sends_all d own =
+      sends_chosen stage d 0 (asked_group d).members
+      ∙ ap (λ (g : Group). map (asking stage d) (chosen bricks 0 g.members)) (asks_own stage d own)
 
   abbrev cast : Cast stage
   cast = record {
@@ -133,8 +168,8 @@ module _ (setting : Setting) (sound : IsSound setting) (lengths : EncodesBlocks 
     some = let long : length (take q all) ≡ q = length-take-le q all all_many in
         let low = limits.some_block in let enough = limits.enough_seats in omega (arith, long, low, enough);
     quorum = length-take-le q all all_many;
-    sends = λ d group.
-        sends_all d group ∙ ap (map (asking stage d)) (sym (take-append-drop q all))
+    sends = λ d own.
+        sends_all d own ∙ ap (map (asking stage d)) (sym (take-append-drop q all))
         ∙ map_append (asking stage d) (take q all) (drop q all);
   }
 
@@ -162,7 +197,7 @@ module _ (setting : Setting) (sound : IsSound setting) (lengths : EncodesBlocks 
       let next : suc k ≡ 1 + k = omega arith in
       subst (λ (j : ℕ). w.reached j ≡ false) next (calm.untouched (suc k) packet at own))
       ∙ ap (λ (l : List Packet). filter (goes_among bricks) l) known.messages.sent
-      ∙ repeated_sends stage c (suc known.messages.copies) (phase_packets setting o.brick c) all (sends_all c refl)
+      ∙ repeated_sends stage c (suc known.messages.copies) (phase_packets setting o.brick c) all (sends_all c in_view)
       ∙ ap (λ (l : List Seated). map (asking stage c) (l ++ repeated known.messages.copies all)) (sym (take-append-drop q all))
       ∙ ap (map (asking stage c)) (append_assoc (take q all) (drop q all) (repeated known.messages.copies all))
       ∙ map_append (asking stage c) (take q all) (drop q all ++ repeated known.messages.copies all)
@@ -170,7 +205,7 @@ module _ (setting : Setting) (sound : IsSound setting) (lengths : EncodesBlocks 
   -- so the first phase is open
   abbrev begins_open : IsOpen stage cast scene
   begins_open = record {
-    group = refl;
+    in_view = in_view;
     counted = known.call.counted;
     stale = [];
     old = tt;
@@ -180,68 +215,204 @@ module _ (setting : Setting) (sound : IsSound setting) (lengths : EncodesBlocks 
     waiting = queue_is;
   }
 
-  -- the floor of the quorum's logs
-  abbrev floor : Stamp
-  floor = greatest_low known.logs.lowest (take q all)
+  -- Where a quorum of a view's members has held some version, enough of its first quorum among the bricks hold one, which is below what all these versions are below:
+  -- its floor. (Each of them keeps what it has held from some such version on.)
+  module _ (e : ℕ) (group : Group) (known_logs : KnownLogs setting w c.call.group.0 c.call.stripe.0 e group)
+      (known_floor : KnownFloor w c.call.group.0 c.call.stripe.0 e group) (xs : List Seated) (apart : AreApart xs) (many : length xs ≡ quorum_of group)
+      (seated : Each (λ x. (seat_in group.members x.brick.0 ≡ Some x.seat) × (is_one_of bricks x.brick ≡ true)) xs)
+      (kept : (brick : BrickId) → is_one_of bricks brick ≡ true → first_kept ((w.nodes brick.0).learnt c.call.group.0) ≤ e) where
+    abbrev view_logs : ℕ → List Version
+    view_logs i = ((w.nodes i).replicas c.call.group.0 e c.call.stripe.0).log
 
-  floor_stands : q ≤ count (length c.group.members) (λ seat. w.held (brick_at c.group seat) c.call.group.0 c.call.stripe.0 floor)
-  floor_stands =
-      low_one (λ (t : Stamp). q ≤ count (length c.group.members) (λ seat. w.held (brick_at c.group seat) c.call.group.0 c.call.stripe.0 t))
-      known.logs.lowest (take q all) first
-      (λ i. ⊎_elim
-      (λ (is : known.logs.lowest i ≡ first_stamp).
-      subst (λ (t : Stamp). q ≤ count (length c.group.members) (λ seat. w.held (brick_at c.group seat) c.call.group.0 c.call.stripe.0 t)) (sym is) first)
-      (λ (stands : q ≤ count (length c.group.members)
-      (λ seat. w.held (brick_at c.group seat) c.call.group.0 c.call.stripe.0 (known.logs.lowest i))). stands)
-      (known.logs.stands i))
-    where
-      first : q ≤ count (length c.group.members) (λ seat. w.held (brick_at c.group seat) c.call.group.0 c.call.stripe.0 first_stamp)
-      first =
-          let full = count_full (length c.group.members) (λ seat. w.held (brick_at c.group seat) c.call.group.0 c.call.stripe.0 first_stamp)
-          (λ k less. known.logs.first_held (brick_at c.group k)) in
-          omega (arith, full)
+    -- the floor of the quorum's logs
+    abbrev floor : Stamp
+    floor = greatest_low known_floor.base (λ i. (known_floor.keeps i).from) xs
 
-  -- a member that has held the floor has it in its log
-  floor_kept : Each (λ x. w.held (brick_at c.group x.seat) c.call.group.0 c.call.stripe.0 floor ≡ true → is_held floor (logs x.brick.0) ≡ true) (take q all)
-  floor_kept = both (take q all) (each_take (IsSeated stage) q all all_seated) (low_most known.logs.lowest (take q all))
-    where
-      both : (ys : List Seated) → Each (IsSeated stage) ys → Each (λ x. stamp_below floor (known.logs.lowest x.brick.0) ≡ false) ys
-          → Each (λ x. w.held (brick_at c.group x.seat) c.call.group.0 c.call.stripe.0 floor ≡ true → is_held floor (logs x.brick.0) ≡ true) ys
-      both [] seated most = tt
-      both (y ∷ ys) seated most = (
-        (λ held. ⊎_elim
-            (λ (kept : is_held floor (logs y.brick.0) ≡ true). kept)
-            (λ (lower : stamp_below floor (known.logs.lowest y.brick.0) ≡ true). absurd (false≢true (sym most.0 ∙ lower)))
-            (known.logs.logged y.brick.0 floor ((ready y.brick seated.0.1).view ∙ known.call.view)
-            (subst (λ (i : ℕ). w.held i c.call.group.0 c.call.stripe.0 floor ≡ true) (brick_at_seat c.group y.brick.0 y.seat seated.0.0) held))),
-        both ys seated.1 most.1,
-      )
+    floor_stands : StandsIn w c.call.group.0 c.call.stripe.0 e group floor
+    floor_stands =
+        low_one (StandsIn w c.call.group.0 c.call.stripe.0 e group) known_floor.base (λ i. (known_floor.keeps i).from) xs known_floor.stands
+        (λ i. (known_floor.keeps i).stands)
+
+    -- a member that has held the floor has it in its log
+    floor_kept : Each (λ x. w.held (brick_at group x.seat) c.call.group.0 c.call.stripe.0 floor ≡ true → is_held floor (view_logs x.brick.0) ≡ true) xs
+    floor_kept = both xs seated (low_most known_floor.base (λ i. (known_floor.keeps i).from) xs)
+      where
+        both : (ys : List Seated) → Each (λ x. (seat_in group.members x.brick.0 ≡ Some x.seat) × (is_one_of bricks x.brick ≡ true)) ys
+            → Each (λ x. stamp_below floor (known_floor.keeps x.brick.0).from ≡ false) ys
+            → Each (λ x. w.held (brick_at group x.seat) c.call.group.0 c.call.stripe.0 floor ≡ true → is_held floor (view_logs x.brick.0) ≡ true) ys
+        both [] sits most = tt
+        both (y ∷ ys) sits most = (
+          (λ held. ⊎_elim
+              (λ (there : is_held floor (view_logs y.brick.0) ≡ true). there)
+              (λ (lower : stamp_below floor (known_floor.keeps y.brick.0).from ≡ true). absurd (false≢true (sym most.0 ∙ lower)))
+              ((known_floor.keeps y.brick.0).logged (kept y.brick sits.0.1) floor floor_stands.of
+              (subst (λ (i : ℕ). w.held i c.call.group.0 c.call.stripe.0 floor ≡ true) (brick_at_seat group y.brick.0 y.seat sits.0.0) held))),
+          both ys sits.1 most.1,
+        )
+
+    floor_is : IsFloor group.m xs view_logs
+    floor_is = record {
+      floor = floor;
+      holders = quorum_passes group.m (length group.members) known_logs.limits.enough_seats xs (λ x. is_held floor (view_logs x.brick.0))
+          (λ seat. w.held (brick_at group seat) c.call.group.0 c.call.stripe.0 floor) apart
+          (each_then (λ (x : Seated). (seat_in group.members x.brick.0 ≡ Some x.seat) × (is_one_of bricks x.brick ≡ true))
+          (λ (x : Seated). x.seat < length group.members) xs
+          (λ x sits. seat_within group x.brick.0 x.seat sits.0) seated)
+          many floor_stands.held floor_kept;
+    }
+
+    blocks_long : Each (λ x. (k : ℕ) (version : Version) → slice_get (view_logs x.brick.0) k ≡ Some version
+        → length version.block ≡ setting.layout.block) xs
+    blocks_long =
+        each_then (λ (x : Seated). (seat_in group.members x.brick.0 ≡ Some x.seat) × (is_one_of bricks x.brick ≡ true))
+        (λ (x : Seated). (k : ℕ) (version : Version) → slice_get (view_logs x.brick.0) k ≡ Some version → length version.block ≡ setting.layout.block) xs
+        (λ x sits k version at. known_logs.blocks x.brick.0 x.seat k version sits.0 at) seated
+
+  -- a ready brick keeps the versions of the view that it has learnt
+  keeps_own : (brick : BrickId) → is_one_of bricks brick ≡ true → first_kept ((w.nodes brick.0).learnt c.call.group.0) ≤ c.call.view.0
+  keeps_own brick one =
+      let is : view_at (w.nodes brick.0) c.call.group.0 ≡ c.call.view.0 = (ready brick one).view ∙ sym view_number in
+      cond_both ((w.nodes brick.0).learnt c.call.group.0).synced (view_at (w.nodes brick.0) c.call.group.0) (view_at (w.nodes brick.0) c.call.group.0 - 1)
+      (λ (k : ℕ). k ≤ c.call.view.0) (λ synced. omega (arith, is)) (λ isnt. omega (arith, is))
+
+  -- where the operation may have to ask the members of the view before, it keeps those of that one too
+  module _ (may : may_ask_prior w c bricks ≡ true) where
+    later : nat_lt 1 c.call.view.0 ≡ true
+    later =
+        ap (λ (k : ℕ). nat_lt 1 k) view_number ∙ (and_parts (nat_lt 1 c.stamp.view.0) (not (list_any (knows_synced w c.call.group.0) bricks)) may).0
+
+    unsynced : (brick : BrickId) → is_one_of bricks brick ≡ true → ((w.nodes brick.0).learnt c.call.group.0).synced ≡ false
+    unsynced brick one =
+        none_of (knows_synced w c.call.group.0) bricks
+        (not-true (list_any (knows_synced w c.call.group.0) bricks)
+        (and_parts (nat_lt 1 c.stamp.view.0) (not (list_any (knows_synced w c.call.group.0) bricks)) may).1) brick
+        (one_stands bricks brick one).0 (one_stands bricks brick one).1
+
+    keeps_old : (brick : BrickId) → is_one_of bricks brick ≡ true → first_kept ((w.nodes brick.0).learnt c.call.group.0) ≤ c.call.view.0 - 1
+    keeps_old brick one =
+        let is : view_at (w.nodes brick.0) c.call.group.0 ≡ c.call.view.0 = (ready brick one).view ∙ sym view_number in
+        let first : first_kept ((w.nodes brick.0).learnt c.call.group.0) ≡ view_at (w.nodes brick.0) c.call.group.0 - 1
+        = ap (λ (b : Bool). cond b (view_at (w.nodes brick.0) c.call.group.0) (view_at (w.nodes brick.0) c.call.group.0 - 1)) (unsynced brick one) in
+        omega (arith, first, is)
+
+  -- the members of the view before among the bricks
+  module _ (known_back : KnownBack setting w c bricks) where
+    abbrev prior : Group
+    prior = kept_by c.prior c.group
+
+    abbrev all_back : List Seated
+    all_back = chosen bricks 0 c.prior
+
+    abbrev q_back : ℕ
+    q_back = quorum_of prior
+
+    back_seated : Each (IsSeatedBack stage) all_back
+    back_seated =
+        each_chosen (IsSeatedBack stage) bricks 0 c.prior
+        (λ k member at one. (seat_of_member c.prior k member known_back.logs.distinct at ∙ ap (λ (j : ℕ). Some j) (sym (zero-add k)), one))
+
+    back_many : q_back ≤ length all_back
+    back_many = le_trans (calm.prior known_back.may) (chosen_many bricks 0 c.prior calm.distinct)
+
+    abbrev back_cast : BackCast stage
+    back_cast = record {
+      xs = take q_back all_back;
+      rest = drop q_back all_back;
+      seated = each_take (IsSeatedBack stage) q_back all_back back_seated;
+      rest_seated = each_drop (IsSeatedBack stage) q_back all_back back_seated;
+      apart = apart_take q_back all_back (apart_chosen bricks 0 c.prior);
+      some = let long : length (take q_back all_back) ≡ q_back = length-take-le q_back all_back back_many in
+          let low = known_back.logs.limits.some_block in let enough = known_back.logs.limits.enough_seats in omega (arith, long, low, enough);
+      quorum = length-take-le q_back all_back back_many;
+      sends = λ d bound is.
+          sends_chosen stage d 0 (asked_group d).members
+          ∙ ap (λ (g : Group). map (asking stage d) (chosen bricks 0 g.members)) (asks_before stage d bound is)
+          ∙ ap (map (asking stage d)) (sym (take-append-drop q_back all_back))
+          ∙ map_append (asking stage d) (take q_back all_back) (drop q_back all_back);
+    }
+
+    back_floor : IsFloor c.group.m (take q_back all_back) stage.old
+    back_floor =
+        floor_is (c.call.view.0 - 1) prior known_back.logs known_back.floor (take q_back all_back) back_cast.apart back_cast.quorum back_cast.seated
+        (keeps_old known_back.may)
+
+    -- what they keep there is below the first stamp of the operation's view
+    old_below : (i : ℕ) (d : Stamp) → is_held d (stage.old i) ≡ true → stamp_below d (floor_of c.call.view.0) ≡ true
+    old_below i d held =
+        let place = held_stands d (stage.old i) held in
+        let its : view_of place.1.stamp ≡ c.call.view.0 - 1 = known_back.logs.of i place.0 place.1 place.2 in
+        below_next d c.call.view.0 (ap (λ (t : Stamp). view_of t) (sym place.3) ∙ its) (later known_back.may)
+
+    floor_view : stamp_below back_floor.floor (floor_of c.call.view.0) ≡ true
+    unfolding back_floor floor_is
+    floor_view =
+        below_next back_floor.floor c.call.view.0
+        (floor_stands (c.call.view.0 - 1) prior known_back.logs known_back.floor (take q_back all_back) back_cast.apart back_cast.quorum back_cast.seated
+        (keeps_old known_back.may)).of (later known_back.may)
+
+    abbrev old_lore : OldLore stage back_cast
+    old_lore = record {
+      may = known_back.may;
+      later = later known_back.may;
+      ascends = each_so (λ (x : Seated). LogAscends (stage.old x.brick.0)) (λ x. known_back.logs.ascends x.brick.0) (take q_back all_back);
+      below = each_so (λ (x : Seated). (d : Stamp) → is_held d (stage.old x.brick.0) ≡ true → stamp_below d (floor_of c.call.view.0) ≡ true)
+          (λ x. old_below x.brick.0) (take q_back all_back);
+      blocks = blocks_long (c.call.view.0 - 1) prior known_back.logs known_back.floor (take q_back all_back) back_cast.apart back_cast.quorum back_cast.seated
+          (keeps_old known_back.may);
+      some_block = limits.some_block;
+      at = back_floor;
+      at_below = floor_view;
+    }
+
+    looks_back_well : MayLookBack stage cast logs (total_below stage.old (floor_of c.call.view.0) (take q_back all_back))
+    looks_back_well =
+        may_look_back stage cast logs (each_so (λ (x : Seated). LogAscends (logs x.brick.0)) (λ x. known.logs.ascends x.brick.0) (take q all)) lengths
+        back_cast old_lore
+
+    -- phases enough
+    back_few : total_below stage.old (floor_of c.call.view.0) (take q_back all_back) ≤ 32 * (most_records + 1)
+    back_few =
+        let total = total_short stage.old (floor_of c.call.view.0) (take q_back all_back) known_back.logs.short in
+        let long : length (take q_back all_back) ≡ q_back = length-take-le q_back all_back back_many in
+        let seats = known_back.logs.limits.few_seats in
+        omega (arith, total, long, seats)
+
+  -- what a recovery comes to, and how many phases it takes then
+  ground_of : (phases : ℕ) × Ground stage cast logs phases × (phases ≤ 32 * (most_records + 1))
+  ground_of = ⊎_elim
+      (λ (at : KnownFloor w c.call.group.0 c.call.stripe.0 c.call.view.0 c.group). (
+        0,
+        inl (floor_is c.call.view.0 c.group known.logs at (take q all) cast.apart cast.quorum cast.seated keeps_own),
+        omega arith,
+      ))
+      (λ (back : KnownBack setting w c bricks). (
+        total_below stage.old (floor_of c.call.view.0) (take (quorum_of (kept_by c.prior c.group)) (chosen bricks 0 c.prior)),
+        inr (looks_back_well back),
+        back_few back,
+      ))
+      known.ground
 
   -- what is known of the quorum's logs
   abbrev lore : Lore stage cast logs
   lore = record {
     ascends = each_so (λ (x : Seated). LogAscends (logs x.brick.0)) (λ x. known.logs.ascends x.brick.0) (take q all);
-    floor = floor;
-    holders = quorum_passes c.group.m (length c.group.members) limits.enough_seats (take q all) (λ x. is_held floor (logs x.brick.0))
-        (λ seat. w.held (brick_at c.group seat) c.call.group.0 c.call.stripe.0 floor)
-        (apart_take q all (apart_chosen bricks 0 c.group.members))
-        (each_then (IsSeated stage) (λ (x : Seated). x.seat < length c.group.members) (take q all)
-        (λ x seated. seat_within c.group x.brick.0 x.seat seated.0) (each_take (IsSeated stage) q all all_seated))
-        (length-take-le q all all_many) floor_stands floor_kept;
     some_block = limits.some_block;
     blocks = each_then (IsSeated stage) (λ (x : Seated). (k : ℕ) (version : Version) → slice_get (logs x.brick.0) k ≡ Some version
         → length version.block ≡ setting.layout.block) (take q all)
         (λ x seated k version at. known.logs.blocks x.brick.0 x.seat k version seated.0 at) (each_take (IsSeated stage) q all all_seated);
     encodes = lengths;
+    phases = ground_of.0;
+    ground = ground_of.1;
   }
 
   -- phases enough
-  few : AreFew stage cast logs
+  few : AreFew stage cast logs lore
   few bound =
       let total = total_short logs bound (take q all) known.logs.short in
       let long : length (take q all) ≡ q = length-take-le q all all_many in
       let seats = limits.few_seats in
-      omega (arith, total, long, seats)
+      let more = ground_of.2 in
+      omega (arith, total, long, seats, more)
 
   -- the first round finds room, and early times
   abbrev begins_first : IsFirst stage cast logs scene
@@ -249,22 +420,21 @@ module _ (setting : Setting) (sound : IsSound setting) (lengths : EncodesBlocks 
     open_is = begins_open;
     quiet = refl;
     round = known.call.round;
-    view = known.call.stamp_view ∙ sym known.call.view;
-    from_one = let one = known.call.stamp_view in omega (arith, one);
+    from_one = known.call.from_one;
     stamp_known = known.call.stamp_known;
     known_early = let low = calm.times.known in omega (arith, low);
     starts = each_then (IsSeated stage) (λ (x : Seated). ((parts x.brick.0).replica.log ≡ logs x.brick.0) × Room stage (parts x.brick.0)
-        × IsLow c.call.view.0 early (top_of (parts x.brick.0).replica)) (take q all)
+        × IsLow c.stamp.view.0 early (top_of (parts x.brick.0).replica)) (take q all)
         (λ x seated. (refl, inl (ready x.brick seated.1).room, low x seated))
         (each_take (IsSeated stage) q all all_seated);
     ascends = each_so (λ (x : Seated). LogAscends (logs x.brick.0)) (λ x. known.logs.ascends x.brick.0) (take q all);
   }
     where
-      low : (x : Seated) → IsSeated stage x → IsLow c.call.view.0 early (top_of (parts x.brick.0).replica)
+      low : (x : Seated) → IsSeated stage x → IsLow c.stamp.view.0 early (top_of (parts x.brick.0).replica)
       low x seated =
           let times = (ready x.brick seated.1).times in
           record {
-            view = let most = known.logs.top_view x.brick.0 in let one = known.call.view in omega (arith, most, one);
+            view = known.top_view x.brick.0;
             time = top_early early (replica_at (w.nodes x.brick.0) c.call)
                 (le_of_lt (times.orders c.call.group.0 c.call.view.0 c.call.stripe.0))
                 (λ k version at. le_of_lt (times.logs c.call.group.0 c.call.view.0 c.call.stripe.0 k version at));
@@ -272,7 +442,7 @@ module _ (setting : Setting) (sound : IsSound setting) (lengths : EncodesBlocks 
 
   -- the operation's own stamp is in none of these logs
   unheld : IsUnheld logs c.stamp (take q all)
-  unheld = each_so (λ (x : Seated). is_held c.stamp (logs x.brick.0) ≡ false) (λ x. known.logs.unheld x.brick.0) (take q all)
+  unheld = each_so (λ (x : Seated). is_held c.stamp (logs x.brick.0) ≡ false) (λ x. known.unheld x.brick.0) (take q all)
 
   -- so it closes
   closes : Closes stage scene
@@ -302,12 +472,10 @@ module _ (setting : Setting) (sound : IsSound setting) (lengths : EncodesBlocks 
       let is = ready brick one in
       record {
         up = is.up;
-        group = ap (λ (g : GroupId). group_at setting.layout (w.nodes brick.0) g.0) known.call.of_group
-            ∙ known.call.groups brick.0
-            (ap (λ (g : GroupId). view_at (w.nodes brick.0) g.0) (sym known.call.of_group) ∙ is.view ∙ known.call.view);
+        group = known.call.groups brick.0 is.view;
         stripe = ap (λ (z : StripeNo). nat_lt z.0 c.group.stripes) known.call.stripe ∙ lt_so c.ask.stripe.0 c.group.stripes known.call.within;
-        from_one = ap (λ (e : ℕ). nat_eq e 0) known.call.view;
-        view = is.view;
+        from_one = let some = known.call.from_one in let same = view_number in ne_eqb c.call.view.0 0 (λ none. omega (arith, some, same, none));
+        view = is.view ∙ sym view_number;
         free = is.serves;
       }
     where
@@ -326,11 +494,14 @@ module _ (setting : Setting) (sound : IsSound setting) (lengths : EncodesBlocks 
     node_boot = opened.boot ∙ sym known.call.boot;
     call = ap (λ (k : ℕ). (w.nodes o.brick.0).calls k) known.call.seq ∙ opened.call;
     number = ap₂ (λ (b k : ℕ). w.numbers o.brick.0 b k) known.call.boot known.call.seq ∙ known.call.number;
+    begun = known.call.begun;
+    within = let seq = known.call.seq in let most = known.call.called in omega (arith, seq, most);
     clock = refl;
     known = refl;
-    group = refl;
+    of = of;
     members = member_of;
     parts = λ brick one. record { replica = refl; live = refl };
+    olds = λ may brick one. record { log = refl; unsynced = unsynced may brick one };
     queue = refl;
     unsent = known.messages.unsent;
   }
@@ -349,7 +520,7 @@ module _ (setting : Setting) (sound : IsSound setting) (lengths : EncodesBlocks 
     where
       most : length all ≤ q
       most =
-          let few = chosen_few bricks 0 c.group.members (sound.distinct c.ask.group.0 c.group known.call.group_is) in
+          let few = chosen_few bricks 0 c.group.members known.logs.distinct in
           omega (arith, few, exactly)
 
   -- the operation comes to its end alone, and is answered

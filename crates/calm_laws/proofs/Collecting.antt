@@ -39,7 +39,7 @@ keeps_on : (stage : Stage) (c : Coordinator) (first w later : World) (brick : Br
     → ((i : ℕ) → (later.nodes i).ballots ≡ (w.nodes i).ballots) → (replica_at (later.nodes brick.0) c.call).log ≡ new
     → later.packets ≡ w.packets ++ more → Keeps stage c first later brick new
 keeps_on stage c first w later brick old new more keeps up learnt ballots log_is packets = record {
-  member = serves_on stage w later c c brick (record { group = refl; boot = refl; seq = refl; of_group = refl; view = refl; stripe = refl }) up learnt
+  member = serves_on stage w later c.call brick up learnt
       ballots keeps.member;
   log_is = log_is;
   packets = λ number packet is.

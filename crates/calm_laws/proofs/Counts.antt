@@ -5,14 +5,14 @@ use Rattle.std.proofs.lemmas.Bool.Decides.{nat_tests}
 use Rattle.std.proofs.lemmas.List.{append_assoc, length-append}
 use Rattle.std.specs.Prelude.{nat_eq, nat_lt, ◌-◌, ◌^◌}
 use Rattle.calm_laws.proofs.Hearing.{known_through}
-use Rattle.calm_laws.proofs.Scenes.{Closes, Each, IsSeated, Outcome, SameCall, Scene, Seated, Stage, decision, heard, hears, made, replying, sent, waits, AreApart, EndsAt}
+use Rattle.calm_laws.proofs.Scenes.{Closes, Each, Outcome, SameCall, Scene, Seated, Stage, decision, heard, hears, made, replying, sent, waits, AreApart, EndsAt}
 use Rattle.fab_base.specs.Layouts.{Group, seat_in}
 use Rattle.fab_base.specs.declared.stamps.Stamp.{Stamp}
 use Rattle.messages.specs.declared.calls.Call.{Call}
 use Rattle.messages.specs.declared.packets.Packet.{Packet}
 use Rattle.messages.specs.declared.replies.Reply.{Reply}
 use Rattle.protocol.specs.Calms.{early}
-use Rattle.protocol.specs.Coordinators.{Coordinator, Ends, Ignores, Makes, Next, Sends, Waits, answering_seat, answers_phase, call_same, counted_at, counts_at, decided, has_seat, new_seat, on_reply, once_full}
+use Rattle.protocol.specs.Coordinators.{Coordinator, Ends, Ignores, Makes, Next, Sends, Waits, answering_seat, answers_phase, call_same, counted_at, counts_at, decided, has_seat, new_seat, on_reply, once_full, asked_group}
 use Rattle.protocol.specs.Views.{view_told}
 use Rattle.protocol.specs.Nodes.{fresh_stamp, known_after}
 use Rattle.protocol.specs.Replicas.{stored}
@@ -61,7 +61,7 @@ Carries stage s (Ends answer seen stored) = (is_answer answer ≡ true) × EndsA
 
 same_counted : (c d : Coordinator) (counted : List Counted) → SameCall c d → SameCall (record c { counted = counted }) d
 same_counted c d counted same =
-    record { group = same.group; boot = same.boot; seq = same.seq; of_group = same.of_group; view = same.view; stripe = same.stripe }
+    record { group = same.group; prior = same.prior; boot = same.boot; seq = same.seq; of_group = same.of_group; view = same.view; stripe = same.stripe }
 
 -- it is the same for a coordinator that counted other replies
 carries_counted : (stage : Stage) (s : Scene) (counted : List Counted) (next : Next) → Carries stage s next
@@ -81,7 +81,7 @@ carries_outcome stage s (Ends answer seen stored) then = then
 
 -- the stamp of a new round, at this known time
 abbrev pub fresh_at : Stage → Coordinator → ℕ → Option Stamp
-fresh_at stage c known = fresh_stamp stage.me c.call.view stage.now c.call.boot known
+fresh_at stage c known = fresh_stamp stage.me c.stamp.view stage.now c.call.boot known
 
 -- what a coordinator decides of these replies
 abbrev pub decides : Stage → Coordinator → ℕ → List Counted → Next
@@ -94,42 +94,42 @@ unfolding call_same
 call_itself a = grind (arith, nat_tests)
 
 -- a reply that answers the phase counts
-counts : (block : ℕ) (c : Coordinator) (from seat : ℕ) (reply : Reply) → c.call.phase < 2 ^ 32 - 1 → seat_in c.group.members from ≡ Some seat
+counts : (block : ℕ) (c : Coordinator) (from seat : ℕ) (reply : Reply) → c.call.phase < 2 ^ 32 - 1 → seat_in (asked_group c).members from ≡ Some seat
     → answers_phase block c.stamp seat c.phase reply ≡ true → has_seat seat c.counted ≡ false → counts_at block c from c.call reply ≡ Some seat
 unfolding counts_at
 counts block c from seat reply early seated answers new =
     let low : nat_lt c.call.phase (2 ^ 32 - 1) ≡ true = grind (arith, nat_tests) in
     ap (λ (b : Bool). cond (b && nat_lt c.call.phase (2 ^ 32 - 1))
-    (new_seat c.counted (answering_seat block c reply (seat_in c.group.members from))) None) (call_itself c.call)
-    ∙ ap (λ (b : Bool). cond b (new_seat c.counted (answering_seat block c reply (seat_in c.group.members from))) None) low
+    (new_seat c.counted (answering_seat block c reply (seat_in (asked_group c).members from))) None) (call_itself c.call)
+    ∙ ap (λ (b : Bool). cond b (new_seat c.counted (answering_seat block c reply (seat_in (asked_group c).members from))) None) low
     ∙ ap (λ (z : Option ℕ). new_seat c.counted (answering_seat block c reply z)) seated
     ∙ ap (λ (b : Bool). new_seat c.counted (cond b (Some seat) None)) answers
     ∙ ap (λ (b : Bool). cond b None (Some seat)) new
 
 -- what the reply of this member decides, as it counts
-counts_so : (stage : Stage) (s : Scene) (f : Seated → Reply) (x : Seated) → s.c.call.phase < 2 ^ 32 - 1 → s.c.group ≡ stage.group
-    → IsSeated stage x → answers_phase stage.setting.layout.block s.c.stamp x.seat s.c.phase (f x) ≡ true → has_seat x.seat s.c.counted ≡ false
+counts_so : (stage : Stage) (group : Group) (s : Scene) (f : Seated → Reply) (x : Seated) → s.c.call.phase < 2 ^ 32 - 1 → asked_group s.c ≡ group
+    → seat_in group.members x.brick.0 ≡ Some x.seat → answers_phase stage.setting.layout.block s.c.stamp x.seat s.c.phase (f x) ≡ true → has_seat x.seat s.c.counted ≡ false
     → decision stage s x.brick s.c.call (f x)
     ≡ once_full stage.setting.layout.block stage.setting.code (fresh_at stage s.c (known_after s.known (f x)))
     (record s.c { counted = s.c.counted ++ (counted_of f x ∷ []) })
 unfolding on_reply
-counts_so stage s f x early group seated answers new =
+counts_so stage group s f x early is seated answers new =
     ap (λ (z : Option ℕ). counted_at stage.setting.layout.block stage.setting.code
     (fresh_at stage s.c (known_after s.known (f x))) s.c x.brick (f x) z)
     (counts stage.setting.layout.block s.c x.brick.0 x.seat (f x) early
-    (subst (λ (g : Group). seat_in g.members x.brick.0 ≡ Some x.seat) (sym group) seated.0) answers new)
+    (subst (λ (g : Group). seat_in g.members x.brick.0 ≡ Some x.seat) (sym is) seated) answers new)
 
 -- with fewer than a quorum it waits, and with a quorum it decides
-waits_for : (block : ℕ) (code : Code) (fresh : Option Stamp) (c : Coordinator) → length c.counted < quorum_of c.group
+waits_for : (block : ℕ) (code : Code) (fresh : Option Stamp) (c : Coordinator) → length c.counted < quorum_of (asked_group c)
     → once_full block code fresh c ≡ Waits c
 waits_for block code fresh c few =
-    let low : nat_lt (length c.counted) (quorum_of c.group) ≡ true = grind (arith, nat_tests) in
+    let low : nat_lt (length c.counted) (quorum_of (asked_group c)) ≡ true = grind (arith, nat_tests) in
     ap (λ (b : Bool). cond b (Waits c) (decided block code fresh c)) low
 
-decides_at : (block : ℕ) (code : Code) (fresh : Option Stamp) (c : Coordinator) → length c.counted ≡ quorum_of c.group
+decides_at : (block : ℕ) (code : Code) (fresh : Option Stamp) (c : Coordinator) → length c.counted ≡ quorum_of (asked_group c)
     → once_full block code fresh c ≡ decided block code fresh c
 decides_at block code fresh c many =
-    let low : nat_lt (length c.counted) (quorum_of c.group) ≡ false = grind (arith, nat_tests) in
+    let low : nat_lt (length c.counted) (quorum_of (asked_group c)) ≡ false = grind (arith, nat_tests) in
     ap (λ (b : Bool). cond b (Waits c) (decided block code fresh c)) low
 
 -- one more in the list
@@ -141,35 +141,35 @@ abbrev pub told : Stage → Call → (Seated → Reply) → List Seated → List
 told stage call f xs = map (λ x. replying stage x.brick call (f x)) xs
 
 -- the replies of a quorum's members are heard in order, and decide
-pub replies_pass : (stage : Stage) (f : Seated → Reply) (xs : List Seated) (s : Scene) (rest : List Packet)
-    → s.queue ≡ told stage s.c.call f xs ++ rest → s.c.call.phase < 2 ^ 32 - 1 → s.c.group ≡ stage.group → Each (IsSeated stage) xs
+pub replies_pass : (stage : Stage) (group : Group) (f : Seated → Reply) (xs : List Seated) (s : Scene) (rest : List Packet)
+    → s.queue ≡ told stage s.c.call f xs ++ rest → s.c.call.phase < 2 ^ 32 - 1 → asked_group s.c ≡ group → Each (λ x. seat_in group.members x.brick.0 ≡ Some x.seat) xs
     → Each (λ x. answers_phase stage.setting.layout.block s.c.stamp x.seat s.c.phase (f x) ≡ true) xs → Each (λ x. view_told (f x) ≡ None) xs
     → AreNew f s.c.counted xs
-    → 1 ≤ length xs → length s.c.counted + length xs ≡ quorum_of stage.group
+    → 1 ≤ length xs → length s.c.counted + length xs ≡ quorum_of group
     → Carries stage (record s { known = known_through (told stage s.c.call f xs) s.known; queue = rest })
     (decides stage s.c (known_through (told stage s.c.call f xs) s.known) (s.c.counted ++ map (counted_of f) xs))
     → Closes stage s
-replies_pass stage f [] s rest is early group seated answers plain new some many then = absurd (omega arith)
-replies_pass stage f (x ∷ []) s rest is early group seated answers plain new some many then =
-    let quorum : length (s.c.counted ++ (counted_of f x ∷ [])) ≡ quorum_of s.c.group
-    = length_more s.c.counted (counted_of f x) ∙ many ∙ ap (λ (g : Group). quorum_of g) (sym group) in
+replies_pass stage group f [] s rest is early asks seated answers plain new some many then = absurd (omega arith)
+replies_pass stage group f (x ∷ []) s rest is early asks seated answers plain new some many then =
+    let quorum : length (s.c.counted ++ (counted_of f x ∷ [])) ≡ quorum_of (asked_group s.c)
+    = length_more s.c.counted (counted_of f x) ∙ many ∙ ap (λ (g : Group). quorum_of g) (sym asks) in
     hears stage s x.brick s.c.call (f x) rest (record { queue = is; seq = (refl, refl); plain = plain.0 })
     (carries_outcome stage (heard s (f x) rest) (decision stage s x.brick s.c.call (f x))
     (subst (λ (z : Next). Carries stage (heard s (f x) rest) z)
-    (sym (counts_so stage s f x early group seated.0 answers.0 new.0
+    (sym (counts_so stage group s f x early asks seated.0 answers.0 new.0
     ∙ decides_at stage.setting.layout.block stage.setting.code (fresh_at stage s.c (known_after s.known (f x)))
     (record s.c { counted = s.c.counted ++ (counted_of f x ∷ []) }) quorum)) then))
-replies_pass stage f (x ∷ (y ∷ ys)) s rest is early group seated answers plain new some many then =
+replies_pass stage group f (x ∷ (y ∷ ys)) s rest is early asks seated answers plain new some many then =
     let now : Coordinator = record s.c { counted = s.c.counted ++ (counted_of f x ∷ []) } in
     let long : length (s.c.counted ++ (counted_of f x ∷ [])) ≡ length s.c.counted + 1 = length_more s.c.counted (counted_of f x) in
-    let same : quorum_of s.c.group ≡ quorum_of stage.group = ap (λ (g : Group). quorum_of g) group in
-    let few : length now.counted < quorum_of now.group = omega (arith, long, many, same) in
+    let same : quorum_of (asked_group s.c) ≡ quorum_of group = ap (λ (g : Group). quorum_of g) asks in
+    let few : length now.counted < quorum_of (asked_group now) = omega (arith, long, many, same) in
     hears stage s x.brick s.c.call (f x) (told stage s.c.call f (y ∷ ys) ++ rest) (record { queue = is; seq = (refl, refl); plain = plain.0 })
     (subst (λ (z : Next). Outcome stage (heard s (f x) (told stage s.c.call f (y ∷ ys) ++ rest)) z)
-    (sym (counts_so stage s f x early group seated.0 answers.0 new.0
+    (sym (counts_so stage group s f x early asks seated.0 answers.0 new.0
     ∙ waits_for stage.setting.layout.block stage.setting.code (fresh_at stage s.c (known_after s.known (f x))) now few)) (
-      record { group = refl; boot = refl; seq = refl; of_group = refl; view = refl; stripe = refl },
-      replies_pass stage f (y ∷ ys) (waits (heard s (f x) (told stage s.c.call f (y ∷ ys) ++ rest)) now) rest refl early group seated.1 answers.1 plain.1 new.1
+      record { group = refl; prior = refl; boot = refl; seq = refl; of_group = refl; view = refl; stripe = refl },
+      replies_pass stage group f (y ∷ ys) (waits (heard s (f x) (told stage s.c.call f (y ∷ ys) ++ rest)) now) rest refl early asks seated.1 answers.1 plain.1 new.1
           (omega arith) (omega (arith, long, many))
           (carries_counted stage
           (record s { known = known_through (told stage s.c.call f (x ∷ (y ∷ ys))) s.known; queue = rest })

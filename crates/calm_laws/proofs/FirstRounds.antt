@@ -13,7 +13,7 @@ use Rattle.calm_laws.proofs.Ordering.{TameWith}
 use Rattle.calm_laws.proofs.PhaseRuns.{Cast, IsOpen, known_then, next_open}
 use Rattle.calm_laws.proofs.Rooms.{Room}
 use Rattle.calm_laws.proofs.Rounds.{IsMixed, MixedWith, mixed_reply, through_least, through_most, through_told, told_time}
-use Rattle.calm_laws.proofs.Scenes.{Closes, Each, Part, Scene, Seated, Stage, sent}
+use Rattle.calm_laws.proofs.Scenes.{Closes, Each, Part, Scene, Seated, Stage, sent, view_ahead}
 use Rattle.fab_base.proofs.StampOrder.{stamp_below_asym}
 use Rattle.fab_base.specs.Stamps.{first_stamp, stamp_below, stamp_same}
 use Rattle.fab_base.specs.declared.stamps.Stamp.{Stamp}
@@ -47,17 +47,16 @@ pub record IsFirst (stage : Stage) (cast : Cast stage) (logs : ℕ → List Vers
   pub open_is : IsOpen stage cast s
   pub quiet : known_through open_is.stale s.known ≡ s.known
   pub round : s.c.round ≡ 1
-  pub view : s.c.stamp.view.0 ≡ s.c.call.view.0
   pub from_one : 1 ≤ s.c.stamp.view.0
   pub stamp_known : s.c.stamp.time ≤ s.known
   pub known_early : s.known ≤ early
   pub starts : Each (λ x. ((s.parts x.brick.0).replica.log ≡ logs x.brick.0) × Room stage (s.parts x.brick.0)
-      × IsLow s.c.call.view.0 early (top_of (s.parts x.brick.0).replica)) cast.xs
+      × IsLow s.c.stamp.view.0 early (top_of (s.parts x.brick.0).replica)) cast.xs
   pub ascends : Each (λ x. LogAscends (logs x.brick.0)) cast.xs
 
 -- the stamp of the second round, where so much is known
 abbrev pub second_stamp : Stage → Coordinator → ℕ → Stamp
-second_stamp stage c known = new_stamp stage.me c.call.view stage.now c.call.boot known
+second_stamp stage c known = new_stamp stage.me c.stamp.view stage.now c.call.boot known
 
 -- a time is left
 time_left : (known : ℕ) → known ≤ early → has_later_time known ≡ true
@@ -87,7 +86,7 @@ module _ (stage : Stage) (cast : Cast stage) (logs : ℕ → List Version) (s : 
   known_grows : s.known ≤ known
   known_grows = subst (λ (k : ℕ). k ≤ known) first.quiet (through_least stage s.c.call f cast.xs (known_through first.open_is.stale s.known))
 
-  told_early : (x : Seated) → ((y : Seated) (log : List Version) → told_time (answer y log) ≡ 0) → IsLow s.c.call.view.0 early (tops x.brick.0) → told_time (f x) ≤ early
+  told_early : (x : Seated) → ((y : Seated) (log : List Version) → told_time (answer y log) ≡ 0) → IsLow s.c.stamp.view.0 early (tops x.brick.0) → told_time (f x) ≤ early
   told_early x silent low =
       cond_both (stamp_below s.c.stamp (tops x.brick.0)) (Later (tops x.brick.0)) (answer x (logs x.brick.0)) (λ (r : Reply). told_time r ≤ early)
       (λ above. low.time) (λ tame. let none = silent x (logs x.brick.0) in omega (arith, none))
@@ -97,11 +96,11 @@ module _ (stage : Stage) (cast : Cast stage) (logs : ℕ → List Version) (s : 
       through_most stage s.c.call f early cast.xs (known_through first.open_is.stale s.known)
       (subst (λ (k : ℕ). k ≤ early) (sym first.quiet) first.known_early)
       (each_then (λ (x : Seated). ((s.parts x.brick.0).replica.log ≡ logs x.brick.0) × Room stage (s.parts x.brick.0)
-      × IsLow s.c.call.view.0 early (top_of (s.parts x.brick.0).replica)) (λ (x : Seated). told_time (f x) ≤ early) cast.xs
+      × IsLow s.c.stamp.view.0 early (top_of (s.parts x.brick.0).replica)) (λ (x : Seated). told_time (f x) ≤ early) cast.xs
       (λ x start. told_early x silent start.2) first.starts)
 
   -- the second stamp is above what a member has come to
-  second_above : (x : Seated) (part : Part) → IsMixed stage s.c.stamp (tops x.brick.0) (logs x.brick.0) part → IsLow s.c.call.view.0 early (tops x.brick.0)
+  second_above : (x : Seated) (part : Part) → IsMixed stage s.c.stamp (tops x.brick.0) (logs x.brick.0) part → IsLow s.c.stamp.view.0 early (tops x.brick.0)
       → told_time (f x) ≤ known → stamp_below (top_of part.replica) (second_stamp stage s.c known) ≡ true
   second_above x part mixed low told = ⊎_elim
       (λ (above : stamp_below s.c.stamp (tops x.brick.0) ≡ true).
@@ -109,20 +108,19 @@ module _ (stage : Stage) (cast : Cast stage) (logs : ℕ → List Version) (s : 
       = subst (λ (b : Bool). told_time (cond b (Later (tops x.brick.0)) (answer x (logs x.brick.0))) ≤ known) above told in
       let view = low.view in
       subst (λ (z : Stamp). stamp_below z (second_stamp stage s.c known) ≡ true) (sym (mixed.kept above))
-      (low_below s.c.call.view.0 known (tops x.brick.0) (second_stamp stage s.c known) (record { view = view; time = time }) refl (omega arith)))
+      (low_below s.c.stamp.view.0 known (tops x.brick.0) (second_stamp stage s.c known) (record { view = view; time = time }) refl (omega arith)))
       (λ (tame : stamp_below s.c.stamp (tops x.brick.0) ≡ false).
-      let view = first.view in
       let time = first.stamp_known in
       let grows = known_grows in
       at_most_below (top_of part.replica) s.c.stamp (second_stamp stage s.c known) (mixed.same ∙ tame)
-      (low_below s.c.call.view.0 known s.c.stamp (second_stamp stage s.c known) (record { view = omega (arith, view); time = omega (arith, time, grows) })
+      (low_below s.c.stamp.view.0 known s.c.stamp (second_stamp stage s.c known) (record { view = omega arith; time = omega (arith, time, grows) })
       refl (omega arith)))
       (cases_Bool (stamp_below s.c.stamp (tops x.brick.0)))
 
   -- so the second round finds all tame
   second_set : (parts : ℕ → Part) (ys : List Seated) → Holds (MixedWith stage s.c.stamp tops logs) parts ys
       → Each (λ x. ((s.parts x.brick.0).replica.log ≡ logs x.brick.0) × Room stage (s.parts x.brick.0)
-      × IsLow s.c.call.view.0 early (top_of (s.parts x.brick.0).replica)) ys
+      × IsLow s.c.stamp.view.0 early (top_of (s.parts x.brick.0).replica)) ys
       → Each (λ x. LogAscends (logs x.brick.0)) ys → Each (λ x. told_time (f x) ≤ known) ys
       → Holds (TameWith stage (second_stamp stage s.c known) logs) parts ys × IsUnheld logs (second_stamp stage s.c known) ys
   second_set parts [] mixed starts ascends told = (tt, tt)
@@ -154,13 +152,13 @@ module _ (stage : Stage) (cast : Cast stage) (logs : ℕ → List Version) (s : 
   ordering_first silent accepted again =
       ordering_run stage cast logs s answer goes ordering first.open_is early_phase (not_first s.c.stamp first.from_one) tops
       (each_then (λ (x : Seated). ((s.parts x.brick.0).replica.log ≡ logs x.brick.0) × Room stage (s.parts x.brick.0)
-      × IsLow s.c.call.view.0 early (top_of (s.parts x.brick.0).replica))
+      × IsLow s.c.stamp.view.0 early (top_of (s.parts x.brick.0).replica))
       (λ (x : Seated). MixedWith stage s.c.stamp tops logs x.brick.0 (s.parts x.brick.0)) cast.xs
       (λ x start. record { log_is = start.0; room = start.1; same = refl; kept = λ above. refl }) first.starts)
       accepted
       (λ before parts r mixed is.
       subst (λ (z : Next). Carries stage (after_replies stage s known parts first.open_is.others before) z) (sym (tried r)) (
-        record { group = refl; boot = refl; seq = refl; of_group = refl; view = refl; stripe = refl },
+        record { group = refl; prior = refl; boot = refl; seq = refl; of_group = refl; view = refl; stripe = refl },
         second before parts (second_set parts cast.xs mixed first.starts first.ascends
             (through_told stage s.c.call f cast.xs (known_through first.open_is.stale s.known))),
       ))
@@ -183,14 +181,16 @@ module _ (stage : Stage) (cast : Cast stage) (logs : ℕ → List Version) (s : 
           (record {
             open_is = next_open stage cast s.c (reordering (having s.c counted) (second_stamp stage s.c known)) first.open_is.others before
                 (sent stage (after_replies stage s known parts first.open_is.others before) (reordering (having s.c counted) (second_stamp stage s.c known)))
-                first.open_is.group
+                first.open_is.in_view
                 (record {
-                  same = record { group = refl; boot = refl; seq = refl; of_group = refl; view = refl; stripe = refl };
+                  same = record { group = refl; prior = refl; boot = refl; seq = refl; of_group = refl; view = refl; stripe = refl };
+                  ahead = first.open_is.in_view.ahead;
+                  own = view_ahead s.c.stamp s.c.phase first.open_is.in_view.ahead;
                   later = refl;
                   counted = refl;
                 })
                 refl refl;
             tame = tame.0;
-            later = not_first (second_stamp stage s.c known) (let view = first.view in let one = first.from_one in omega (arith, view, one));
+            later = not_first (second_stamp stage s.c known) first.from_one;
           })
           tame.1

@@ -7,35 +7,35 @@ use Rattle.calm_laws.proofs.Asking.{each_then}
 use Rattle.calm_laws.proofs.Rooms.{max_left, max_right}
 use Rattle.calm_laws.proofs.Scenes.{Each, Seated, AreApart}
 use Rattle.fab_base.proofs.StampOrder.{stamp_not_below_trans}
-use Rattle.fab_base.specs.Stamps.{first_stamp, stamp_below}
+use Rattle.fab_base.specs.Stamps.{stamp_below}
 use Rattle.fab_base.specs.declared.stamps.Stamp.{Stamp}
 use Rattle.protocol.specs.Replicas.{stamp_max}
 use Rattle.quorum.proofs.Counts.{AreDistinctBelow, count_monotone, count_seat_in, quorums_share}
 use Rattle.quorum.specs.Quorums.{both, count, q_of}
 use Rattle.quorum.proofs.Counts.{seat_in as is_seat}
 
--- the greatest of some members' lowest versions
-abbrev pub greatest_low : (ℕ → Stamp) → List Seated → Stamp
-greatest_low low [] = first_stamp
-greatest_low low (x ∷ xs) = stamp_max (low x.brick.0) (greatest_low low xs)
+-- the greatest of some members' lowest versions, or this where there are none
+abbrev pub greatest_low : Stamp → (ℕ → Stamp) → List Seated → Stamp
+greatest_low base low [] = base
+greatest_low base low (x ∷ xs) = stamp_max (low x.brick.0) (greatest_low base low xs)
 
 -- none is above it
-pub low_most : (low : ℕ → Stamp) (xs : List Seated) → Each (λ x. stamp_below (greatest_low low xs) (low x.brick.0) ≡ false) xs
-low_most low [] = tt
-low_most low (x ∷ xs) = (
-  max_left (low x.brick.0) (greatest_low low xs),
-  each_then (λ (y : Seated). stamp_below (greatest_low low xs) (low y.brick.0) ≡ false)
-      (λ (y : Seated). stamp_below (greatest_low low (x ∷ xs)) (low y.brick.0) ≡ false) xs
-      (λ y most. stamp_not_below_trans (low y.brick.0) (greatest_low low xs) (greatest_low low (x ∷ xs)) most
-      (max_right (low x.brick.0) (greatest_low low xs))) (low_most low xs),
+pub low_most : (base : Stamp) (low : ℕ → Stamp) (xs : List Seated) → Each (λ x. stamp_below (greatest_low base low xs) (low x.brick.0) ≡ false) xs
+low_most base low [] = tt
+low_most base low (x ∷ xs) = (
+  max_left (low x.brick.0) (greatest_low base low xs),
+  each_then (λ (y : Seated). stamp_below (greatest_low base low xs) (low y.brick.0) ≡ false)
+      (λ (y : Seated). stamp_below (greatest_low base low (x ∷ xs)) (low y.brick.0) ≡ false) xs
+      (λ y most. stamp_not_below_trans (low y.brick.0) (greatest_low base low xs) (greatest_low base low (x ∷ xs)) most
+      (max_right (low x.brick.0) (greatest_low base low xs))) (low_most base low xs),
 )
 
--- and it is one of them, or the first stamp: so what holds of these holds of it
-pub low_one : (P : Stamp → Type 0) (low : ℕ → Stamp) (xs : List Seated) → P first_stamp → ((i : ℕ) → P (low i)) → P (greatest_low low xs)
-low_one P low [] first each = first
-low_one P low (x ∷ xs) first each =
-    cond_both (stamp_below (low x.brick.0) (greatest_low low xs)) (greatest_low low xs) (low x.brick.0) P
-    (λ less. low_one P low xs first each) (λ not_less. each x.brick.0)
+-- and it is one of them, or the other: so what holds of these holds of it
+pub low_one : (P : Stamp → Type 0) (base : Stamp) (low : ℕ → Stamp) (xs : List Seated) → P base → ((i : ℕ) → P (low i)) → P (greatest_low base low xs)
+low_one P base low [] first each = first
+low_one P base low (x ∷ xs) first each =
+    cond_both (stamp_below (low x.brick.0) (greatest_low base low xs)) (greatest_low base low xs) (low x.brick.0) P
+    (λ less. low_one P base low xs first each) (λ not_less. each x.brick.0)
 
 -- the seats of these members
 abbrev pub seats_of : List Seated → List ℕ

@@ -1,6 +1,7 @@
 -- Where just a quorum of an operation's members hear one another, its Collects leave each of them its version only.
-use Rattle.std.proofs.Common.{◌≡◌, ℕ, suc, ◌+◌, ◌≤◌, ◌&&◌, true, nat_lt, List, [], ◌∷◌, ◌++◌, map, Option, Some, None, refl, sym, ap, ◌∙◌, subst, ⊎_elim, take, eqb-true, inl}
-use Rattle.std.specs.Prelude.{is_some, nat_eq, slice_get}
+use Rattle.protocol.specs.Views.{kept_by}
+use Rattle.std.proofs.Common.{◌≡◌, ℕ, suc, ◌+◌, ◌≤◌, ◌&&◌, false, true, nat_lt, List, [], ◌∷◌, ◌++◌, map, Option, Some, None, refl, sym, ap, ◌∙◌, subst, ⊎_elim, take, eqb-true, inl}
+use Rattle.std.specs.Prelude.{is_some, nat_eq, slice_get, ◌-◌}
 use Rattle.std.proofs.lemmas.Bool.{false≢true, or_cases, and_from, cond-true}
 use Rattle.std.proofs.lemmas.Option.{same_Some}
 use Rattle.fab_base.specs.Layouts.{Layout, Group, group_of, seat_in}
@@ -12,20 +13,20 @@ use Rattle.messages.specs.declared.packets.Message.{Message}
 use Rattle.messages.specs.declared.packets.Packet.{Packet}
 use Rattle.messages.specs.declared.requests.Request.{Request}
 use Rattle.messages.specs.declared.requests.Version.{Version}
-use Rattle.protocol.specs.Calms.{IsCalm}
-use Rattle.protocol.specs.Coordinators.{Coordinator}
+use Rattle.protocol.specs.Calms.{IsCalm, may_ask_prior}
+use Rattle.protocol.specs.Coordinators.{Coordinator, looks_back}
 use Rattle.protocol.specs.Nodes.{Node, collect_packets, replica_at, to_members, view_at}
 use Rattle.protocol.specs.Replicas.{Replica, not_below}
 use Rattle.protocol.specs.Settings.{IsSound, Setting}
 use Rattle.protocol.specs.Worlds.{Delivers, Event, Operation, World, first_world, is_up, run}
 use Rattle.protocol.specs.declared.phases.Phase.{Phase}
-use Rattle.protocol.specs.declared.phases.Phase.TheVariants.{Bases, Descends, Looks, LooksAt, Modifies, Orders, OrdersAt, Recovers, Stores}
+use Rattle.protocol.specs.declared.phases.Phase.TheVariants.{Bases, Descends, Looks, LooksAt, Modifies, Orders, OrdersAt, Recovers, Stores, LooksBack}
 use Rattle.protocol_laws.proofs.Books.{Books, CallBooks, IsMade, MadeInPhase, version_after}
 use Rattle.protocol_laws.proofs.BooksEvents.{books, brick_of}
 use Rattle.protocol_laws.proofs.Falls.{always_logged}
 use Rattle.protocol_laws.proofs.Logs.{LogAscends}
 use Rattle.protocol_laws.proofs.Outcomes.{IsLook}
-use Rattle.protocol.proofs.Tables.{get_added}
+use Rattle.protocol.proofs.Tables.{get_added, get_kept}
 use Rattle.calm_laws.proofs.Calmness.{each_counts, finishes}
 use Rattle.calm_laws.proofs.Casting.{chosen, seat_some}
 use Rattle.calm_laws.proofs.Collecting.{all_leave}
@@ -35,10 +36,10 @@ use Rattle.calm_laws.proofs.Known.{Known}
 use Rattle.calm_laws.proofs.Once.{IsOnce, always_once, only_newest}
 use Rattle.calm_laws.proofs.Plays.{Finishes, HasEnded}
 use Rattle.protocol.proofs.Events.{run-append}
-use Rattle.calm_laws.proofs.Scenes.{Each, EndsAt, IsNewest, Part, Stage}
-use Rattle.calm_laws.proofs.Shows.{IsMember, call_same_but}
+use Rattle.calm_laws.proofs.Scenes.{Each, EndsAt, IsNewest, Part, Stage, view_ahead}
+use Rattle.calm_laws.proofs.Shows.{IsMember}
 use Rattle.calm_laws.proofs.Storing.{held_newest}
-use Rattle.calm_laws.specs.Laws.{AreCollects, AreJustQuorum, CollectsLeaveOne, EncodesBlocks, HasOnly, IsCollect, IsMemberAmong, LeavesOne, RunsInFirst, most_records}
+use Rattle.calm_laws.specs.Laws.{AreCollects, AreJustQuorum, CollectsLeaveOne, EncodesBlocks, HasOnly, HasStripe, IsCollect, IsMemberAmong, LeavesOne, most_records}
 use Rattle.calm_laws.specs.Logs.{is_stripe, log_in}
 use Rattle.quorum.specs.Quorums.{quorum_of}
 
@@ -50,6 +51,7 @@ made_is c o Orders unmade made = absurd (false≢true (sym unmade.1 ∙ made))
 made_is c o (OrdersAt j) unmade made = absurd (false≢true (sym unmade.1 ∙ made))
 made_is c o Recovers unmade made = absurd (false≢true (sym unmade.1 ∙ made))
 made_is c o (Descends bound) unmade made = absurd (false≢true (sym unmade.1 ∙ made))
+made_is c o (LooksBack bound) unmade made = absurd (false≢true (sym unmade.1 ∙ made))
 made_is c o (Modifies base j) is made = is.0
 made_is c o (Bases base) is made = is.0
 made_is c o Stores is made = is
@@ -97,6 +99,11 @@ shown_log layout v brick group call g s group_is of_group of_stripe up within vi
     node : Node
     node = v.nodes brick.0
 
+-- a phase in which a version was made does not look back
+made_ahead : (c : Coordinator) (o : Operation) (phase : Phase) → MadeInPhase c o phase → o.made ≡ true → looks_back phase ≡ false
+made_ahead c o (LooksBack bound) its made = absurd (false≢true (sym its.1 ∙ made))
+made_ahead c o phase its made = refl
+
 -- where an operation has ended whose version is t, that was stored, and is the newest at the members whose replies count
 ends_stored : (stage : Stage) (c : Coordinator) (o : Operation) (parts : ℕ → Part) (t : Stamp) (seen stored : Option Stamp)
     → MadeInPhase c o c.phase → o.made ≡ true → version_after o.version seen ≡ Some t → EndsAt stage c.phase c.stamp parts seen stored
@@ -109,15 +116,15 @@ ends_stored stage c o parts t None (Some u) its made version ends =
 
 module _ (setting : Setting) (events : List Event) (n : ℕ) (bricks : List BrickId) (sound : IsSound setting) (encodes : EncodesBlocks setting)
     (small : setting.layout.records ≤ most_records) (calm : IsCalm setting (run setting events (first_world setting.layout)) n bricks)
-    (first : RunsInFirst calm.coordinator) (exactly : AreJustQuorum calm.coordinator bricks) (t : Stamp) where
+    (has_stripe : HasStripe setting calm.operation) (exactly : AreJustQuorum calm.coordinator bricks) (t : Stamp) where
   abbrev w : World
   w = run setting events (first_world setting.layout)
 
   abbrev c : Coordinator
   c = calm.coordinator
 
-  known : Known setting w n calm.operation c
-  known = known_of setting events n bricks sound encodes small calm first
+  known : Known setting w n calm.operation c bricks
+  known = known_of setting events n bricks sound encodes small calm has_stripe
 
   abbrev stage : Stage
   stage = record {
@@ -125,8 +132,12 @@ module _ (setting : Setting) (events : List Event) (n : ℕ) (bricks : List Bric
     bricks = bricks;
     me = calm.operation.brick;
     now = w.clocks calm.operation.brick.0;
+    call = c.call;
     group = c.group;
     quorum = take (quorum_of c.group) (chosen bricks 0 c.group.members);
+    prior = kept_by c.prior c.group;
+    may_ask = may_ask_prior w c bricks;
+    old = λ i. ((w.nodes i).replicas c.call.group.0 (c.call.view.0 - 1) c.call.stripe.0).log;
   }
 
   module _ (finish : Finishes stage n c w) (made : finish.end.operation.made ≡ true) (version : finish.end.operation.version ≡ Some t) where
@@ -159,9 +170,20 @@ module _ (setting : Setting) (events : List Event) (n : ℕ) (bricks : List Bric
         ends_stored stage d end.before end.parts t end.seen end.stored
         (subst (λ (o : Operation). MadeInPhase d o d.phase) its_operation its.made) (sym end.made ∙ made) (sym end.version ∙ version) end.ends
 
-    -- the call of the last phase is of the same stripe
-    same_part : (node : Node) → replica_at node d.call ≡ replica_at node c.call
-    same_part node = ap (λ (call : Call). replica_at node call) (call_same_but c d end.same)
+    -- the last phase asks the members of the operation's view
+    ahead : looks_back d.phase ≡ false
+    ahead = made_ahead d end.before d.phase (subst (λ (o : Operation). MadeInPhase d o d.phase) its_operation its.made) (sym end.made ∙ made)
+
+    -- its call is of the same stripe
+    last_call : d.call ≡ record c.call { phase = d.call.phase }
+    last_call = λ i. record {
+      boot = end.same.boot i;
+      seq = end.same.seq i;
+      phase = d.call.phase;
+      group = end.same.of_group i;
+      view = (its.call_view ∙ view_ahead d.stamp d.phase ahead ∙ end.same.view ∙ sym known.call.view) i;
+      stripe = end.same.stripe i;
+    }
 
     -- the world is a run's
     reached : run setting (events ++ finish.events) (first_world setting.layout) ≡ last
@@ -176,7 +198,7 @@ module _ (setting : Setting) (events : List Event) (n : ℕ) (bricks : List Bric
       -- the version is the newest at each of the members
       newest : IsNewest t log
       newest =
-          subst (λ (r : Replica). IsNewest t r.log) (sym (end.kept brick among.0) ∙ same_part (last.nodes brick.0))
+          subst (λ (r : Replica). IsNewest t r.log) (sym (end.kept brick among.0))
           (each_counts setting sound encodes w n bricks calm known exactly (λ b. IsNewest t (end.parts b.0).replica.log) was_stored.1 brick among.0 among.1)
 
       ascends : LogAscends log
@@ -195,8 +217,7 @@ module _ (setting : Setting) (events : List Event) (n : ℕ) (bricks : List Bric
       only_one numbers collects =
           let own = collects.all brick among in
           let seat = seat_there (seat_in c.group.members brick.0) among.1 in
-          let member : IsMember stage last (record c.call { phase = d.call.phase }) brick
-          = subst (λ (call : Call). IsMember stage last call brick) (call_same_but c d end.same) (end.members brick among.0) in
+          let member : IsMember stage last c.call brick = end.members brick among.0 in
           let keeps = all_leave stage c last calm.operation.brick t brick seat.0 seat.1 newest.0 log newest.2 (held_newest t log newest)
           (subst (λ (z : Stamp). not_below z log ≡ newest.0 ∷ []) newest.2 (only_newest log newest.0 ascends once newest.1))
           numbers last collects.each own.0 own.1 own.2 own.3
@@ -213,10 +234,11 @@ module _ (setting : Setting) (events : List Event) (n : ℕ) (bricks : List Bric
             packets = λ number packet is. is;
           })) in (
             newest.0.block,
-            shown_log setting.layout (run setting (map (λ number. Delivers number) numbers) last) brick c.group c.call calm.operation.ask.group.0
-                calm.operation.ask.stripe.0 (ap (λ (a : Ask). group_of setting.layout a.group.0) (sym known.call.ask) ∙ known.call.group_is)
+            shown_log setting.layout (run setting (map (λ number. Delivers number) numbers) last) brick known.call.base c.call calm.operation.ask.group.0
+                calm.operation.ask.stripe.0 (ap (λ (a : Ask). group_of setting.layout a.group.0) (sym known.call.ask) ∙ known.call.base_is)
                 (ap (λ g. g.0) known.call.of_group ∙ ap (λ (a : Ask). a.group.0) known.call.ask)
-                (ap (λ s. s.0) known.call.stripe ∙ ap (λ (a : Ask). a.stripe.0) known.call.ask) keeps.member.up keeps.member.stripe keeps.member.view
+                (ap (λ s. s.0) known.call.stripe ∙ ap (λ (a : Ask). a.stripe.0) known.call.ask) keeps.member.up
+                (ap (λ (k : ℕ). nat_lt c.call.stripe.0 k) known.call.stripes ∙ keeps.member.stripe) keeps.member.view
                 ∙ ap (λ (l : List Version). Some l) keeps.log_is
                 ∙ ap (λ (s : Stamp). Some ((let x : Version = record { stamp = s; block = newest.0.block } in x) ∷ [])) newest.2,
           )
@@ -226,16 +248,17 @@ module _ (setting : Setting) (events : List Event) (n : ℕ) (bricks : List Bric
       was_sent =
           let there = sent_each calm.operation.brick d.call (Request.Collect t) 0 d.group.members brick
           (ap (λ g. is_some (seat_in g.members brick.0)) end.same.group ∙ among.1) in
-          let at = get_added before.packets (to_members calm.operation.brick d.call (λ j. Request.Collect t) 0 d.group.members) there.0 _ there.1 in (
+          let collects : List Packet = to_members calm.operation.brick d.call (λ j. Request.Collect t) 0 d.group.members in
+          let at = get_added before.packets (collects ++ end.more) there.0 _ (get_kept collects end.more there.0 _ there.1) in (
             suc at.0,
             record {
               phase = d.call.phase;
               is = ap (λ (l : List Packet). slice_get l at.0)
-                  (end.packets ∙ ap (λ (z : Option Stamp). before.packets ++ collect_packets calm.operation.brick d z) was_stored.0)
+                  (end.packets ∙ ap (λ (z : Option Stamp). before.packets ++ (collect_packets calm.operation.brick d z ++ end.more)) was_stored.0)
                   ∙ at.1
                   ∙ ap (λ (call : Call). Some (let packet : Packet
                   = record { from = calm.operation.brick; to = brick; message = Message.Request call (Request.Collect t) } in packet))
-                  (call_same_but c d end.same);
+                  last_call;
             },
           )
 
@@ -245,12 +268,12 @@ module _ (setting : Setting) (events : List Event) (n : ℕ) (bricks : List Bric
 
 -- after every schedule
 pub collects_leave : CollectsLeaveOne
-collects_leave setting events n bricks sound encodes small calm first alone last runs exactly operation t is made version =
+collects_leave setting events n bricks sound encodes small calm has_stripe alone last runs exactly operation t is made version =
     let w : World = run setting events (first_world setting.layout) in
-    let finish = finishes setting sound encodes w n bricks calm (known_of setting events n bricks sound encodes small calm first) in
+    let finish = finishes setting sound encodes w n bricks calm (known_of setting events n bricks sound encodes small calm has_stripe) in
     let same : finish.last ≡ last = (runs_once setting n bricks w finish.events finish.last finish.alone alone last runs).1 in
     let its : finish.end.operation ≡ operation
     = same_Some finish.end.operation operation (sym finish.end.is ∙ ap (λ (z : World). z.operations n) same ∙ is) in
     subst (λ (z : World). LeavesOne setting z calm.operation calm.coordinator t bricks) same
-    (leaves_one setting events n bricks sound encodes small calm first exactly t finish
+    (leaves_one setting events n bricks sound encodes small calm has_stripe exactly t finish
     (ap (λ (o : Operation). o.made) its ∙ made) (ap (λ (o : Operation). o.version) its ∙ version))

@@ -9,6 +9,7 @@ pub mod FreshTicked
 pub mod Keys
 pub mod StepsOf
 pub mod Asking
+pub mod Backward
 pub mod Beginnings
 pub mod BlockWrites
 pub mod Calmness

@@ -1,5 +1,6 @@
 -- A brick counts its live records: each order stamp above the first one, and each version but the one from the start. So no log is longer than that
 -- count by more than one.
+use Rattle.view_laws.proofs.Syncing.{synced_of}
 use Rattle.std.proofs.lemmas.Option.{same_Some}
 use Rattle.std.proofs.Common.{lt-ltb, le-ltb, ◌≡◌, ◌≢◌, ℕ, zero, suc, ◌+◌, ◌-◌, ◌≤◌, ◌<◌, Bool, true, false, not, ◌&&◌, cond, List, [], ◌∷◌, ◌++◌, length, Option, Some, None, refl, sym, ap, ◌∙◌, subst, ⊎_elim, arith, length-append, replicate, ltb-false}
 use Rattle.std.specs.Prelude.{slice_get, nat_eq, nat_lt, if◌then◌else◌}
@@ -19,7 +20,7 @@ use Rattle.protocol.specs.Settings.{Code}
 use Rattle.protocol.specs.Replicas.{Replica, Reaction, top_of, is_held, is_wanted, told_version, looked_up, stays, unless_full, promised, stored, below, not_below, drops_start, collected, ignored, handle, modified_block, first_replica, fresh_replica, modified_on, newest_of}
 use Rattle.messages.specs.declared.calls.Call.{Call}
 use Rattle.fab_base.specs.declared.member_lists.View.{View}
-use Rattle.protocol.specs.Views.{Learnt, is_later, kept_by}
+use Rattle.protocol.specs.Views.{Learnt, is_later, kept_by, first_kept}
 use Rattle.protocol.specs.Nodes.{Node, NodeStep, put, requested, with_replica, with_learnt, replica_at, full_at, group_at, live_before, view_at, first_node}
 use Rattle.protocol.specs.Worlds.{World, Event, first_world, run}
 use Rattle.protocol.specs.Settings.{Setting}
@@ -641,10 +642,11 @@ fresh_begins block e =
     cond_both (nat_eq e 1) (first_replica block) _ Begins
     (λ one starts. (record { stamp = first_stamp; block = replicate block 0 }, [], refl, refl)) (λ other starts. absurd (false≢true starts))
 
--- and so it does where a brick learns a view
-view_counts : (setting : Setting) (group : ℕ) (node : Node) (view : View) → NodeViews setting.layout node → is_later (node.learnt group) view ≡ true
-    → CountsLives setting.layout node → CountsLives setting.layout (with_learnt setting.layout.block group node (newly_learnt view))
-view_counts setting group node view has later counts = record {
+-- And so it does where a brick has learnt this of a view, which is not before the one that it had learnt: it keeps so many views up to that.
+learnt_counts : (setting : Setting) (group : ℕ) (node : Node) (learnt : Learnt) (kept : ℕ) → view_at node group ≤ learnt.view.number.0
+    → suc learnt.view.number.0 ≡ kept + first_kept learnt
+    → CountsLives setting.layout node → CountsLives setting.layout (with_learnt setting.layout.block group node learnt)
+learnt_counts setting group node learnt kept rises long counts = record {
   live_is = total (group_of setting.layout group) refl;
   lives = λ g e some there. ⊎_elim
       (λ (same : g ≡ group).
@@ -668,24 +670,21 @@ view_counts setting group node view has later counts = record {
       (λ higher.
       ap (λ (f : ℕ → ℕ). f e) (put_same node.live_in group kept_counts)
       ∙ cond_both (nat_lt e first) 0 (node.live_in group e) (λ (n : ℕ). n ≡ 0) (λ dropped_is. refl)
-      (λ isnt. counts.beyond group e (let up : view.number.0 < e = subst (λ (l : Learnt). l.view.number.0 < e) learnt_is higher in
+      (λ isnt. counts.beyond group e (let up : learnt.view.number.0 < e = subst (λ (l : Learnt). l.view.number.0 < e) learnt_is higher in
       let low = rises in omega (arith, up, low)))) above)
       (λ (other : g ≢ group).
       ap (λ (f : ℕ → ℕ). f e) (put_other node.live_in group kept_counts g other)
-      ∙ counts.beyond g e (subst (λ (l : Learnt). l.view.number.0 < e) (put_other node.learnt group (newly_learnt view) g other) above))
+      ∙ counts.beyond g e (subst (λ (l : Learnt). l.view.number.0 < e) (put_other node.learnt group learnt g other) above))
       (cases_eq g group);
   begins = dropped_each (λ g e s r. Begins r) setting.layout.block group first node counts.begins (λ e s before. fresh_begins setting.layout.block e);
   most = let had = counts.most in let by : next.live ≡ node.live - live_before first (node.live_in group) = refl in omega (arith, had, by);
 }
   where
     next : Node
-    next = with_learnt setting.layout.block group node (newly_learnt view)
+    next = with_learnt setting.layout.block group node learnt
 
     first : ℕ
-    first = view.number.0 - 1
-
-    rises : view_at node group < view.number.0
-    rises = ltb-true (view_at node group) view.number.0 later
+    first = first_kept learnt
 
     kept_counts : ℕ → ℕ
     kept_counts = dropped first (node.live_in group)
@@ -693,8 +692,8 @@ view_counts setting group node view has later counts = record {
     kept_parts : ℕ → ℕ → Replica
     kept_parts e s = if nat_lt e first then fresh_replica setting.layout.block e else node.replicas group e s
 
-    learnt_is : next.learnt group ≡ newly_learnt view
-    learnt_is = put_same node.learnt group (newly_learnt view)
+    learnt_is : next.learnt group ≡ learnt
+    learnt_is = put_same node.learnt group learnt
 
     own_lives : (e : ℕ) (some : Group) → group_of setting.layout group ≡ Some some → next.live_in group e ≡ stripes_weight (next.replicas group e) some.stripes
     own_lives e some here =
@@ -709,23 +708,20 @@ view_counts setting group node view has later counts = record {
     -- the count of the group, without what is dropped
     group_now : group_lives next group + live_before first (node.live_in group) ≡ group_lives node group
     group_now =
-        let first_is : first ≡ view.number.0 - 1 = refl in
-        let most : view.number.0 ≡ first + 1 = let low = rises in omega (arith, low, first_is) in
-        let long : suc view.number.0 ≡ 2 + first = omega (arith, most) in
-        let new : group_lives next group ≡ live_before (2 + first) (dropped first (node.live_in group))
+        let new : group_lives next group ≡ live_before (kept + first) (dropped first (node.live_in group))
         = ap (λ (l : Learnt). live_before (suc l.view.number.0) (next.live_in group)) learnt_is
-        ∙ ap (λ (f : ℕ → ℕ). live_before (suc view.number.0) f) (put_same node.live_in group kept_counts)
+        ∙ ap (λ (f : ℕ → ℕ). live_before (suc learnt.view.number.0) f) (put_same node.live_in group kept_counts)
         ∙ ap (λ (n : ℕ). live_before n (dropped first (node.live_in group))) long in
-        let whole = before_dropped (node.live_in group) first 2 in
-        let rest : live_before (2 + first) (node.live_in group) ≡ group_lives node group
+        let whole = before_dropped (node.live_in group) first kept in
+        let rest : live_before (kept + first) (node.live_in group) ≡ group_lives node group
         = ap (λ (n : ℕ). live_before n (node.live_in group))
-        (let parts : 2 + first ≡ (2 + first - suc (view_at node group)) + suc (view_at node group) = let low = rises in omega (arith, low, long) in parts)
-        ∙ before_more (node.live_in group) (suc (view_at node group)) (2 + first - suc (view_at node group)) (λ j above. counts.beyond group j (omega (arith, above))) in
+        (let parts : kept + first ≡ (kept + first - suc (view_at node group)) + suc (view_at node group) = let low = rises in omega (arith, low, long) in parts)
+        ∙ before_more (node.live_in group) (suc (view_at node group)) (kept + first - suc (view_at node group)) (λ j above. counts.beyond group j (omega (arith, above))) in
         omega (arith, new, whole, rest)
 
     other_now : (j : ℕ) → j ≢ group → group_lives next j ≡ group_lives node j
     other_now j other =
-        ap (λ (l : Learnt). live_before (suc l.view.number.0) (next.live_in j)) (put_other node.learnt group (newly_learnt view) j other)
+        ap (λ (l : Learnt). live_before (suc l.view.number.0) (next.live_in j)) (put_other node.learnt group learnt j other)
         ∙ ap (λ (f : ℕ → ℕ). live_before (suc (view_at node j)) f) (put_other node.live_in group kept_counts j other)
 
     place : 0 + group ≡ group
@@ -760,6 +756,18 @@ view_counts setting group node view has later counts = record {
         let by : next.live ≡ node.live - live_before first (node.live_in group) = refl in
         omega (arith, sum, was, is, now, live, all, by)
 
+-- so it does where it learns a view
+view_counts : (setting : Setting) (group : ℕ) (node : Node) (view : View) → NodeViews setting.layout node → is_later (node.learnt group) view ≡ true
+    → CountsLives setting.layout node → CountsLives setting.layout (with_learnt setting.layout.block group node (newly_learnt view))
+view_counts setting group node view has later counts =
+    let rises : view_at node group < view.number.0 = ltb-true (view_at node group) view.number.0 later in
+    learnt_counts setting group node (newly_learnt view) 2 (omega (arith, rises)) (omega (arith, rises)) counts
+
+-- and where it hears that the view is synced
+sync_counts : (setting : Setting) (group : ℕ) (node : Node) → NodeViews setting.layout node → CountsLives setting.layout node
+    → CountsLives setting.layout (with_learnt setting.layout.block group node (synced_of node group))
+sync_counts setting group node has counts = learnt_counts setting group node (synced_of node group) 1 (omega arith) (omega arith) counts
+
 -- all bricks do
 abbrev pub AllCount : Setting → World → Type 0
 AllCount setting w = (i : ℕ) → CountsLives setting.layout (w.nodes i)
@@ -779,7 +787,7 @@ none_at_all f (group ∷ groups) g none =
 
 pub always_count : (setting : Setting) (events : List Event) → AllCount setting (run setting events (first_world setting.layout))
 always_count setting events =
-    always_kept setting (CountsLives setting.layout) (counts_same setting.layout) (request_counts setting) (view_counts setting)
+    always_kept setting (CountsLives setting.layout) (counts_same setting.layout) (request_counts setting) (view_counts setting) (sync_counts setting)
     (record {
       live_is = sym (none_at_all (group_lives (first_node setting.layout)) setting.layout.groups 0 (λ j. none_live 2));
       lives = λ g e group is. sym (fresh_stripes setting.layout.block e group.stripes);

@@ -9,13 +9,12 @@ use Rattle.calm_laws.proofs.Descending.{Lore, after_replies, having}
 use Rattle.calm_laws.proofs.FirstRounds.{IsFirst, IsLow}
 use Rattle.calm_laws.proofs.Hearing.{known_through}
 use Rattle.protocol_laws.proofs.Logs.{newest_stands}
-use Rattle.calm_laws.proofs.OrderPhases.{after_in_phase}
 use Rattle.calm_laws.proofs.OrderRuns.{IsUnheld}
 use Rattle.calm_laws.proofs.Ordering.{told_from}
 use Rattle.calm_laws.proofs.PhaseRuns.{Cast, known_then, open_run, stale_then}
 use Rattle.calm_laws.proofs.Rooms.{Room}
 use Rattle.calm_laws.proofs.Rounds.{stays_room}
-use Rattle.calm_laws.proofs.Scenes.{Closes, Each, Fits, Part, Scene, Seated, Stage, asked_of, part_after, reaction, sent}
+use Rattle.calm_laws.proofs.Scenes.{Closes, Each, Fits, Part, Scene, Seated, Stage, asked_of, part_after, reaction, sent, of_same}
 use Rattle.calm_laws.proofs.Starts.{AreFew, recover_first}
 use Rattle.calm_laws.proofs.StorePhases.{fits_in_phase}
 use Rattle.calm_laws.proofs.Storing.{with_reaction}
@@ -137,7 +136,7 @@ looks_at_looking stage s j phase = record {
     go counted None fresh is = inl is
     go counted (Some v) fresh is = inr (bytes_at j counted, Some v, is)
 
-module _ (stage : Stage) (cast : Cast stage) (logs : ℕ → List Version) (lore : Lore stage cast logs) (few : AreFew stage cast logs) (s : Scene)
+module _ (stage : Stage) (cast : Cast stage) (logs : ℕ → List Version) (lore : Lore stage cast logs) (few : AreFew stage cast logs lore) (s : Scene)
     (first : IsFirst stage cast logs s) (want : Want) (looking_is : IsLooking stage s want) where
   abbrev replicas : ℕ → Replica
   replicas i = (s.parts i).replica
@@ -171,7 +170,7 @@ module _ (stage : Stage) (cast : Cast stage) (logs : ℕ → List Version) (lore
       both : (ys : List Seated)
           → Each (λ x. (k : ℕ) (version : Version) → slice_get (logs x.brick.0) k ≡ Some version → length version.block ≡ stage.setting.layout.block) ys
           → Each (λ x. ((s.parts x.brick.0).replica.log ≡ logs x.brick.0) × Room stage (s.parts x.brick.0)
-          × IsLow s.c.call.view.0 early (top_of (s.parts x.brick.0).replica)) ys
+          × IsLow s.c.stamp.view.0 early (top_of (s.parts x.brick.0).replica)) ys
           → Each (λ x. answers_phase stage.setting.layout.block s.c.stamp x.seat s.c.phase (f x) ≡ true) ys
       both [] long starts = tt
       both (y ∷ ys) long starts =
@@ -185,19 +184,18 @@ module _ (stage : Stage) (cast : Cast stage) (logs : ℕ → List Version) (lore
       let own = first.stamp_known in
       record {
         open_is = record {
-          group = first.open_is.group;
+          in_view = record { of = of_same stage s.c (in_phase (having s.c counted) Recovers) (record { group = refl; prior = refl; boot = refl; seq = refl; of_group = refl; view = refl; stripe = refl }) first.open_is.in_view.of; ahead = refl; own = refl };
           counted = refl;
           stale = told_all stage s.c first.open_is.others before;
-          old = stale_then stage s.c (in_phase (having s.c counted) Recovers) (after_in_phase s.c counted Recovers)
+          old = stale_then stage s.c (in_phase (having s.c counted) Recovers) (record { group = refl; prior = refl; boot = refl; seq = refl; of_group = refl; view = refl; stripe = refl }) refl
               (told_all stage s.c first.open_is.others before) (told_replies stage s.c first.open_is.others before);
           others = cast.rest;
           others_seated = cast.rest_seated;
           waiting = ap (λ (q : List Packet). told_all stage s.c first.open_is.others before ++ q)
-              (cast.sends (in_phase (having s.c counted) Recovers) first.open_is.group);
+              (cast.sends (in_phase (having s.c counted) Recovers) (record { of = of_same stage s.c (in_phase (having s.c counted) Recovers) (record { group = refl; prior = refl; boot = refl; seq = refl; of_group = refl; view = refl; stripe = refl }) first.open_is.in_view.of; ahead = refl; own = refl }));
         };
         quiet = looks_quiet stage s.c want looking_is.asks first.open_is.others before (max known s.c.stamp.time);
         round = first.round;
-        view = first.view;
         from_one = first.from_one;
         stamp_known = omega arith;
         known_early = omega (arith, same, low, own);
@@ -207,15 +205,15 @@ module _ (stage : Stage) (cast : Cast stage) (logs : ℕ → List Version) (lore
     where
       both : (ys : List Seated) → Holds (IsStill stage replicas) parts ys
           → Each (λ x. ((s.parts x.brick.0).replica.log ≡ logs x.brick.0) × Room stage (s.parts x.brick.0)
-          × IsLow s.c.call.view.0 early (top_of (s.parts x.brick.0).replica)) ys
+          × IsLow s.c.stamp.view.0 early (top_of (s.parts x.brick.0).replica)) ys
           → Each (λ x. ((parts x.brick.0).replica.log ≡ logs x.brick.0) × Room stage (parts x.brick.0)
-          × IsLow s.c.call.view.0 early (top_of (parts x.brick.0).replica)) ys
+          × IsLow s.c.stamp.view.0 early (top_of (parts x.brick.0).replica)) ys
       both [] still starts = tt
       both (y ∷ ys) still starts = (
         (
           ap (λ (r : Replica). r.log) still.0.0 ∙ starts.0.0,
           still.0.1,
-          subst (λ (r : Replica). IsLow s.c.call.view.0 early (top_of r)) (sym still.0.0) starts.0.2,
+          subst (λ (r : Replica). IsLow s.c.stamp.view.0 early (top_of r)) (sym still.0.0) starts.0.2,
         ),
         both ys still.1 starts.1,
       )
@@ -226,11 +224,11 @@ module _ (stage : Stage) (cast : Cast stage) (logs : ℕ → List Version) (lore
       open_run stage cast s first.open_is (IsStill stage replicas) f (omega (arith, early)) (λ x seated. looking_is.fits x)
       (still_keeps stage s.c want replicas looking_is.asks) (still_replies stage s.c want replicas looking_is.asks)
       (each_then (λ (x : Seated). ((s.parts x.brick.0).replica.log ≡ logs x.brick.0) × Room stage (s.parts x.brick.0)
-      × IsLow s.c.call.view.0 early_time (top_of (s.parts x.brick.0).replica)) (λ (x : Seated). IsStill stage replicas x.brick.0 (s.parts x.brick.0)) cast.xs
+      × IsLow s.c.stamp.view.0 early_time (top_of (s.parts x.brick.0).replica)) (λ (x : Seated). IsStill stage replicas x.brick.0 (s.parts x.brick.0)) cast.xs
       (λ x start. (refl, start.1)) first.starts)
       told_answers
       (λ before parts still. go before parts still
-      (looking_is.decides_so (fresh_at stage s.c known) counted (none_stops f (λ x. refl) (λ x. refl) cast.xs)))
+      (looking_is.decides_so (fresh_at stage s.c known) counted (none_stops f (record { unmoved = λ x. refl; undropped = λ x. refl; unfull = λ x. refl }) cast.xs)))
     where
       early_time : ℕ
       early_time = 2 ^ 63
@@ -250,7 +248,7 @@ module _ (stage : Stage) (cast : Cast stage) (logs : ℕ → List Version) (lore
           → Carries stage (after_replies stage s known parts first.open_is.others before) (decides stage s.c known counted)
       go before parts still (inl is) =
           subst (λ (z : Next). Carries stage (after_replies stage s known parts first.open_is.others before) z) (sym is) (
-            record { group = refl; boot = refl; seq = refl; of_group = refl; view = refl; stripe = refl },
+            record { group = refl; prior = refl; boot = refl; seq = refl; of_group = refl; view = refl; stripe = refl },
             recover_first stage cast logs lore few
                 (sent stage (after_replies stage s known parts first.open_is.others before) (in_phase (having s.c counted) Recovers))
                 (recovery_first counted before parts known known_is still) refl (omega (arith, early)) unheld,

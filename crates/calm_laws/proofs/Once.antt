@@ -1,4 +1,5 @@
 -- No stamp stands twice in a log. So a log that drops what is below its newest version has only that.
+use Rattle.view_laws.proofs.Syncing.{synced_of}
 use Rattle.std.proofs.Common.{◌≡◌, ℕ, Bool, true, false, cond, List, [], ◌∷◌, ◌++◌, Option, Some, None, refl, sym, ap, subst, ◌∙◌, ⊎_elim, not}
 use Rattle.std.proofs.lemmas.Bool.{cond_both, cases_Bool, false≢true, or_parts, or_from}
 use Rattle.std.specs.Prelude.{nat_eq, nat_lt}
@@ -129,12 +130,19 @@ view_once setting group node view has later once =
     dropped_each (λ g e s r. IsOnce r.log) setting.layout.block group (first_kept (newly_learnt view)) node once
     (λ e s before. fresh_once setting.layout.block e)
 
+-- or a view that it hears to be synced
+sync_once : (setting : Setting) (group : ℕ) (node : Node) → NodeViews setting.layout node → LogsOnce node
+    → LogsOnce (with_learnt setting.layout.block group node (synced_of node group))
+sync_once setting group node has once =
+    dropped_each (λ g e s r. IsOnce r.log) setting.layout.block group (first_kept (synced_of node group)) node once
+    (λ e s before. fresh_once setting.layout.block e)
+
 -- so have all logs in every run
 pub always_once : (setting : Setting) (events : List Event) (i : ℕ) → LogsOnce ((run setting events (first_world setting.layout)).nodes i)
 always_once setting events =
     always_kept setting LogsOnce
     (λ old new like once g e s. subst (λ (f : ℕ → ℕ → ℕ → Replica). IsOnce (f g e s).log) (sym like.replicas) (once g e s))
-    (request_once setting) (view_once setting) (λ g e s. fresh_once setting.layout.block e) events
+    (request_once setting) (view_once setting) (sync_once setting) (λ g e s. fresh_once setting.layout.block e) events
 
 -- what is not below the newest version is that version
 pub only_newest : (log : List Version) (version : Version) → LogAscends log → IsOnce log → newest_of log ≡ Some version

@@ -4,14 +4,14 @@ use Rattle.std.specs.Prelude.{◌-◌, ◌^◌}
 use Rattle.calm_laws.proofs.Asking.{Holds, each_then}
 use Rattle.calm_laws.proofs.Counts.{Carries, counted_of}
 use Rattle.calm_laws.proofs.Decided.{order_decides, recover_decides}
-use Rattle.calm_laws.proofs.Descending.{are_taking, IsSet, Lore, after_replies, down_phase, having, read_back_goes, told_fits}
+use Rattle.calm_laws.proofs.Descending.{are_taking, IsSet, Lore, after_replies, down_phase, having, read_back_goes, told_fits, Ground, IsAbove}
 use Rattle.calm_laws.proofs.Finds.{Has, finding, some_of, total_below}
 use Rattle.protocol_laws.proofs.Logs.{LogAscends}
 use Rattle.calm_laws.proofs.OrderRuns.{IsOrdering, IsUnheld, held_below}
 use Rattle.calm_laws.proofs.Ordering.{TameWith, looking, order_fits, orders_ask, read_fits, recovers_ask, told_below}
 use Rattle.calm_laws.proofs.PhaseRuns.{Cast, IsAfter, next_open}
 use Rattle.calm_laws.proofs.Rounds.{order_whole, reads_whole}
-use Rattle.calm_laws.proofs.Scenes.{Closes, Each, Part, Scene, Seated, Stage, made, sent}
+use Rattle.calm_laws.proofs.Scenes.{Closes, Each, Part, Scene, Seated, Stage, made, sent, IsInView, view_ahead}
 use Rattle.calm_laws.proofs.StorePhases.{each_so, store_phase}
 use Rattle.fab_base.specs.Stamps.{first_stamp, stamp_below, stamp_same}
 use Rattle.fab_base.specs.declared.stamps.Stamp.{Stamp}
@@ -19,33 +19,40 @@ use Rattle.messages.specs.declared.replies.Reply.TheVariants.{Later, Ordered}
 use Rattle.messages.specs.declared.requests.Look.TheVariants.{Below}
 use Rattle.messages.specs.declared.requests.Version.{Version}
 use Rattle.messages.specs.declared.requests.Want.{Want}
-use Rattle.protocol.specs.Coordinators.{Coordinator, Makes, Next, answers_phase, greatest_found, in_phase, may_be_found, read_back}
+use Rattle.protocol.specs.Coordinators.{Coordinator, Makes, Next, answers_phase, greatest_found, in_phase, may_be_found, read_back, looks_back}
 use Rattle.protocol.specs.Replicas.{is_held}
 use Rattle.protocol.specs.declared.phases.Counted.{Counted}
 use Rattle.protocol.specs.declared.phases.Phase.{Phase}
 use Rattle.protocol.specs.declared.phases.Phase.TheVariants.{Descends, Orders, Recovers, Stores}
 
 -- a coordinator goes on to its next phase
-pub after_in_phase : (c : Coordinator) (counted : List Counted) (phase : Phase) → IsAfter c (in_phase (having c counted) phase)
-after_in_phase c counted phase = record {
-  same = record { group = refl; boot = refl; seq = refl; of_group = refl; view = refl; stripe = refl };
+pub after_in_phase : (c : Coordinator) → (counted : List Counted) (phase : Phase) → looks_back phase ≡ false
+    → IsAfter c (in_phase (having c counted) phase)
+after_in_phase c counted phase ahead = record {
+  same = record { group = refl; prior = refl; boot = refl; seq = refl; of_group = refl; view = refl; stripe = refl };
+  ahead = ahead;
+  own = view_ahead c.stamp phase ahead;
   later = refl;
   counted = refl;
 }
 
 -- the floor is below a stamp that tame parts do not hold
 pub floor_below : (stage : Stage) (cast : Cast stage) (logs : ℕ → List Version) (lore : Lore stage cast logs) (t : Stamp) (parts : ℕ → Part)
-    → Holds (TameWith stage t logs) parts cast.xs → IsUnheld logs t cast.xs → stamp_below lore.floor t ≡ true
-floor_below stage cast logs lore t parts tame unheld =
-    go cast.xs (let many = lore.holders in let one = lore.some_block in some_of (λ x. is_held lore.floor (logs x.brick.0)) cast.xs (omega (arith, many, one)))
-    tame unheld lore.ascends
+    → Holds (TameWith stage t logs) parts cast.xs → IsUnheld logs t cast.xs → IsAbove stage cast logs lore.phases lore.ground t
+floor_below stage cast logs lore t parts tame unheld = by lore.ground
   where
-    go : (ys : List Seated) → Has (λ x. is_held lore.floor (logs x.brick.0) ≡ true) ys → Holds (TameWith stage t logs) parts ys → IsUnheld logs t ys
-        → Each (λ x. LogAscends (logs x.brick.0)) ys → stamp_below lore.floor t ≡ true
-    go [] has tame unheld ascends = absurd has
-    go (y ∷ ys) (inl held) tame unheld ascends =
-        held_below stage t (logs y.brick.0) (parts y.brick.0) tame.0 ascends.0 unheld.0 lore.floor held
-    go (y ∷ ys) (inr there) tame unheld ascends = go ys there tame.1 unheld.1 ascends.1
+    by : (ground : Ground stage cast logs lore.phases) → IsAbove stage cast logs lore.phases ground t
+    by (inr back) = tt
+    by (inl at) =
+        go cast.xs (let many = at.holders in let one = lore.some_block in some_of (λ x. is_held at.floor (logs x.brick.0)) cast.xs (omega (arith, many, one)))
+        tame unheld lore.ascends
+      where
+        go : (ys : List Seated) → Has (λ x. is_held at.floor (logs x.brick.0) ≡ true) ys → Holds (TameWith stage t logs) parts ys → IsUnheld logs t ys
+            → Each (λ x. LogAscends (logs x.brick.0)) ys → stamp_below at.floor t ≡ true
+        go [] has tame unheld ascends = absurd has
+        go (y ∷ ys) (inl held) tame unheld ascends =
+            held_below stage t (logs y.brick.0) (parts y.brick.0) tame.0 ascends.0 unheld.0 at.floor held
+        go (y ∷ ys) (inr there) tame unheld ascends = go ys there tame.1 unheld.1 ascends.1
 
 -- A phase at tame parts, with a stamp that none of them holds; and phases enough are left.
 pub record IsReadyToGo (stage : Stage) (cast : Cast stage) (logs : ℕ → List Version) (s : Scene) : Type 0 where
@@ -67,21 +74,22 @@ module _ (stage : Stage) (cast : Cast stage) (logs : ℕ → List Version) (lore
     answers_later = λ x t. ap (λ (p : Phase). answers_phase stage.setting.layout.block s.c.stamp x.seat p (Later t)) phase;
     unfull = λ x log. refl;
     unmoved = λ x log. refl;
+    undropped = λ x log. refl;
     unrefused = λ x log. refl;
     decides_so = λ fresh counted roomy.
         order_decides stage.setting.layout.block stage.setting.code fresh (having s.c counted) roomy phase;
   }
 
-  pub write_accepted : s.c.group ≡ stage.group → s.c.call.phase + 1 < 2 ^ 32 - 1 → (others : List Seated) (before parts : ℕ → Part) (known : ℕ)
+  pub write_accepted : IsInView stage s.c → s.c.call.phase + 1 < 2 ^ 32 - 1 → (others : List Seated) (before parts : ℕ → Part) (known : ℕ)
       → Holds (TameWith stage s.c.stamp logs) parts cast.xs
       → Carries stage (after_replies stage s known parts others before) (write_goes (map (counted_of (λ x. Ordered)) cast.xs))
-  write_accepted group early others before parts known tame = (
-    record { group = refl; boot = refl; seq = refl; of_group = refl; view = refl; stripe = refl },
+  write_accepted in_view early others before parts known tame = (
+    record { group = refl; prior = refl; boot = refl; seq = refl; of_group = refl; view = refl; stripe = refl },
     store_phase stage cast
         (made stage (after_replies stage s known parts others before) (in_phase (having s.c (map (counted_of (λ x. Ordered)) cast.xs)) Stores))
         (next_open stage cast s.c (in_phase (having s.c (map (counted_of (λ x. Ordered)) cast.xs)) Stores) others before
-        (made stage (after_replies stage s known parts others before) (in_phase (having s.c (map (counted_of (λ x. Ordered)) cast.xs)) Stores)) group
-        (after_in_phase s.c (map (counted_of (λ x. Ordered)) cast.xs) Stores) refl refl)
+        (made stage (after_replies stage s known parts others before) (in_phase (having s.c (map (counted_of (λ x. Ordered)) cast.xs)) Stores)) in_view
+        (after_in_phase s.c (map (counted_of (λ x. Ordered)) cast.xs) Stores refl) refl refl)
         refl early (λ x seated. lore.encodes s.c.group.m s.c.content x.seat)
         (are_taking stage s.c.stamp logs parts cast.xs lore.ascends tame),
   )
@@ -100,40 +108,41 @@ module _ (stage : Stage) (cast : Cast stage) (logs : ℕ → List Version) (lore
         (finding (told_below logs s.c.stamp Want.All) x) ≡ true) cast.xs
         (λ x fits. ap (λ (p : Phase). answers_phase stage.setting.layout.block s.c.stamp x.seat p
         (finding (told_below logs s.c.stamp Want.All) x)) phase ∙ fits)
-        (told_fits stage cast logs lore s.c.stamp Want.All);
+        (told_fits stage.setting.layout.block logs cast.xs s.c.stamp Want.All lore.blocks);
     answers_later = λ x t. ap (λ (p : Phase). answers_phase stage.setting.layout.block s.c.stamp x.seat p (Later t)) phase;
     unfull = λ x log. refl;
     unmoved = λ x log. refl;
+    undropped = λ x log. refl;
     unrefused = λ x log. refl;
     decides_so = λ fresh counted roomy.
         recover_decides stage.setting.layout.block stage.setting.code fresh (having s.c counted) roomy phase;
   }
 
   -- below the bound where it looks next it closes
-  pub lower_closes : s.c.group ≡ stage.group → stamp_same s.c.stamp first_stamp ≡ false
-      → s.c.call.phase + total_below logs s.c.stamp cast.xs + 3 ≤ 2 ^ 32 - 1
+  pub lower_closes : IsInView stage s.c → stamp_same s.c.stamp first_stamp ≡ false
+      → s.c.call.phase + total_below logs s.c.stamp cast.xs + lore.phases + 4 ≤ 2 ^ 32 - 1
       → (others : List Seated) (before parts : ℕ → Part) (known : ℕ) (counted : List Counted) (v : Stamp)
-      → Holds (TameWith stage s.c.stamp logs) parts cast.xs → stamp_below lore.floor v ≡ true
+      → Holds (TameWith stage s.c.stamp logs) parts cast.xs → IsAbove stage cast logs lore.phases lore.ground v
       → total_below logs v cast.xs ≤ total_below logs s.c.stamp cast.xs
       → Closes stage (sent stage (after_replies stage s known parts others before) (in_phase (having s.c counted) (Descends v)))
-  lower_closes group later early others before parts known counted v tame above few =
+  lower_closes in_view later early others before parts known counted v tame above few =
       down_phase stage cast logs lore (total_below logs s.c.stamp cast.xs)
       (sent stage (after_replies stage s known parts others before) (in_phase (having s.c counted) (Descends v))) v
       (record {
         open_is = next_open stage cast s.c (in_phase (having s.c counted) (Descends v)) others before
-            (sent stage (after_replies stage s known parts others before) (in_phase (having s.c counted) (Descends v))) group
-            (after_in_phase s.c counted (Descends v)) refl refl;
+            (sent stage (after_replies stage s known parts others before) (in_phase (having s.c counted) (Descends v))) in_view
+            (after_in_phase s.c counted (Descends v) refl) refl refl;
         tame = tame;
         later = later;
       })
       refl above few (omega (arith, early))
 
-  pub recover_accepted : s.c.group ≡ stage.group → stamp_same s.c.stamp first_stamp ≡ false
-      → s.c.call.phase + total_below logs s.c.stamp cast.xs + 3 ≤ 2 ^ 32 - 1 → stamp_below lore.floor s.c.stamp ≡ true
+  pub recover_accepted : IsInView stage s.c → stamp_same s.c.stamp first_stamp ≡ false
+      → s.c.call.phase + total_below logs s.c.stamp cast.xs + lore.phases + 4 ≤ 2 ^ 32 - 1 → IsAbove stage cast logs lore.phases lore.ground s.c.stamp
       → (others : List Seated) (before parts : ℕ → Part) (known : ℕ) → Holds (TameWith stage s.c.stamp logs) parts cast.xs
       → Carries stage (after_replies stage s known parts others before)
       (recover_goes (map (counted_of (λ x. looking (Below s.c.stamp) Want.All x (logs x.brick.0))) cast.xs))
-  recover_accepted group later early above others before parts known tame =
-      read_back_goes stage cast logs lore s group s.c.stamp Want.All above others before parts known tame (omega (arith, early))
-      (λ v over falls. lower_closes group later early others before parts known
+  recover_accepted in_view later early above others before parts known tame =
+      read_back_goes stage cast logs lore s in_view s.c.stamp Want.All above others before parts known tame later (omega (arith, early))
+      (λ v over falls. lower_closes in_view later early others before parts known
       (map (counted_of (finding (told_below logs s.c.stamp Want.All))) cast.xs) v tame over (omega (arith, falls)))

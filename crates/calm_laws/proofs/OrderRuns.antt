@@ -18,7 +18,7 @@ use Rattle.fab_base.specs.declared.stamps.Stamp.{Stamp}
 use Rattle.messages.specs.declared.replies.Reply.{Reply}
 use Rattle.messages.specs.declared.replies.Reply.TheVariants.{Later}
 use Rattle.messages.specs.declared.requests.Version.{Version}
-use Rattle.protocol.specs.Coordinators.{Next, answers_phase, decided, full_member_of, greatest_refuser, mover_of, once_ordered, ordered_again, refuser_of}
+use Rattle.protocol.specs.Coordinators.{Next, answers_phase, decided, full_member_of, greatest_refuser, mover_of, once_ordered, ordered_again, refuser_of, dropper_of}
 use Rattle.protocol.specs.Replicas.{Replica, is_held, newest_of, top_of}
 use Rattle.protocol.specs.declared.phases.Counted.{Counted}
 use Rattle.protocol.specs.declared.phases.Refuser.{Refuser}
@@ -66,7 +66,8 @@ unheld_above replica t ascends above = ⊎_elim
 abbrev pub IsUnheld : (ℕ → List Version) → Stamp → List Seated → Type 0
 IsUnheld logs t xs = Each (λ x. is_held t (logs x.brick.0) ≡ false) xs
 
--- A phase that orders: what it does at each member; that this can be stored, and answers it; that a promise is no refusal, and tells no later view; and how it goes on.
+-- A phase that orders: what it does at each member; that this can be stored, and answers it; that a promise is no refusal, and tells neither a later view nor dropped versions; and how it
+-- goes on.
 pub record IsOrdering (stage : Stage) (cast : Cast stage) (logs : ℕ → List Version) (s : Scene) (answer : Seated → List Version → Reply)
     (goes : List Counted → Next) : Type 0 where
   pub so : OrdersWhole stage s.c answer
@@ -75,6 +76,7 @@ pub record IsOrdering (stage : Stage) (cast : Cast stage) (logs : ℕ → List V
   pub answers_later : (x : Seated) (t : Stamp) → answers_phase stage.setting.layout.block s.c.stamp x.seat s.c.phase (Later t) ≡ true
   pub unfull : (x : Seated) (log : List Version) → full_member_of (counted_of (λ y. answer y log) x) ≡ None
   pub unmoved : (x : Seated) (log : List Version) → mover_of (counted_of (λ y. answer y log) x) ≡ None
+  pub undropped : (x : Seated) (log : List Version) → dropper_of (counted_of (λ y. answer y log) x) ≡ None
   pub unrefused : (x : Seated) (log : List Version) → refuser_of (counted_of (λ y. answer y log) x) ≡ None
   pub decides_so : (fresh : Option Stamp) (counted : List Counted) → AreRoomy counted
       → decided stage.setting.layout.block stage.setting.code fresh (having s.c counted)
@@ -107,6 +109,13 @@ module _ (stage : Stage) (cast : Cast stage) (logs : ℕ → List Version) (s : 
       (λ (r : Reply). mover_of (record { seat = x.seat; brick = x.brick; reply = r }) ≡ None)
       (λ above. refl) (λ tame. ordering.unmoved x (logs x.brick.0))
 
+  -- nor of one that has dropped the versions of the view before
+  undropped_mixed : (tops : ℕ → Stamp) (x : Seated) → dropper_of (counted_of (replies_of tops) x) ≡ None
+  undropped_mixed tops x =
+      cond_both (stamp_below s.c.stamp (tops x.brick.0)) (Later (tops x.brick.0)) (answer x (logs x.brick.0))
+      (λ (r : Reply). dropper_of (record { seat = x.seat; brick = x.brick; reply = r }) ≡ None)
+      (λ above. refl) (λ tame. ordering.undropped x (logs x.brick.0))
+
   -- where none of the quorum was above the stamp, all are tame
   tame_then : (tops : ℕ → Stamp) (parts : ℕ → Part) (ys : List Seated) → Each (λ x. stamp_below s.c.stamp (tops x.brick.0) ≡ false) ys
       → Holds (MixedWith stage s.c.stamp tops logs) parts ys → Holds (TameWith stage s.c.stamp logs) parts ys
@@ -135,7 +144,8 @@ module _ (stage : Stage) (cast : Cast stage) (logs : ℕ → List Version) (s : 
       (λ above. ordering.answers_later x (tops x.brick.0)) (λ tame. fits)) ordering.answers)
       (λ before parts holds.
       subst (λ (z : Next). Carries stage (after_replies stage s (known_of tops) parts open_is.others before) z)
-      (sym (ordering.decides_so (fresh_at stage s.c (known_of tops)) (counts_of tops) (none_stops (replies_of tops) (unfull_mixed tops) (unmoved_mixed tops) cast.xs)))
+      (sym (ordering.decides_so (fresh_at stage s.c (known_of tops)) (counts_of tops) (none_stops (replies_of tops)
+      (record { unmoved = unmoved_mixed tops; undropped = undropped_mixed tops; unfull = unfull_mixed tops }) cast.xs)))
       (go before parts holds (greatest_refuser (counts_of tops)) refl))
     where
       go : (before parts : ℕ → Part) → Holds (MixedWith stage s.c.stamp tops logs) parts cast.xs → (z : Option Refuser)

@@ -1,14 +1,15 @@
 -- A phase alone: what is left of earlier phases is left out, each member is asked, and the first quorum of them decides.
-use Rattle.std.proofs.Common.{None, List, [], ap, ap₂, arith, false, length, map, refl, subst, sym, true, zero-add, ℕ, ◌++◌, ◌+◌, ◌<◌, ◌∙◌, ◌∷◌, ◌≡◌, ◌≤◌}
+use Rattle.fab_base.specs.Layouts.{seat_in}
+use Rattle.std.proofs.Common.{None, List, [], ap, ap₂, arith, false, length, map, refl, subst, sym, true, zero-add, ℕ, ◌++◌, ◌+◌, ◌<◌, ◌∙◌, ◌∷◌, ◌≡◌, ◌≤◌, Some}
 use Rattle.std.specs.Prelude.{◌-◌, ◌^◌}
 use Rattle.calm_laws.proofs.Asking.{Gives, Holds, IsReply, Keeps, Replies, all_given, asks_pass, each_then, holds_on, reacted_all, reaction_teaches, told_all, told_exactly, told_replies}
 use Rattle.calm_laws.proofs.Counts.{AreNew, Carries, counted_of, decides, new_from, replies_pass, told}
 use Rattle.calm_laws.proofs.Hearing.{IsStale, known_through, stale_pass}
 use Rattle.calm_laws.proofs.Queues.{waiting}
-use Rattle.calm_laws.proofs.Scenes.{Closes, Each, Fits, IsSeated, Part, SameCall, Scene, Seated, Stage, asking, heard, sends, AreApart}
+use Rattle.calm_laws.proofs.Scenes.{Closes, Each, Fits, IsSeated, Part, SameCall, Scene, Seated, Stage, asking, heard, sends, AreApart, IsInView, asks_own, IsOf, of_same}
 use Rattle.messages.specs.declared.packets.Packet.{Packet}
 use Rattle.messages.specs.declared.replies.Reply.{Reply}
-use Rattle.protocol.specs.Coordinators.{Coordinator, answers_phase, has_seat}
+use Rattle.protocol.specs.Coordinators.{Coordinator, answers_phase, has_seat, looks_back}
 use Rattle.protocol.specs.Views.{view_told}
 use Rattle.protocol.specs.declared.phases.Counted.{Counted}
 use Rattle.quorum.specs.Quorums.{quorum_of}
@@ -16,7 +17,7 @@ use Rattle.quorum.specs.Quorums.{quorum_of}
 -- A phase begins at these seats, a quorum: nothing counts yet; what is asked can be stored; and of the part of each seat something holds that each
 -- request keeps, and that tells what is replied, which answers the phase.
 pub record HasBegun (stage : Stage) (s : Scene) (Inv : ℕ → Part → Type 0) (f : Seated → Reply) (xs : List Seated) : Type 0 where
-  pub group : s.c.group ≡ stage.group
+  pub in_view : IsInView stage s.c
   pub counted : s.c.counted ≡ []
   pub early : s.c.call.phase < 2 ^ 32 - 1
   pub fits : (x : Seated) → IsSeated stage x → Fits stage s.c x
@@ -34,7 +35,7 @@ abbrev pub known_then : Stage → Scene → (Seated → Reply) → List Seated �
 known_then stage s f xs stale = known_through (told stage s.c.call f xs) (known_through stale s.known)
 
 -- nothing counts yet
-none_new : (xs : List Seated) → Each (λ x. has_seat x.seat [] ≡ false) xs
+pub none_new : (xs : List Seated) → Each (λ x. has_seat x.seat [] ≡ false) xs
 none_new [] = tt
 none_new (x ∷ xs) = (refl, none_new xs)
 
@@ -65,9 +66,10 @@ module _ (stage : Stage) (s : Scene) (Inv After : ℕ → Part → Type 0) (f : 
   replies_wait : Closes stage
       (record s { known = known_through stale s.known; parts = all_parts; queue = told stage s.c.call f xs ++ told_all stage s.c others asked_parts })
   replies_wait =
-      replies_pass stage f xs
+      replies_pass stage stage.group f xs
       (record s { known = known_through stale s.known; parts = all_parts; queue = told stage s.c.call f xs ++ told_all stage s.c others asked_parts })
-      (told_all stage s.c others asked_parts) refl begins.early begins.group begins.seated begins.answers plain
+      (told_all stage s.c others asked_parts) refl begins.early (asks_own stage s.c begins.in_view)
+      (each_then (IsSeated stage) (λ (x : Seated). seat_in stage.group.members x.brick.0 ≡ Some x.seat) xs (λ x seated. seated.0) begins.seated) begins.answers plain
       (subst (λ (l : List Counted). AreNew f l xs) (sym begins.counted) (new_from f [] xs begins.apart (none_new xs)))
       begins.some (ap (λ (l : List Counted). length l + length xs) begins.counted ∙ zero-add (length xs) ∙ begins.quorum)
       (subst (λ (l : List Counted). Carries stage
@@ -82,10 +84,10 @@ module _ (stage : Stage) (s : Scene) (Inv After : ℕ → Part → Type 0) (f : 
       → Closes stage (record s { known = known_through stale s.known; queue = map (asking stage s.c) xs ++ map (asking stage s.c) others })
   requests_wait seated =
       asks_pass stage xs (record s { known = known_through stale s.known; queue = map (asking stage s.c) xs ++ map (asking stage s.c) others })
-      (map (asking stage s.c) others) refl begins.seated begins.fits
+      (map (asking stage s.c) others) refl begins.seated begins.fits begins.in_view
       (asks_pass stage others
       (record s { known = known_through stale s.known; parts = asked_parts; queue = map (asking stage s.c) others ++ told_all stage s.c xs s.parts })
-      (told_all stage s.c xs s.parts) refl seated begins.fits
+      (told_all stage s.c xs s.parts) refl seated begins.fits begins.in_view
       (subst (λ (l : List Packet). Closes stage
       (record s { known = known_through stale s.known; parts = all_parts; queue = l ++ told_all stage s.c others asked_parts }))
       (sym (told_exactly stage s.c Inv f begins.keeps begins.replies xs s.parts begins.holds)) replies_wait))
@@ -106,11 +108,11 @@ pub record Cast (stage : Stage) : Type 0 where
   pub apart : AreApart xs
   pub some : 1 ≤ length xs
   pub quorum : length xs ≡ quorum_of stage.group
-  pub sends : (d : Coordinator) → d.group ≡ stage.group → sends stage d ≡ map (asking stage d) xs ++ map (asking stage d) rest
+  pub sends : (d : Coordinator) → IsInView stage d → sends stage d ≡ map (asking stage d) xs ++ map (asking stage d) rest
 
 -- A phase begins: nothing counts yet, and what waits are replies to earlier phases, and requests, first to the first quorum.
 pub record IsOpen (stage : Stage) (cast : Cast stage) (s : Scene) : Type 0 where
-  pub group : s.c.group ≡ stage.group
+  pub in_view : IsInView stage s.c
   pub counted : s.c.counted ≡ []
   pub stale : List Packet
   pub old : Each (IsStale stage s.c) stale
@@ -127,7 +129,7 @@ pub open_run_to : (stage : Stage) (cast : Cast stage) (s : Scene) (open_is : IsO
 open_run_to stage cast s open_is Inv After f early fits keeps replies after_keeps gives holds answers heard =
     phase_run stage s Inv After f cast.xs
     (record {
-      group = open_is.group;
+      in_view = open_is.in_view;
       counted = open_is.counted;
       early = early;
       fits = fits;
@@ -151,32 +153,43 @@ pub open_run : (stage : Stage) (cast : Cast stage) (s : Scene) (open_is : IsOpen
 open_run stage cast s open_is Inv f early fits keeps replies holds answers heard =
     open_run_to stage cast s open_is Inv Inv f early fits keeps replies keeps (λ x part held. keeps x.brick.0 x part held) holds answers heard
 
--- a coordinator begins the phase after another
+-- a coordinator begins the phase after another, in its own view
 pub record IsAfter (c d : Coordinator) : Type 0 where
   pub same : SameCall c d
+  pub ahead : looks_back d.phase ≡ false
+  pub own : d.call.view ≡ d.stamp.view
   pub later : d.call.phase ≡ c.call.phase + 1
   pub counted : d.counted ≡ []
 
 -- replies to the phase before are stale
-pub stale_then : (stage : Stage) (c d : Coordinator) → IsAfter c d → (packets : List Packet) → Each (IsReply stage c.call) packets
-    → Each (IsStale stage d) packets
-stale_then stage c d after packets replies =
+pub stale_then : (stage : Stage) (c d : Coordinator) → SameCall c d → d.call.phase ≡ c.call.phase + 1 → (packets : List Packet)
+    → Each (IsReply stage c.call) packets → Each (IsStale stage d) packets
+stale_then stage c d same later packets replies =
     each_then (IsReply stage c.call) (IsStale stage d) packets
-    (λ packet is. (is.0, c.call, is.1, is.2, sym after.same.boot, sym after.same.seq, omega (arith, after.later), is.3)) replies
+    (λ packet is. (is.0, c.call, is.1, is.2, sym same.boot, sym same.seq, omega (arith, later), is.3)) replies
 
--- the next phase begins
-pub next_open : (stage : Stage) (cast : Cast stage) (c d : Coordinator) (others : List Seated) (before : ℕ → Part) (s : Scene)
-    → c.group ≡ stage.group → IsAfter c d → s.c ≡ d → s.queue ≡ told_all stage c others before ++ sends stage d → IsOpen stage cast s
-next_open stage cast c d others before s group after is waiting =
+-- the next phase begins, while replies to the last one wait
+pub next_open_from : (stage : Stage) (cast : Cast stage) (c d : Coordinator) (left : List Packet) (s : Scene) → IsOf stage c → IsAfter c d
+    → Each (IsReply stage c.call) left → s.c ≡ d → s.queue ≡ left ++ sends stage d → IsOpen stage cast s
+next_open_from stage cast c d left s of after replies is waiting =
     subst (λ (z : Scene). IsOpen stage cast z) (sym scene_is) (record {
-      group = after.same.group ∙ group;
+      in_view = next_view;
       counted = after.counted;
-      stale = told_all stage c others before;
-      old = stale_then stage c d after (told_all stage c others before) (told_replies stage c others before);
+      stale = left;
+      old = stale_then stage c d after.same after.later left replies;
       others = cast.rest;
       others_seated = cast.rest_seated;
-      waiting = ap (λ (q : List Packet). told_all stage c others before ++ q) (cast.sends d (after.same.group ∙ group));
+      waiting = ap (λ (q : List Packet). left ++ q) (cast.sends d next_view);
     })
   where
-    scene_is : s ≡ record s { c = d; queue = told_all stage c others before ++ sends stage d }
+    next_view : IsInView stage d
+    next_view = record { of = of_same stage c d after.same of; ahead = after.ahead; own = after.own }
+
+    scene_is : s ≡ record s { c = d; queue = left ++ sends stage d }
     scene_is = ap₂ (λ (e : Coordinator) (q : List Packet). record s { c = e; queue = q }) is waiting
+
+-- the same, where its other members were asked last
+pub next_open : (stage : Stage) (cast : Cast stage) (c d : Coordinator) (others : List Seated) (before : ℕ → Part) (s : Scene)
+    → IsInView stage c → IsAfter c d → s.c ≡ d → s.queue ≡ told_all stage c others before ++ sends stage d → IsOpen stage cast s
+next_open stage cast c d others before s in_view after is waiting =
+    next_open_from stage cast c d (told_all stage c others before) s in_view.of after (told_replies stage c others before) is waiting

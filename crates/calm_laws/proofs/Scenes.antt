@@ -1,7 +1,11 @@
 -- An operation alone, seen from its coordinator: a small machine of the coordinator, what its members keep of its stripe, and the queue of its
 -- messages. What it does, the disk does with the operation's messages alone.
-use Rattle.std.proofs.Common.{List, None, Option, Some, [], false, refl, subst, sym, true, ℕ, ◌++◌, ◌+◌, ◌∷◌, ◌≡◌}
-use Rattle.std.specs.Prelude.{filter, max, nat_eq, ◌-◌}
+use Rattle.messages.specs.declared.replies.Reply.TheVariants.{Old}
+use Rattle.protocol.specs.declared.phases.Phase.TheVariants.{LooksBack}
+use Rattle.fab_base.specs.declared.asks.Op.TheVariants.{ReadBlock, ReadStripe, WriteBlock, WriteStripe}
+use Rattle.fab_base.specs.declared.asks.Op.{Op}
+use Rattle.std.proofs.Common.{List, None, Option, Some, [], false, refl, subst, sym, true, ℕ, ◌++◌, ◌+◌, ◌∷◌, ◌≡◌, Bool, ap, cond, ◌∙◌}
+use Rattle.std.specs.Prelude.{filter, max, nat_eq, ◌-◌, nat_lt}
 use Rattle.fab_base.specs.Layouts.{Group, seat_in}
 use Rattle.fab_base.specs.declared.answers.Answer.{Answer}
 use Rattle.fab_base.specs.declared.identities.BrickId.{BrickId}
@@ -13,10 +17,10 @@ use Rattle.messages.specs.declared.replies.Reply.{Reply}
 use Rattle.messages.specs.declared.requests.Request.{Request}
 use Rattle.messages.specs.declared.requests.Version.{Version}
 use Rattle.protocol.specs.Calms.{goes_among, is_one_of}
-use Rattle.protocol.specs.Coordinators.{Coordinator, Ends, Ignores, Makes, Next, Sends, Waits, on_reply, request_of}
-use Rattle.protocol.specs.Views.{view_told}
-use Rattle.protocol.specs.Nodes.{fits, fresh_stamp, full_at, known_after, phase_packets, put, reply_packets}
-use Rattle.protocol.specs.Replicas.{Reaction, Replica, handle, newest_of}
+use Rattle.protocol.specs.Coordinators.{Coordinator, Ends, Ignores, Makes, Next, Sends, Waits, on_reply, request_of, asked_group, asked_view, looks_back}
+use Rattle.protocol.specs.Views.{view_told, kept_by}
+use Rattle.protocol.specs.Nodes.{fits, fresh_stamp, full_at, known_after, phase_packets, put, reply_packets, first_phase}
+use Rattle.protocol.specs.Replicas.{Reaction, Replica, handle, newest_of, under}
 use Rattle.protocol.specs.Settings.{Setting}
 use Rattle.protocol.specs.declared.phases.Phase.{Phase}
 use Rattle.protocol.specs.Worlds.{is_answer}
@@ -27,15 +31,20 @@ pub record Seated : Type 0 where
   pub seat : ℕ
   pub brick : BrickId
 
--- what stays as it is meanwhile: the setting, the bricks that hear one another, the coordinator's brick and its clock, the group, and the members
--- whose replies count: the first quorum that hears the coordinator
+-- What stays as it is meanwhile: the setting, the bricks that hear one another, the coordinator's brick and its clock, the operation's call, the group, and the members
+-- whose replies count: the first quorum that hears the coordinator. And the group as the members of the view before keep it, whether the operation may ask these, and what
+-- each brick keeps of the stripe in that view.
 pub record Stage : Type 0 where
   pub setting : Setting
   pub bricks : List BrickId
   pub me : BrickId
   pub now : ℕ
+  pub call : Call
   pub group : Group
   pub quorum : List Seated
+  pub prior : Group
+  pub may_ask : Bool
+  pub old : ℕ → List Version
 
 -- what a brick keeps of the stripe, and how many live records it keeps in all
 pub record Part : Type 0 where
@@ -118,20 +127,93 @@ heard s reply rest = record s { known = known_after s.known reply; queue = rest 
 abbrev pub decision : Stage → Scene → BrickId → Call → Reply → Next
 decision stage s from call reply =
     on_reply stage.setting.layout.block stage.setting.code
-    (fresh_stamp stage.me s.c.call.view stage.now s.c.call.boot (known_after s.known reply)) s.c from call reply
+    (fresh_stamp stage.me s.c.stamp.view stage.now s.c.call.boot (known_after s.known reply)) s.c from call reply
 
 -- the messages of a phase that are delivered
 abbrev pub sends : Stage → Coordinator → List Packet
 sends stage d = filter (goes_among stage.bricks) (phase_packets stage.setting stage.me d)
 
+-- a phase that does not look back is of the operation's view
+pub view_ahead : (t : Stamp) (phase : Phase) → looks_back phase ≡ false → asked_view t phase ≡ t.view
+view_ahead t phase ahead = ap (λ (b : Bool). cond b (record { 0 = t.view.0 - 1 }) t.view) ahead
+
+-- a first phase looks at the operation's own view
+pub first_ahead : (op : Op) → looks_back (first_phase op) ≡ false
+first_ahead (ReadBlock j) = refl
+first_ahead (WriteBlock j bytes) = refl
+first_ahead ReadStripe = refl
+first_ahead (WriteStripe bytes) = refl
+
 -- the coordinators are of one operation
 pub record SameCall (c d : Coordinator) : Type 0 where
   pub group : d.group ≡ c.group
+  pub prior : d.prior ≡ c.prior
   pub boot : d.call.boot ≡ c.call.boot
   pub seq : d.call.seq ≡ c.call.seq
   pub of_group : d.call.group ≡ c.call.group
-  pub view : d.call.view ≡ c.call.view
+  pub view : d.stamp.view ≡ c.stamp.view
   pub stripe : d.call.stripe ≡ c.call.stripe
+
+-- A coordinator is of the stage's operation.
+pub record IsOf (stage : Stage) (c : Coordinator) : Type 0 where
+  pub group : c.group ≡ stage.group
+  pub prior : kept_by c.prior c.group ≡ stage.prior
+  pub boot : c.call.boot ≡ stage.call.boot
+  pub seq : c.call.seq ≡ stage.call.seq
+  pub of_group : c.call.group ≡ stage.call.group
+  pub view : c.stamp.view ≡ stage.call.view
+  pub stripe : c.call.stripe ≡ stage.call.stripe
+
+-- so is another of the same operation
+pub of_same : (stage : Stage) (c d : Coordinator) → SameCall c d → IsOf stage c → IsOf stage d
+of_same stage c d same is = record {
+  group = same.group ∙ is.group;
+  prior = ap (λ (members : List BrickId). kept_by members d.group) same.prior ∙ ap (λ (g : Group). kept_by c.prior g) same.group ∙ is.prior;
+  boot = same.boot ∙ is.boot;
+  seq = same.seq ∙ is.seq;
+  of_group = same.of_group ∙ is.of_group;
+  view = same.view ∙ is.view;
+  stripe = same.stripe ∙ is.stripe;
+}
+
+-- A coordinator is in a phase that asks the members of its operation's view: its call is of the view of its stamp.
+pub record IsInView (stage : Stage) (c : Coordinator) : Type 0 where
+  pub of : IsOf stage c
+  pub ahead : looks_back c.phase ≡ false
+  pub own : c.call.view ≡ c.stamp.view
+
+-- such a phase asks the group's members
+pub asks_own : (stage : Stage) (c : Coordinator) → IsInView stage c → asked_group c ≡ stage.group
+asks_own stage c is = ap (λ (b : Bool). cond b (kept_by c.prior c.group) c.group) is.ahead ∙ is.of.group
+
+-- A coordinator is in a phase that asks the members of the view before, below a bound: its call is of that view.
+pub record IsBack (stage : Stage) (c : Coordinator) (bound : Option Stamp) : Type 0 where
+  pub of : IsOf stage c
+  pub phase : c.phase ≡ LooksBack bound
+  pub own : c.call.view ≡ record { 0 = c.stamp.view.0 - 1 }
+
+-- such a phase asks the group's members of that view
+pub asks_before : (stage : Stage) (c : Coordinator) (bound : Option Stamp) → IsBack stage c bound → asked_group c ≡ stage.prior
+asks_before stage c bound is = ap (λ (p : Phase). cond (looks_back p) (kept_by c.prior c.group) c.group) is.phase ∙ is.of.prior
+
+-- a member of the view before that hears the coordinator, at its seat there
+abbrev pub IsSeatedBack : Stage → Seated → Type 0
+IsSeatedBack stage x = (seat_in stage.prior.members x.brick.0 ≡ Some x.seat) × (is_one_of stage.bricks x.brick ≡ true)
+
+-- what a member finds in the view before, below a bound
+abbrev pub found_back : Stage → Option Stamp → Seated → Option Version
+found_back stage bound x = newest_of (under bound (stage.old x.brick.0))
+
+-- in its own view its call is the operation's, in some phase
+pub call_of : (stage : Stage) (c : Coordinator) → IsOf stage c → c.call.view ≡ c.stamp.view → c.call ≡ record stage.call { phase = c.call.phase }
+call_of stage c is own = λ i. record {
+  boot = is.boot i;
+  seq = is.seq i;
+  phase = c.call.phase;
+  group = is.of_group i;
+  view = (own ∙ is.view) i;
+  stripe = is.stripe i;
+}
 
 -- the scene as the coordinator goes on, begins an ordered phase, or makes its version
 abbrev pub waits : Scene → Coordinator → Scene
@@ -152,7 +234,10 @@ pub record IsNext (stage : Stage) (s : Scene) (from : BrickId) (call : Call) (re
 -- From a scene the operation comes to an answer that is no abort: its messages are delivered in order.
 pub data Closes (stage : Stage) : Scene → Type 0 where
   Asks : (s : Scene) (x : Seated) (rest : List Packet) → s.queue ≡ asking stage s.c x ∷ rest → IsSeated stage x → Fits stage s.c x
-      → Closes stage (asked stage s x rest) → Closes stage s
+      → IsInView stage s.c → Closes stage (asked stage s x rest) → Closes stage s
+  AsksBack : (s : Scene) (x : Seated) (rest : List Packet) (bound : Option Stamp) → s.queue ≡ asking stage s.c x ∷ rest → IsSeatedBack stage x
+      → IsBack stage s.c bound → stage.may_ask ≡ true → nat_lt 1 stage.call.view.0 ≡ true
+      → Closes stage (record s { queue = rest ++ (replying stage x.brick s.c.call (Old (found_back stage bound x)) ∷ []) }) → Closes stage s
   Skips : (s : Scene) (from : BrickId) (call : Call) (reply : Reply) (rest : List Packet) → IsNext stage s from call reply rest
       → decision stage s from call reply ≡ Ignores → Closes stage (heard s reply rest) → Closes stage s
   Counts : (s : Scene) (from : BrickId) (call : Call) (reply : Reply) (rest : List Packet) (d : Coordinator) → IsNext stage s from call reply rest

@@ -1,19 +1,19 @@
 -- A world shows a scene: its coordinator, what its brick knows, the members' parts, and the messages that wait. A delivery of the first of these
 -- leads to a world that shows the next scene.
+use Rattle.protocol.specs.Replicas.{Replica}
 use Rattle.synod_laws.specs.Synods.{Kept}
-use Rattle.std.proofs.Common.{false, Bool, List, None, Option, Some, ap, arith, cond, length, subst, suc, sym, true, ℕ, ⊎_elim, ◌&&◌, ◌++◌, ◌+◌, ◌<◌, ◌∙◌, ◌≡◌}
+use Rattle.std.proofs.Common.{false, Bool, List, None, Option, Some, ap, arith, cond, length, subst, suc, sym, true, ℕ, ⊎_elim, ◌&&◌, ◌++◌, ◌+◌, ◌<◌, ◌≤◌, ◌∙◌, ◌≡◌}
 use Rattle.std.proofs.lemmas.Bool.{eq-eqb, ne_eqb}
 use Rattle.std.proofs.lemmas.List.{length-append}
 use Rattle.std.proofs.lemmas.Option.{slice_get_within}
-use Rattle.std.specs.Prelude.{filter, nat_eq, nat_lt, slice_get}
+use Rattle.std.specs.Prelude.{filter, nat_eq, nat_lt, slice_get, ◌-◌}
 use Rattle.calm_laws.proofs.Asking.{put_cases}
 use Rattle.calm_laws.proofs.Queues.{IsDelivered, IsHead, IsUnsent, delivered_queue, waiting}
-use Rattle.calm_laws.proofs.Scenes.{Part, SameCall, Scene, Stage, sent}
+use Rattle.calm_laws.proofs.Scenes.{Part, SameCall, Scene, Stage, sent, IsOf, of_same}
 use Rattle.fab_base.specs.declared.identities.BrickId.{BrickId}
 use Rattle.messages.specs.declared.calls.Call.{Call}
 use Rattle.messages.specs.declared.packets.Packet.{Packet}
 use Rattle.protocol.specs.Calms.{goes_among, is_left, is_one_of, open_at}
-use Rattle.protocol.specs.Coordinators.{Coordinator}
 use Rattle.protocol.specs.Nodes.{Node, NodeStep, group_at, put, received, replica_at, view_at, has_accepted}
 use Rattle.protocol.specs.Views.{Learnt, group_kept}
 use Rattle.protocol.specs.Worlds.{Delivers, Operation, World, delivered, happens, is_up, packet_of, replies_with, voiced, world_stepped}
@@ -39,6 +39,11 @@ pub record IsPart (node : Node) (call : Call) (part : Part) : Type 0 where
   pub replica : replica_at node call ≡ part.replica
   pub live : node.live ≡ part.live
 
+-- What a brick keeps of the stripe in the view before the operation's, while it does not know all stripes to be kept in that: this log.
+pub record IsOld (stage : Stage) (w : World) (brick : BrickId) : Type 0 where
+  pub log : ((w.nodes brick.0).replicas stage.call.group.0 (stage.call.view.0 - 1) stage.call.stripe.0).log ≡ stage.old brick.0
+  pub unsynced : ((w.nodes brick.0).learnt stage.call.group.0).synced ≡ false
+
 pub record Shows (stage : Stage) (n : ℕ) (w : World) (s : Scene) : Type 0 where
   pub operation : Operation
   pub is : w.operations n ≡ Some operation
@@ -49,11 +54,14 @@ pub record Shows (stage : Stage) (n : ℕ) (w : World) (s : Scene) : Type 0 wher
   pub node_boot : (w.nodes stage.me.0).boot ≡ s.c.call.boot
   pub call : (w.nodes stage.me.0).calls s.c.call.seq ≡ Some s.c
   pub number : w.numbers stage.me.0 s.c.call.boot s.c.call.seq ≡ n
+  pub begun : n ≤ w.begun
+  pub within : s.c.call.seq ≤ (w.nodes stage.me.0).seq
   pub clock : w.clocks stage.me.0 ≡ stage.now
   pub known : (w.nodes stage.me.0).known ≡ s.known
-  pub group : s.c.group ≡ stage.group
-  pub members : (brick : BrickId) → is_one_of stage.bricks brick ≡ true → IsMember stage w s.c.call brick
-  pub parts : (brick : BrickId) → is_one_of stage.bricks brick ≡ true → IsPart (w.nodes brick.0) s.c.call (s.parts brick.0)
+  pub of : IsOf stage s.c
+  pub members : (brick : BrickId) → is_one_of stage.bricks brick ≡ true → IsMember stage w stage.call brick
+  pub parts : (brick : BrickId) → is_one_of stage.bricks brick ≡ true → IsPart (w.nodes brick.0) stage.call (s.parts brick.0)
+  pub olds : stage.may_ask ≡ true → (brick : BrickId) → is_one_of stage.bricks brick ≡ true → IsOld stage w brick
   pub queue : waiting w n stage.bricks ≡ s.queue
   pub unsent : IsUnsent w
 
@@ -66,46 +74,34 @@ pub record IsMove (stage : Stage) (n : ℕ) (w later : World) (s next : Scene) (
   pub seq : operation_later.seq ≡ operation.seq
   pub up : later.up ≡ w.up
   pub clocks : later.clocks ≡ w.clocks
+  pub begun : later.begun ≡ w.begun
   pub node_boot : (later.nodes stage.me.0).boot ≡ (w.nodes stage.me.0).boot
+  pub node_seq : (later.nodes stage.me.0).seq ≡ (w.nodes stage.me.0).seq
   pub call : (later.nodes stage.me.0).calls s.c.call.seq ≡ Some next.c
   pub known : (later.nodes stage.me.0).known ≡ next.known
   pub learnt : (i : ℕ) → (later.nodes i).learnt ≡ (w.nodes i).learnt
   pub ballots : (i : ℕ) → (later.nodes i).ballots ≡ (w.nodes i).ballots
-  pub parts : (brick : BrickId) → is_one_of stage.bricks brick ≡ true → IsPart (later.nodes brick.0) s.c.call (next.parts brick.0)
+  pub parts : (brick : BrickId) → is_one_of stage.bricks brick ≡ true → IsPart (later.nodes brick.0) stage.call (next.parts brick.0)
+  pub olds : (i : ℕ) → (later.nodes i).replicas stage.call.group.0 (stage.call.view.0 - 1) stage.call.stripe.0
+      ≡ (w.nodes i).replicas stage.call.group.0 (stage.call.view.0 - 1) stage.call.stripe.0
   pub delivery : IsDelivered w later n number sent
   pub queue : next.queue ≡ rest ++ filter (goes_among stage.bricks) sent
   pub same : SameCall s.c next.c
 
--- a call of the same operation, in another phase
-pub call_same_but : (c d : Coordinator) → SameCall c d → d.call ≡ record c.call { phase = d.call.phase }
-call_same_but c d same = λ i. record {
-  boot = same.boot i;
-  seq = same.seq i;
-  phase = d.call.phase;
-  group = same.of_group i;
-  view = same.view i;
-  stripe = same.stripe i;
-}
-
 -- a member serves it as before
-pub serves_on : (stage : Stage) (w later : World) (c d : Coordinator) (brick : BrickId) → SameCall c d → later.up ≡ w.up
+pub serves_on : (stage : Stage) (w later : World) (call : Call) (brick : BrickId) → later.up ≡ w.up
     → ((i : ℕ) → (later.nodes i).learnt ≡ (w.nodes i).learnt) → ((i : ℕ) → (later.nodes i).ballots ≡ (w.nodes i).ballots)
-    → IsMember stage w c.call brick → IsMember stage later d.call brick
-serves_on stage w later c d brick same up learnt ballots member =
-    subst (λ (call : Call). IsMember stage later call brick) (sym (call_same_but c d same)) (record {
-      up = ap (λ (f : ℕ → Bool). nat_lt brick.0 stage.setting.layout.bricks && f brick.0) up ∙ member.up;
-      group = ap (λ (f : ℕ → Learnt). group_kept stage.setting.layout (f c.call.group.0).view.members c.call.group.0) (learnt brick.0) ∙ member.group;
-      stripe = member.stripe;
-      from_one = member.from_one;
-      view = ap (λ (f : ℕ → Learnt). (f c.call.group.0).view.number.0) (learnt brick.0) ∙ member.view;
-      free =
-          ap (λ (f : ℕ → Learnt). has_accepted (record (later.nodes brick.0) { learnt = f }) c.call.group.0) (learnt brick.0)
-          ∙ ap (λ (f : ℕ → Kept (List BrickId)). has_accepted (record (w.nodes brick.0) { ballots = f }) c.call.group.0) (ballots brick.0) ∙ member.free;
-    })
-
-part_on : (node : Node) (c d : Coordinator) (part : Part) → SameCall c d → IsPart node c.call part → IsPart node d.call part
-part_on node c d part same is =
-    subst (λ (call : Call). IsPart node call part) (sym (call_same_but c d same)) (record { replica = is.replica; live = is.live })
+    → IsMember stage w call brick → IsMember stage later call brick
+serves_on stage w later call brick up learnt ballots member = record {
+  up = ap (λ (f : ℕ → Bool). nat_lt brick.0 stage.setting.layout.bricks && f brick.0) up ∙ member.up;
+  group = ap (λ (f : ℕ → Learnt). group_kept stage.setting.layout (f call.group.0).view.members call.group.0) (learnt brick.0) ∙ member.group;
+  stripe = member.stripe;
+  from_one = member.from_one;
+  view = ap (λ (f : ℕ → Learnt). (f call.group.0).view.number.0) (learnt brick.0) ∙ member.view;
+  free =
+      ap (λ (f : ℕ → Learnt). has_accepted (record (later.nodes brick.0) { learnt = f }) call.group.0) (learnt brick.0)
+      ∙ ap (λ (f : ℕ → Kept (List BrickId)). has_accepted (record (w.nodes brick.0) { ballots = f }) call.group.0) (ballots brick.0) ∙ member.free;
+}
 
 -- then the later world shows the next scene
 pub shows_next : (stage : Stage) (n : ℕ) (w later : World) (s next : Scene) (packet : Packet) (rest sent : List Packet)
@@ -123,11 +119,17 @@ shows_next stage n w later s next packet rest sent shows head move = record {
   number = ap (λ (f : ℕ → ℕ → ℕ → ℕ). f stage.me.0 next.c.call.boot next.c.call.seq) move.delivery.numbers
       ∙ ap (λ (b : ℕ). w.numbers stage.me.0 b next.c.call.seq) move.same.boot
       ∙ ap (λ (k : ℕ). w.numbers stage.me.0 s.c.call.boot k) move.same.seq ∙ shows.number;
+  begun = subst (λ (k : ℕ). n ≤ k) (sym move.begun) shows.begun;
+  within = let calls = move.same.seq in let nodes = move.node_seq in let was = shows.within in omega (arith, calls, nodes, was);
   clock = ap (λ (f : ℕ → ℕ). f stage.me.0) move.clocks ∙ shows.clock;
   known = move.known;
-  group = move.same.group ∙ shows.group;
-  members = λ brick one. serves_on stage w later s.c next.c brick move.same move.up move.learnt move.ballots (shows.members brick one);
-  parts = λ brick one. part_on (later.nodes brick.0) s.c next.c (next.parts brick.0) move.same (move.parts brick one);
+  of = of_same stage s.c next.c move.same shows.of;
+  members = λ brick one. serves_on stage w later stage.call brick move.up move.learnt move.ballots (shows.members brick one);
+  parts = λ brick one. move.parts brick one;
+  olds = λ may brick one. record {
+    log = ap (λ (r : Replica). r.log) (move.olds brick.0) ∙ (shows.olds may brick one).log;
+    unsynced = ap (λ (f : ℕ → Learnt). (f stage.call.group.0).synced) (move.learnt brick.0) ∙ (shows.olds may brick one).unsynced;
+  };
   queue = delivered_queue w later n stage.bricks packet rest sent shows.unsent head move.delivery ∙ sym move.queue;
   unsent = λ k above.
       let inside : head.place < length w.packets = slice_get_within w.packets head.place packet head.stands in

@@ -21,10 +21,10 @@ use Rattle.protocol.specs.Replicas.{written}
 use Rattle.protocol.specs.declared.phases.Phase.TheVariants.{Orders, OrdersAt, Recovers}
 
 -- there are fewer versions than phases that can be numbered
-abbrev pub AreFew : (stage : Stage) → Cast stage → (ℕ → List Version) → Type 0
-AreFew stage cast logs = (bound : Stamp) → total_below logs bound cast.xs + 16 ≤ 2 ^ 32 - 1
+abbrev pub AreFew : (stage : Stage) (cast : Cast stage) (logs : ℕ → List Version) → Lore stage cast logs → Type 0
+AreFew stage cast logs lore = (bound : Stamp) → total_below logs bound cast.xs + lore.phases + 16 ≤ 2 ^ 32 - 1
 
-module _ (stage : Stage) (cast : Cast stage) (logs : ℕ → List Version) (lore : Lore stage cast logs) (few : AreFew stage cast logs) where
+module _ (stage : Stage) (cast : Cast stage) (logs : ℕ → List Version) (lore : Lore stage cast logs) (few : AreFew stage cast logs lore) where
   -- a recovery at tame parts
   recover_tame : (s : Scene) → IsSet stage cast logs s → s.c.phase ≡ Recovers → s.c.call.phase ≤ 4 → IsUnheld logs s.c.stamp cast.xs → Closes stage s
   recover_tame s set phase early unheld =
@@ -32,7 +32,7 @@ module _ (stage : Stage) (cast : Cast stage) (logs : ℕ → List Version) (lore
       ordering_tame stage cast logs s (looking (Below s.c.stamp) Want.All) (recover_goes stage cast logs lore s)
       (recover_ordering stage cast logs lore s phase) set.open_is (omega (arith, early)) set.later set.tame
       (λ before parts known tame.
-      recover_accepted stage cast logs lore s set.open_is.group set.later (omega (arith, early, low))
+      recover_accepted stage cast logs lore s set.open_is.in_view set.later (omega (arith, early, low))
       (floor_below stage cast logs lore s.c.stamp parts tame unheld) set.open_is.others before parts known tame)
 
   -- a recovery in its first round
@@ -43,7 +43,7 @@ module _ (stage : Stage) (cast : Cast stage) (logs : ℕ → List Version) (lore
       ordering_first stage cast logs s (looking (Below s.c.stamp) Want.All) (recover_goes stage cast logs lore s)
       (recover_ordering stage cast logs lore s phase) first (omega (arith, early)) (λ y log. refl)
       (λ before parts known tame.
-      recover_accepted stage cast logs lore s first.open_is.group (not_first s.c.stamp first.from_one) (omega (arith, early, low))
+      recover_accepted stage cast logs lore s first.open_is.in_view (not_first s.c.stamp first.from_one) (omega (arith, early, low))
       (floor_below stage cast logs lore s.c.stamp parts tame unheld) first.open_is.others before parts known tame)
       (λ before parts known counted grows set free.
       recover_tame (sent stage (after_replies stage s known parts first.open_is.others before) (reordering (having s.c counted) (second_stamp stage s.c known)))
@@ -55,7 +55,7 @@ module _ (stage : Stage) (cast : Cast stage) (logs : ℕ → List Version) (lore
       ordering_tame stage cast logs s (λ x log. Ordered) (write_goes stage cast logs lore s)
       (write_ordering stage cast logs lore s phase) set.open_is (omega (arith, early)) set.later set.tame
       (λ before parts known tame.
-      write_accepted stage cast logs lore s set.open_is.group (omega (arith, early)) set.open_is.others before parts known tame)
+      write_accepted stage cast logs lore s set.open_is.in_view (omega (arith, early)) set.open_is.others before parts known tame)
 
   -- a stripe write
   pub write_first : (s : Scene) → IsFirst stage cast logs s → s.c.phase ≡ Orders → s.c.call.phase ≤ 3 → Closes stage s
@@ -63,7 +63,7 @@ module _ (stage : Stage) (cast : Cast stage) (logs : ℕ → List Version) (lore
       ordering_first stage cast logs s (λ x log. Ordered) (write_goes stage cast logs lore s)
       (write_ordering stage cast logs lore s phase) first (omega (arith, early)) (λ y log. refl)
       (λ before parts known tame.
-      write_accepted stage cast logs lore s first.open_is.group (omega (arith, early)) first.open_is.others before parts known tame)
+      write_accepted stage cast logs lore s first.open_is.in_view (omega (arith, early)) first.open_is.others before parts known tame)
       (λ before parts known counted grows set free.
       write_tame (sent stage (after_replies stage s known parts first.open_is.others before) (reordering (having s.c counted) (second_stamp stage s.c known)))
       set phase (omega (arith, early)))
@@ -78,7 +78,7 @@ module _ (stage : Stage) (cast : Cast stage) (logs : ℕ → List Version) (lore
         ordering_tame stage cast logs s (looking (Below s.c.stamp) (Want.Seat j)) (block_goes stage cast logs lore s j)
         (block_ordering stage cast logs lore s j phase) set.open_is (omega (arith, early)) set.later set.tame
         (λ before parts known tame.
-        block_accepted stage cast logs lore s j set.open_is.group set.later (omega (arith, early, low))
+        block_accepted stage cast logs lore s j set.open_is.in_view set.later (omega (arith, early, low))
         (floor_below stage cast logs lore s.c.stamp parts tame unheld) unheld below_m written deltas set.open_is.others before parts known tame)
 
     -- a block write
@@ -89,7 +89,7 @@ module _ (stage : Stage) (cast : Cast stage) (logs : ℕ → List Version) (lore
         ordering_first stage cast logs s (looking (Below s.c.stamp) (Want.Seat j)) (block_goes stage cast logs lore s j)
         (block_ordering stage cast logs lore s j phase) first (omega (arith, early)) (λ y log. refl)
         (λ before parts known tame.
-        block_accepted stage cast logs lore s j first.open_is.group (not_first s.c.stamp first.from_one) (omega (arith, early, low))
+        block_accepted stage cast logs lore s j first.open_is.in_view (not_first s.c.stamp first.from_one) (omega (arith, early, low))
         (floor_below stage cast logs lore s.c.stamp parts tame unheld) unheld below_m written deltas first.open_is.others before parts known tame)
         (λ before parts known counted grows set free.
         block_tame (sent stage (after_replies stage s known parts first.open_is.others before) (reordering (having s.c counted) (second_stamp stage s.c known))) j

@@ -111,7 +111,7 @@ store_phase stage cast s open_is phase early blocks taking =
       answer_with (read_of stage.setting.layout.block s.c.ask.op s.c.content),
       answers_well (read_of stage.setting.layout.block s.c.ask.op s.c.content),
       store_decides stage.setting.layout.block stage.setting.code fresh (record s.c { counted = map (counted_of (λ x. Stored)) cast.xs })
-          (none_stops (λ x. Stored) (λ x. refl) (λ x. refl) cast.xs) phase (none_refuses (λ x. Stored) (λ x. refl) cast.xs),
+          (none_stops (λ x. Stored) (record { unmoved = λ x. refl; undropped = λ x. refl; unfull = λ x. refl }) cast.xs) phase (none_refuses (λ x. Stored) (λ x. refl) cast.xs),
     ))
 
 -- a change is stored, where it is stored already, or its base is the newest version
@@ -174,7 +174,7 @@ pub modify_phase : (stage : Stage) (cast : Cast stage) (s : Scene) (base : Stamp
     → AreOn stage s.c.stamp base s.parts cast.xs → Closes stage s
 modify_phase stage cast s base j open_is phase early below long on =
     storing_ends stage cast s (IsNewest base) open_is (modify_so stage s.c base j phase) early
-    (λ x seated. fits_in_phase stage s.c (Modifies base j) x phase (modify_fits stage s.c base j x open_is.group below long))
+    (λ x seated. fits_in_phase stage s.c (Modifies base j) x phase (modify_fits stage s.c base j x open_is.in_view.of.group below long))
     (each_then (λ (x : Seated). Takes stage s.c.stamp (IsNewest base) (s.parts x.brick.0))
     (λ (x : Seated). IsStorable stage s.c.stamp (IsNewest base) (s.parts x.brick.0)) cast.xs
     (λ x h. inl h) on)
@@ -184,7 +184,7 @@ modify_phase stage cast s base j open_is phase early below long on =
       Done,
       refl,
       modify_decides stage.setting.layout.block stage.setting.code fresh (record s.c { counted = map (counted_of (λ x. Stored)) cast.xs })
-          (none_stops (λ x. Stored) (λ x. refl) (λ x. refl) cast.xs) base j phase (none_refuses (λ x. Stored) (λ x. refl) cast.xs)
+          (none_stops (λ x. Stored) (record { unmoved = λ x. refl; undropped = λ x. refl; unfull = λ x. refl }) cast.xs) base j phase (none_refuses (λ x. Stored) (λ x. refl) cast.xs)
           ∙ ap (λ (b : Bool). cond b (Sends (in_phase (record s.c { counted = map (counted_of (λ x. Stored)) cast.xs }) (Bases base)))
           (Ends Done None (Some s.c.stamp))) (none_behind cast.xs),
     ))

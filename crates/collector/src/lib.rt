@@ -12,7 +12,8 @@ use messages::{Call, Message, Request};
 /// The message that lets a member drop the versions of a call's stripe below one: the Collect of that stamp, with the call's last phase.
 ///
 /// It is sent once a quorum has stored the version: from then on each look finds that version or a later one, and none below it is
-/// needed. It goes to all members, after a read that recovered as after a write.
+/// needed. It goes to all members of the operation's view, after a read that recovered as after a write, whichever view the version that was read
+/// back is of.
 pub fn after_done(call: Call, stamp: Stamp) -> Message
     ensures { result ≡ message.Request call (request.Collect stamp) }
 {

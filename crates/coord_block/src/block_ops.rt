@@ -1,6 +1,6 @@
 //! Operations on one data block.
 
-ghost use Rattle.std.specs.Prelude.{◌≡◌, ◌-◌, ◌<◌, ◌^◌, true, IfOk, OnOk, OnErr};
+ghost use Rattle.std.specs.Prelude.{◌≡◌, ◌-◌, ◌<◌, ◌^◌, true, IfOk, IfSome, OnOk, OnErr};
 ghost use Rattle.protocol.specs.declared.phases.Phase.TheVariants.{LooksAt, OrdersAt, Modifies, Bases};
 ghost use Rattle.protocol.specs.Coordinators.{fast_version_at, common_version_at, greatest_refuser, once_ordered, unless_refused, answered_fast_at, modified_if, once_modified, rebuilt};
 ghost use Rattle.stripe_code.specs.Codes.{block_code};
@@ -43,6 +43,7 @@ fn end_look(op: &mut Operation, alloc: Global, j: u8) -> Result<Next, NoMem>
 fn end_order(op: &mut Operation, alloc: Global, j: u8, fresh: Option<Stamp>) -> Result<Next, NoMem>
     requires phase { op.old.state.phase ≡ OrdersAt j }
     requires few { op.old.state.call.phase < 2 ^ 32 - 1 }
+    requires fresh { IfSome fresh (λ stamp. stamp.view ≡ op.old.state.stamp.view) }
     ensures next { IfOk result (λ next. decision op.new next ≡ once_ordered fresh op.old.state (greatest_refuser op.old.state.counted)
         (modified_if (block_code op.old.block) op.old.state j (common_version_at j op.old.state.counted))) }
     ensures sent { IfOk result (λ next. SendsPhase op.new next) }
@@ -99,7 +100,7 @@ fn end_base(op: &mut Operation, alloc: Global, base: Stamp) -> Result<Next, NoMe
     if let Some(refuser) = op.refuser() {
         return Ok(op.abort(refuser));
     }
-    if op.blocks_of(base) < op.asked().m() as usize {
+    if op.blocks_of(base) < op.group().m() as usize {
         op.forget();
         return Ok(op.wait());
     }
@@ -120,8 +121,12 @@ impl Decide for Block {
             Phase::OrdersAt(j) => end_order(op, alloc, j, fresh),
             Phase::Modifies { base, .. } => end_modify(op, alloc, base),
             Phase::Bases(base) => end_base(op, alloc, base),
-            Phase::Looks | Phase::Orders | Phase::Recovers | Phase::Descends(_) | Phase::Stores =>
-                unreachable!(),
+            Phase::Looks
+            | Phase::Orders
+            | Phase::Recovers
+            | Phase::Descends(_)
+            | Phase::LooksBack(_)
+            | Phase::Stores => unreachable!(),
         }
     }
 }

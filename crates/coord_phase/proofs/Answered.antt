@@ -15,7 +15,8 @@ use Rattle.coord_phase.specs.declared.operations.News.{News}
 use Rattle.protocol.specs.declared.phases.Counted.{Counted}
 use Rattle.protocol.specs.declared.phases.FullMember.{FullMember}
 use Rattle.protocol.specs.declared.phases.Mover.{Mover}
-use Rattle.protocol.specs.Coordinators.{Next, Ignores, Waits, counts_at, lowest_full, aborted_full, lowest_mover, aborted_moved, decided, on_reply, counted_at}
+use Rattle.protocol.specs.declared.phases.Dropper.{Dropper}
+use Rattle.protocol.specs.Coordinators.{Next, Ignores, Waits, counts_at, lowest_full, aborted_full, lowest_mover, aborted_moved, lowest_dropper, aborted_gone, decided, on_reply, counted_at}
 use Rattle.stripe_code.specs.Codes.{block_code}
 use Rattle.coord_phase.specs.Operations.{Operation, StaysAsked, with_state, without_last, telling, needed, seat_told, counts, heard, heard_at}
 use Rattle.coord_phase.specs.Decisions.{decided_on, decision, Answers, AsksRecovery, HasBlocks, SendsPhase, IsWait}
@@ -192,21 +193,39 @@ answers_moved fresh before from message mid after answered full m heard_is some 
     answers_decided fresh before from message mid after answered full heard_is some full_is enough (aborts ∙ sym decides) sent
     (stays_telling mid after News.Nothing is)
 
--- where no member told one, and a member's store is full, that aborts it
+-- where no member told one, and a member has dropped its versions of the view before, that aborts it
+gone_decided : (fresh : Option Stamp) (op : Operation) (d : Dropper) → lowest_mover op.state.counted ≡ None
+    → lowest_dropper op.state.counted ≡ Some d
+    → decided op.block (block_code op.block) fresh op.state ≡ aborted_gone d
+unfolding decided
+gone_decided fresh op d none is = rw none (rw is refl)
+
+pub answers_gone : (fresh : Option Stamp) (before : Operation) (from : BrickId) (message : Message) (mid after : Operation) (answered : Answer)
+    (full : Bool) (d : Dropper)
+    → mid ≡ heard before from message → counts before from message ≡ true → full ≡ is_full mid → full ≡ true
+    → lowest_mover mid.state.counted ≡ None → lowest_dropper mid.state.counted ≡ Some d → decision after answered ≡ aborted_gone d
+    → SendsPhase after answered → after ≡ telling mid mid.state News.Nothing
+    → Answers fresh before from message answered after
+answers_gone fresh before from message mid after answered full d heard_is some full_is enough none told aborts sent is =
+    let decides = gone_decided fresh mid d none told in
+    answers_decided fresh before from message mid after answered full heard_is some full_is enough (aborts ∙ sym decides) sent
+    (stays_telling mid after News.Nothing is)
+
+-- where no member told either, and a member's store is full, that aborts it
 full_decided : (fresh : Option Stamp) (op : Operation) (f : FullMember) → lowest_mover op.state.counted ≡ None
-    → lowest_full op.state.counted ≡ Some f
+    → lowest_dropper op.state.counted ≡ None → lowest_full op.state.counted ≡ Some f
     → decided op.block (block_code op.block) fresh op.state ≡ aborted_full f
 unfolding decided
-full_decided fresh op f none is = rw none (rw is refl)
+full_decided fresh op f none kept is = rw none (rw kept (rw is refl))
 
 pub answers_full : (fresh : Option Stamp) (before : Operation) (from : BrickId) (message : Message) (mid after : Operation) (answered : Answer)
     (full : Bool) (f : FullMember)
     → mid ≡ heard before from message → counts before from message ≡ true → full ≡ is_full mid → full ≡ true
-    → lowest_mover mid.state.counted ≡ None → lowest_full mid.state.counted ≡ Some f → decision after answered ≡ aborted_full f → SendsPhase after answered
-    → after ≡ telling mid mid.state News.Nothing
+    → lowest_mover mid.state.counted ≡ None → lowest_dropper mid.state.counted ≡ None → lowest_full mid.state.counted ≡ Some f
+    → decision after answered ≡ aborted_full f → SendsPhase after answered → after ≡ telling mid mid.state News.Nothing
     → Answers fresh before from message answered after
-answers_full fresh before from message mid after answered full f heard_is some full_is enough none told aborts sent is =
-    let decides = full_decided fresh mid f none told in
+answers_full fresh before from message mid after answered full f heard_is some full_is enough none kept told aborts sent is =
+    let decides = full_decided fresh mid f none kept told in
     answers_decided fresh before from message mid after answered full heard_is some full_is enough (aborts ∙ sym decides) sent
     (stays_telling mid after News.Nothing is)
 

@@ -7,8 +7,9 @@ use Rattle.protocol.specs.declared.phases.Counted.{Counted}
 use Rattle.protocol.specs.declared.phases.Refuser.{Refuser}
 use Rattle.protocol.specs.declared.phases.FullMember.{FullMember}
 use Rattle.protocol.specs.declared.phases.Mover.{Mover}
-use Rattle.protocol.specs.Coordinators.{refuser_of, greater_refuser, greatest_refuser, full_member_of, lower_full, lowest_full, mover_of, lower_mover, lowest_mover, greater_stamp, greatest_found}
-use Rattle.coord_phase.specs.Foremost.{foremost, foremost_of, told_version, yields_refuser, yields_full, yields_mover}
+use Rattle.protocol.specs.declared.phases.Dropper.{Dropper}
+use Rattle.protocol.specs.Coordinators.{refuser_of, greater_refuser, greatest_refuser, full_member_of, lower_full, lowest_full, mover_of, lower_mover, lowest_mover, dropper_of, lower_dropper, lowest_dropper, greater_stamp, greatest_found}
+use Rattle.coord_phase.specs.Foremost.{foremost, foremost_of, told_version, yields_refuser, yields_full, yields_mover, yields_dropper}
 
 -- three tests one after the other, as one
 one_test : {X : Type 0} (less more low : Bool) (x y : X) → cond (less || (not more && low)) x y ≡ cond less x (cond more y (cond low x y))
@@ -30,6 +31,11 @@ mover_of_two : (a b : Option Mover) → foremost_of yields_mover a b ≡ lower_m
 mover_of_two None b = refl
 mover_of_two (Some a) None = refl
 mover_of_two (Some a) (Some b) = refl
+
+dropper_of_two : (a b : Option Dropper) → foremost_of yields_dropper a b ≡ lower_dropper a b
+dropper_of_two None b = refl
+dropper_of_two (Some a) None = refl
+dropper_of_two (Some a) (Some b) = refl
 
 stamp_of_two : (a b : Option Stamp) → foremost_of stamp_below a b ≡ greater_stamp a b
 stamp_of_two None b = refl
@@ -53,6 +59,12 @@ pub lowest_mover_is : (counted : List Counted) → foremost mover_of yields_move
 lowest_mover_is [] = refl
 lowest_mover_is (c ∷ counted) =
     ap (foremost_of yields_mover (mover_of c)) (lowest_mover_is counted) ∙ mover_of_two (mover_of c) (lowest_mover counted)
+
+-- the member of the lowest seat that dropped its versions of the view before
+pub lowest_dropper_is : (counted : List Counted) → foremost dropper_of yields_dropper counted ≡ lowest_dropper counted
+lowest_dropper_is [] = refl
+lowest_dropper_is (c ∷ counted) =
+    ap (foremost_of yields_dropper (dropper_of c)) (lowest_dropper_is counted) ∙ dropper_of_two (dropper_of c) (lowest_dropper counted)
 
 -- the greatest version
 pub greatest_found_is : (counted : List Counted) → foremost told_version stamp_below counted ≡ greatest_found counted

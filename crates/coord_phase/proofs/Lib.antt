@@ -1,4 +1,5 @@
 pub mod Answered
+pub mod Asked
 pub mod Pieces
 pub mod PhaseReplies
 pub mod TallyOf

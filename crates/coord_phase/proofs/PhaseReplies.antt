@@ -7,10 +7,10 @@ use Rattle.fab_base.specs.declared.identities.BrickId.{BrickId}
 use Rattle.messages.specs.declared.calls.Call.{Call}
 use Rattle.messages.specs.declared.replies.Reply.{Reply}
 use Rattle.protocol.specs.declared.phases.Counted.{Counted}
-use Rattle.protocol.specs.Coordinators.{Coordinator, has_seat, counts_at, with_reply}
+use Rattle.protocol.specs.Coordinators.{Coordinator, asked_group, has_seat, counts_at, with_reply}
 use Rattle.protocol.proofs.CountsAt.{counts_facts}
-use Rattle.fab_base.proofs.Seats.{seat_within}
 use Rattle.coord_phase.specs.Operations.{are_apart, IsInPhase}
+use Rattle.coord_phase.proofs.Asked.{counted_within}
 
 -- what is true of all is true of the first n
 pub all-take : {X : Type 0} (p : X → Bool) (n : ℕ) (xs : List X) → list_all p xs ≡ true → list_all p (take n xs) ≡ true
@@ -43,6 +43,8 @@ fewer_replies block c n is =
       fits = is.fits;
       long = is.long;
       content = is.content;
+      prior = is.prior;
+      asks = is.asks;
       seats = all-take _ n c.counted is.seats;
       answers = all-take _ n c.counted is.answers;
       apart = apart-take n c.counted is.apart;
@@ -82,7 +84,9 @@ one_more_reply block c from call reply seat is counts =
       fits = is.fits;
       long = is.long;
       content = is.content;
-      seats = all-more _ c.counted x is.seats (lt-ltb seat (length c.group.members) (seat_within c.group from.0 seat facts.seat_is));
+      prior = is.prior;
+      asks = is.asks;
+      seats = all-more _ c.counted x is.seats (lt-ltb seat (length (asked_group c).members) (counted_within block c from.0 call reply seat counts));
       answers = all-more _ c.counted x is.answers facts.answers;
       apart = apart-more c.counted x is.apart facts.first;
     }

@@ -17,8 +17,8 @@ use Rattle.rs_code.specs.Codewords.{AreSeats}
 use Rattle.protocol.specs.Settings.{Piece}
 use Rattle.protocol.specs.declared.phases.Counted.{Counted}
 use Rattle.protocol.specs.declared.phases.Phase.{Phase}
-use Rattle.protocol.specs.declared.phases.Phase.TheVariants.{Looks, LooksAt, OrdersAt, Recovers, Descends, Bases}
-use Rattle.protocol.specs.Coordinators.{Coordinator, has_seat, answers_phase, told_length, finds, all_find, found_bytes, bytes_at, pieces_of, pieces_at}
+use Rattle.protocol.specs.declared.phases.Phase.TheVariants.{Looks, LooksAt, OrdersAt, Recovers, Descends, LooksBack, Bases}
+use Rattle.protocol.specs.Coordinators.{Coordinator, asked_group, old_bound, has_seat, answers_phase, told_length, finds, all_find, found_bytes, bytes_at, pieces_of, pieces_at}
 use Rattle.stripe_code.specs.Codes.{AreFirst, decoded, decoded_block}
 use Rattle.coord_phase.specs.Operations.{are_apart, wants_all, IsInPhase}
 use Rattle.coord_phase.proofs.PhaseReplies.{all-take, apart-take}
@@ -94,11 +94,19 @@ read_long block t seat (Bases base) version answers =
     eqb-true (length version.block) block (and_parts (nat_eq (length version.block) block) (stamp_same version.stamp base) answers).0
 read_long block t seat phase version answers = absurd (false≢true answers)
 
+old_long : (block : ℕ) (t : Stamp) (seat : ℕ) (phase : Phase) (version : Version)
+    → answers_phase block t seat phase (replies.Old (Some version)) ≡ true → length version.block ≡ told_in_phase block seat phase
+old_long block t seat (LooksBack bound) version answers =
+    eqb-true (length version.block) block
+    (and_parts (nat_eq (length version.block) block) (stamp_below version.stamp (old_bound t bound)) answers).0
+old_long block t seat phase version answers = absurd (false≢true answers)
+
 found_long : (block : ℕ) (t v : Stamp) (phase : Phase) (seat : ℕ) (brick : BrickId) (reply : Reply)
     → answers_phase block t seat phase reply ≡ true → finds v (record { seat = seat; brick = brick; reply = reply }) ≡ true
     → length (found_bytes reply) ≡ told_in_phase block seat phase
 found_long block t v phase seat brick (replies.Found order (Some version)) answers found = newest_long block t seat phase order version answers
 found_long block t v phase seat brick (replies.OrderedRead (Some version)) answers found = read_long block t seat phase version answers
+found_long block t v phase seat brick (replies.Old (Some version)) answers found = old_long block t seat phase version answers
 found_long block t v phase seat brick reply answers found = absurd (false≢true found)
 
 -- where each member is to tell its block, that is the length of a block
@@ -233,14 +241,14 @@ pub record GiveBack (m block : ℕ) (pieces : List Piece) (seats blocks : List �
 
 -- so do those of a version that m counted replies tell
 pub give_back : (block : ℕ) (c : Coordinator) (v : Stamp) (m : ℕ) (seats blocks : List ℕ) → IsInPhase block c → wants_all c.phase ≡ true
-    → length c.group.members ≤ 32
+    → length (asked_group c).members ≤ 32
     → m ≤ length (pieces_at v c.counted) → seats ≡ seats_of (pieces_at v c.counted) → blocks ≡ blocks_of (pieces_at v c.counted)
     → GiveBack m block (pieces_at v c.counted) seats blocks
 give_back block c v m seats blocks is whole few enough seats_are blocks_are =
     let found : List Counted = filter (finds v) c.counted in
     let pieces : List Piece = pieces_at v c.counted in
     let long = found_are_long block c.stamp v c.phase c.counted whole is.answers in
-    let below = below_limit (length c.group.members) (take m found) few (all-take _ m found (all-filter _ (finds v) c.counted is.seats)) in
+    let below = below_limit (length (asked_group c).members) (take m found) few (all-take _ m found (all-filter _ (finds v) c.counted is.seats)) in
     let apart = apart-take m found (apart-filter (finds v) c.counted is.apart) in
     let count : length (take m found) ≡ m = length-take_first m found (omega (arith, enough, length-pieces_of found)) in
     let firsts : take m seats ≡ seats_of (pieces_of (take m found)) = ap (take m) seats_are ∙ take-seats_of m pieces

@@ -1,16 +1,14 @@
 -- A tally is that of the replies that count.
-use Rattle.std.proofs.Common.{◌≡◌, ◌≢◌, ℕ, zero, suc, ◌<◌, ◌≤◌, Bool, true, false, not, cond, if◌then◌else◌, ◌||◌, List, [], ◌∷◌, ◌++◌, length, Option, Some, None, get_or, refl, sym, ◌∙◌, ap, subst, ⊎_elim, arith}
+use Rattle.std.proofs.Common.{◌≡◌, ◌≢◌, ℕ, zero, suc, ◌<◌, Bool, true, false, not, cond, if◌then◌else◌, ◌||◌, List, [], ◌∷◌, ◌++◌, length, Option, Some, None, get_or, refl, sym, ◌∙◌, ap, subst, ⊎_elim, arith}
 use Rattle.std.specs.Prelude.{nat_eq, nat_lt, filter, replicate}
 use Rattle.std.specs.List.{list_all}
 use Rattle.std.proofs.lemmas.Bool.{and_parts, and_from, or_parts, or_from, not-true, lt-ltb, ltb-true, eqb-false, ne_eqb, eq-eqb, cases_eq, cases_Bool, false≢true}
-use Rattle.std.specs.Bool.{IsTrue}
 use Rattle.std.specs.Option.{MatchOption}
-use Rattle.std.proofs.lemmas.Bool.Decides.{nat_tests}
 use Rattle.std.proofs.lemmas.List.{get_or-set_same, get_or-set_other, length-set, length-replicate}
 use Rattle.fab_base.specs.declared.stamps.Stamp.{Stamp}
 use Rattle.fab_base.proofs.StampOrder.{stamp_same_refl, stamp_same_true}
 use Rattle.messages.specs.declared.replies.Reply.{Reply}
-use Rattle.messages.specs.declared.replies.Reply.TheVariants.{Found, OrderedRead}
+use Rattle.messages.specs.declared.replies.Reply.TheVariants.{Found, OrderedRead, Old}
 use Rattle.protocol.specs.declared.phases.Counted.{Counted}
 use Rattle.protocol.specs.Coordinators.{has_seat, told_stamp, finds, pieces_at}
 use Rattle.quorum.specs.declared.seats.Seat.{Seat}
@@ -76,6 +74,8 @@ reports_found v k c (Found order None) is = refl
 reports_found v k c (Found order (Some version)) is = refl
 reports_found v k c (OrderedRead None) is = refl
 reports_found v k c (OrderedRead (Some version)) is = refl
+reports_found v k c (Old None) is = refl
+reports_found v k c (Old (Some version)) is = refl
 reports_found v k c reply is = refl
 
 pub reports_finds : (v : Stamp) (c : Counted) → reports v (seat.Counted (told_stamp c.reply)) ≡ finds v c

@@ -6,6 +6,7 @@ use Rattle.protocol.specs.declared.phases.Counted.{Counted}
 use Rattle.protocol.specs.declared.phases.Refuser.{Refuser}
 use Rattle.protocol.specs.declared.phases.FullMember.{FullMember}
 use Rattle.protocol.specs.declared.phases.Mover.{Mover}
+use Rattle.protocol.specs.declared.phases.Dropper.{Dropper}
 use Rattle.protocol.specs.Coordinators.{told_stamp}
 
 -- of two, where there are some, the first, unless it yields to the second
@@ -34,3 +35,7 @@ yields_full a b = nat_lt b.seat a.seat
 -- a member that told a later view goes after one at a lower seat
 abbrev pub yields_mover : Mover → Mover → Bool
 yields_mover a b = nat_lt b.seat a.seat
+
+-- a member that dropped its versions of the view before goes after one at a lower seat
+abbrev pub yields_dropper : Dropper → Dropper → Bool
+yields_dropper a b = nat_lt b.seat a.seat

@@ -4,7 +4,7 @@ use Rattle.fab_base.specs.declared.identities.BrickId.{BrickId}
 use Rattle.messages.specs.declared.packets.Message.{Message}
 use Rattle.messages.specs.declared.packets.Packet.{Packet}
 use Rattle.protocol.specs.declared.phases.Phase.TheVariants.{Stores}
-use Rattle.protocol.specs.Coordinators.{request_of}
+use Rattle.protocol.specs.Coordinators.{asked_group, request_of}
 use Rattle.protocol.specs.Nodes.{resent_to}
 use Rattle.stripe_code.specs.Codes.{block_code, AreParity}
 use Rattle.coord_phase.specs.Operations.{Operation}
@@ -13,11 +13,12 @@ use Rattle.coord_phase.specs.Operations.{Operation}
 abbrev pub without_sender : Packet → BrickId × Message
 without_sender packet = (packet.to, packet.message)
 
--- the messages of an operation's phase, whichever brick sends them: as it begins they go to all members, and later to those without a counted reply
+-- the messages of an operation's phase, whichever brick sends them: as it begins they go to all members that it asks, and later to those without a counted
+-- reply
 abbrev pub phase_messages : Operation → List (BrickId × Message)
 phase_messages op =
     map without_sender
-    (resent_to (record { 0 = 0 }) op.state.call (request_of (block_code op.block) op.state) op.state.counted 0 op.state.group.members)
+    (resent_to (record { 0 = 0 }) op.state.call (request_of (block_code op.block) op.state) op.state.counted 0 (asked_group op.state).members)
 
 -- these are the parity blocks of what an operation stores, in the phase that stores it
 abbrev pub HasParity : Operation → List ℕ → Type 0

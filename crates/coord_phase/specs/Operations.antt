@@ -1,5 +1,5 @@
 -- An operation in a phase, at its coordinator.
-use Rattle.std.specs.Prelude.{◌≡◌, ℕ, ◌-◌, ◌*◌, Bool, true, false, not, nat_lt, ◌&&◌, List, [], ◌∷◌, length, take, Option, Some, None, is_some}
+use Rattle.std.specs.Prelude.{◌≡◌, ℕ, ◌-◌, ◌*◌, ◌<◌, Bool, true, false, not, nat_lt, ◌&&◌, List, [], ◌∷◌, length, take, Option, Some, None, is_some}
 use Rattle.std.specs.List.{list_all, list_any}
 use Rattle.fab_base.specs.declared.identities.BrickId.{BrickId}
 use Rattle.fab_base.specs.declared.identities.CallId.{CallId}
@@ -15,12 +15,12 @@ use Rattle.coord_phase.specs.declared.operations.Stage.{Stage}
 use Rattle.coord_phase.specs.declared.operations.OnBase.{OnBase}
 use Rattle.coord_phase.specs.declared.operations.News.{News}
 use Rattle.fab_base.specs.Layouts.{Layout, Group}
-use Rattle.quorum.specs.Quorums.{quorum_of}
+use Rattle.quorum.specs.Quorums.{IsWithinLimits, quorum_of}
 use Rattle.protocol.specs.Views.{group_kept}
 use Rattle.protocol.specs.declared.phases.Phase.{Phase}
-use Rattle.protocol.specs.declared.phases.Phase.TheVariants.{Looks, LooksAt, Orders, OrdersAt, Recovers, Descends, Modifies, Bases, Stores}
+use Rattle.protocol.specs.declared.phases.Phase.TheVariants.{Looks, LooksAt, Orders, OrdersAt, Recovers, Descends, LooksBack, Modifies, Bases, Stores}
 use Rattle.protocol.specs.declared.phases.Counted.{Counted}
-use Rattle.protocol.specs.Coordinators.{Coordinator, answers_phase, block_written, counts_at, has_seat, with_reply}
+use Rattle.protocol.specs.Coordinators.{Coordinator, answers_phase, asked_group, block_written, counts_at, has_seat, with_reply}
 use Rattle.protocol.specs.Nodes.{has_block, has_length, first_phase, given_content}
 
 -- an operation: the bytes of a block, how far the machine's coordinator is, and what the last reply that it heard made new of a version
@@ -51,13 +51,9 @@ stored_in News.Made stamp = None
 stored_in (News.Seen version) stamp = None
 stored_in News.Stored stamp = Some stamp
 
--- the group whose members a phase asks: that of the operation's view
-abbrev pub asked : Coordinator → Group
-asked c = c.group
-
 -- how many replies decide a phase: a quorum of those who are asked
 abbrev pub needed : Coordinator → ℕ
-needed c = quorum_of (asked c)
+needed c = quorum_of (asked_group c)
 
 -- a reply of this seat may count: none of it does yet
 abbrev pub may_count : Coordinator → ℕ → Bool
@@ -140,6 +136,7 @@ same_phase Orders Orders = true
 same_phase (OrdersAt j) (OrdersAt other) = true
 same_phase Recovers Recovers = true
 same_phase (Descends bound) (Descends other) = true
+same_phase (LooksBack bound) (LooksBack other) = true
 same_phase (Modifies base j) (Modifies other k) = true
 same_phase (Bases base) (Bases other) = true
 same_phase Stores Stores = true
@@ -176,13 +173,25 @@ StoresBlocks block m op content (OrdersAt j) = length (block_written op) ≡ blo
 StoresBlocks block m op content Stores = length content ≡ m * block
 StoresBlocks block m op content phase = Unit {0}
 
+-- where there is a view before one of this number, its members are within the limits of a quorum of m data blocks
+pub record PriorIsWithinLimits (m : ℕ) (view : ViewNo) (prior : List BrickId) : Type 0 where
+  pub limits : 1 < view.0 → IsWithinLimits m (length prior)
+
+-- there is a view whose members a phase asks: one that looks back has a view before its own
+abbrev pub MayAsk : ViewNo → Phase → Type 0
+MayAsk view (LooksBack bound) = 1 < view.0
+MayAsk view phase = Unit {0}
+
 -- What is true of an operation in each phase: the data block that it asks for is one of m, and what it is given to write has its length; what it
--- stores is m blocks; and each reply that counts is of a seat of the group, answers the phase, and is its seat's only one.
+-- stores is m blocks; there are members whom the phase asks; and each reply that counts is of a seat of these, answers the phase, and is its seat's
+-- only one.
 pub record IsInPhase (block : ℕ) (c : Coordinator) : Type 0 where
   pub fits : has_block c.group.m c.ask.op ≡ true
   pub long : has_length c.group.m block c.ask.op ≡ true
   pub content : StoresBlocks block c.group.m c.ask.op c.content c.phase
-  pub seats : list_all (λ reply. nat_lt reply.seat (length c.group.members)) c.counted ≡ true
+  pub prior : PriorIsWithinLimits c.group.m c.stamp.view c.prior
+  pub asks : MayAsk c.stamp.view c.phase
+  pub seats : list_all (λ reply. nat_lt reply.seat (length (asked_group c).members)) c.counted ≡ true
   pub answers : list_all (λ reply. answers_phase block c.stamp reply.seat c.phase reply.reply) c.counted ≡ true
   pub apart : are_apart c.counted ≡ true
 

@@ -2,10 +2,11 @@
 
 ghost use Rattle.std.specs.Prelude.{◌≡◌, ◌≤◌, ◌<◌, length, IfSome};
 ghost use Rattle.fab_base.specs.Layouts.{seat_in};
-ghost use Rattle.protocol.specs.Coordinators.{call_same, may_be_found, may_be_base, told_length, answers_phase};
+ghost use Rattle.protocol.specs.Coordinators.{call_same, may_be_found, may_be_base, told_length, old_bound, answers_phase};
+ghost use Rattle.protocol.specs.Views.{floor_of};
 
 use crate::operations::Operation;
-use fab_base::{BrickId, NoMem, Stamp};
+use fab_base::{BrickId, NoMem, Stamp, ViewNo};
 use messages::{Call, Message, Reply, Version};
 use protocol::{Counted, Phase};
 use std::alloc::Global;
@@ -45,6 +46,29 @@ fn told_length(block: u16, j: u8, seat: u8) -> u16
     if j == seat { block } else { 0 }
 }
 
+/// The stamp that is below all that are made in a view, and above all of the views before it; in view 1, the first stamp.
+fn floor_of(view: ViewNo) -> Stamp
+    ensures { result ≡ floor_of view.0 }
+{
+    if view.0 <= 1 {
+        return Stamp::FIRST;
+    }
+    Stamp {
+        view,
+        ..Stamp::FIRST
+    }
+}
+
+/// The stamp below which a phase that looks back finds versions: its bound, or the first stamp of the operation's view.
+fn old_bound(stamp: Stamp, bound: Option<Stamp>) -> Stamp
+    ensures { result ≡ old_bound stamp bound }
+{
+    match bound {
+        None => floor_of(stamp.view),
+        Some(bound) => bound,
+    }
+}
+
 /// Whether a seat's reply answers the request of a phase of an operation of this stamp; a block has this many bytes.
 fn answers(block: u16, stamp: Stamp, seat: u8, phase: Phase, reply: &Reply) -> bool
     ensures { result ≡ answers_phase block stamp seat phase reply.now }
@@ -66,6 +90,11 @@ fn answers(block: u16, stamp: Stamp, seat: u8, phase: Phase, reply: &Reply) -> b
             may_be_found(block, bound, found)
         }
         (Phase::Bases(base), Reply::OrderedRead { found }) => may_be_base(block, base, found),
+        (Phase::LooksBack(bound), Reply::Old { found }) => {
+            may_be_found(block, old_bound(stamp, bound), found)
+        }
+        (Phase::LooksBack(_), Reply::Retired) => true,
+        (Phase::LooksBack(_), _) => false,
         (_, Reply::Moved { .. }) => true,
         (Phase::Orders, Reply::Ordered)
         | (Phase::Modifies { .. }, Reply::Stored | Reply::Behind { .. })
@@ -86,13 +115,13 @@ fn answers(block: u16, stamp: Stamp, seat: u8, phase: Phase, reply: &Reply) -> b
 
 impl Operation {
     ghost use Rattle.std.specs.Prelude.{◌≡◌, ◌-◌, ◌<◌, ◌≤◌, ◌^◌, not, nat_lt, true, None, Some, IfSome, IfOk, OnOk, OnErr, length};
-    ghost use Rattle.protocol.specs.Coordinators.{has_seat, counts_at};
+    ghost use Rattle.protocol.specs.Coordinators.{asked_group, has_seat, counts_at};
     ghost use Rattle.protocol.specs.Nodes.{has_length};
     ghost use Rattle.coord_phase.specs.Operations.{with_state, without_last, needed, may_count, counts, heard};
 
     /// Whether the member at a seat has a reply that counts.
     pub(crate) fn has_reply(&self, seat: u8) -> bool
-        requires { seat < length self.now.state.group.members }
+        requires { seat < length (asked_group self.now.state).members }
         ensures { result ≡ has_seat seat self.now.state.counted }
     {
         self.replies.has_reply(seat)
@@ -100,7 +129,7 @@ impl Operation {
 
     /// Whether a reply of this seat may count: none of it does yet.
     fn may_count(&self, seat: u8) -> bool
-        requires { seat < length self.now.state.group.members }
+        requires { seat < length (asked_group self.now.state).members }
         ensures { result ≡ may_count self.now.state seat }
     {
         !self.has_reply(seat)
@@ -145,6 +174,7 @@ impl Operation {
     ) -> Result<bool, NoMem>
         ensures counted { IfOk result (λ counted. counted ≡ counts self.old from message.now) }
         ensures heard { OnOk result (self.new ≡ heard self.old from message.now) }
+        ensures stamp { self.new.state.stamp ≡ self.old.state.stamp }
         ensures few { IfOk result (λ counted. counted ≡ true → self.new.state.call.phase < 2 ^ 32 - 1) }
         ensures err { OnErr result (self.new ≡ self.old) }
     {

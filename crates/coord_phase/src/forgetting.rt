@@ -11,6 +11,7 @@ impl Operation {
     pub fn forget(&mut self)
         ensures { self.new ≡ with_state self.old (forgetting self.old.state) }
     {
-        self.replies.clear(self.group.policy());
+        let policy = self.asked().policy();
+        self.replies.clear(policy);
     }
 }

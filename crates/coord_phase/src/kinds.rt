@@ -44,10 +44,10 @@ impl<K: Decide> Model for Coordinated<K> {
 }
 
 impl<K: Decide> Coordinated<K> {
-    ghost use Rattle.std.specs.Prelude.{◌≡◌, true, IfOk, OnErr, length};
+    ghost use Rattle.std.specs.Prelude.{◌≡◌, true, IfOk, IfSome, OnErr, length};
     ghost use Rattle.quorum.specs.Quorums.{IsWithinLimits};
     ghost use Rattle.protocol.specs.Nodes.{has_block, has_length, first_phase};
-    ghost use Rattle.coord_phase.specs.Operations.{group_in_view, first_op, counts, with_state, without_last};
+    ghost use Rattle.coord_phase.specs.Operations.{PriorIsWithinLimits, group_in_view, first_op, counts, with_state, without_last};
     ghost use Rattle.coord_phase.specs.Decisions.{Answers, AsksRecovery, SendsPhase, IsSend};
 
     /// The operation as one of a kind that it may be of.
@@ -62,9 +62,9 @@ impl<K: Decide> Coordinated<K> {
         }
     }
 
-    /// Begins an operation of this kind, with its stamp: a read looks, and a write orders. It is asked of the members of the view, whose
-    /// number and that of the group's data blocks are within the limits of a quorum. The data block that it asks for is one of these, and
-    /// what it writes is one block, or m blocks.
+    /// Begins an operation of this kind, with its stamp of the view: a read looks, and a write orders. It is asked of the members of the view, whose
+    /// number and that of the group's data blocks are within the limits of a quorum; so are those before them, where there is a view before. The data
+    /// block that it asks for is one of these, and what it writes is one block, or m blocks.
     ///
     /// # Errors
     ///
@@ -79,6 +79,8 @@ impl<K: Decide> Coordinated<K> {
     ) -> Result<(Coordinated<K>, Next), NoMem>
         requires own { K.is_own (first_phase ask.op) ≡ true }
         requires limits { IsWithinLimits (group_in_view layout.now view.members ask.group.0).m (length view.members) }
+        requires prior { PriorIsWithinLimits (group_in_view layout.now view.members ask.group.0).m view.number view.prior }
+        requires view { stamp.view ≡ view.number }
         requires fits { has_block (group_in_view layout.now view.members ask.group.0).m ask.op ≡ true }
         requires length { has_length (group_in_view layout.now view.members ask.group.0).m layout.now.block ask.op ≡ true }
         ensures op { IfOk result (λ begun. begun.0 ≡ first_op layout.now view call ask stamp) }
@@ -99,8 +101,8 @@ impl<K: Decide> Coordinated<K> {
         self.op.counts(from, reply)
     }
 
-    /// What the operation does with a message. A new round of ordering would have the fresh stamp; there is none where no later time is
-    /// left.
+    /// What the operation does with a message. A new round of ordering would have the fresh stamp, which is of the operation's view; there is
+    /// none where no later time is left.
     ///
     /// # Errors
     ///
@@ -111,6 +113,7 @@ impl<K: Decide> Coordinated<K> {
         reply: &Message,
         fresh: Option<Stamp>,
     ) -> Result<Next, NoMem>
+        requires fresh { IfSome fresh (λ stamp. stamp.view ≡ self.old.state.stamp.view) }
         ensures answers { IfOk result (λ next. Answers fresh self.old from reply.now next self.new) }
         ensures recovery { IfOk result (λ next. AsksRecovery K.may_recover self.old.block next self.old.state (without_last self.new.state)) }
         ensures err { OnErr result (self.new ≡ self.old) }

@@ -3,6 +3,7 @@
 ghost use Rattle.std.specs.Prelude.{◌≡◌, IfOk, length};
 ghost use Rattle.quorum.specs.Quorums.{IsWithinLimits};
 ghost use Rattle.coord_phase.specs.Operations.{group_in_view, call_in};
+ghost use Rattle.protocol.specs.Coordinators.{looks_back};
 
 use crate::replies::Replies;
 use fab_base::{Ask, Bytes, CallId, GroupId, Members, NoMem, Op, Stamp, View, ViewNo};
@@ -61,6 +62,7 @@ pub struct Operation {
 
 impl Model for Operation {
     ghost use Rattle.std.specs.Prelude.{◌≡◌, length};
+    ghost use Rattle.protocol.specs.Coordinators.{asked_group};
     ghost use Rattle.coord_phase.specs.Operations.{Operation, IsInPhase, base_in, content_in};
 
     ghost Value = { Operation };
@@ -73,7 +75,8 @@ impl Model for Operation {
 
     ghost invariant = { λ op. IsInPhase op.block
         (record { group = op.group; prior = op.prior; ask = op.ask; stamp = op.stage.stamp; round = op.stage.round; base = base_in op.on_base; content = content_in op.ask.op op.on_base; call = op.stage.call; phase = op.stage.phase; counted = op.replies.list.items })
-        × (op.replies.tally.n ≡ length op.group.members) };
+        × (op.replies.tally.n ≡ length (asked_group
+        (record { group = op.group; prior = op.prior; ask = op.ask; stamp = op.stage.stamp; round = op.stage.round; base = base_in op.on_base; content = content_in op.ask.op op.on_base; call = op.stage.call; phase = op.stage.phase; counted = op.replies.list.items })).members) };
 }
 
 /// A group of these members, within the limits of a quorum.
@@ -112,6 +115,13 @@ pub(crate) fn call_in(call: CallId, number: u32, ask: &Ask, view: ViewNo) -> Cal
     }
 }
 
+/// Whether a phase looks back: it asks the members of the view before the operation's.
+pub(crate) fn looks_back(phase: Phase) -> bool
+    ensures { result ≡ looks_back phase }
+{
+    matches!(phase, Phase::LooksBack(_))
+}
+
 /// A copy of the base that an operation found, if it did.
 fn copy_on_base(alloc: Global, on_base: &Option<OnBase>) -> Result<Option<OnBase>, NoMem>
     ensures { IfOk result (λ made. made ≡ on_base.now) }
@@ -126,15 +136,17 @@ fn copy_on_base(alloc: Global, on_base: &Option<OnBase>) -> Result<Option<OnBase
 }
 
 impl Operation {
-    ghost use Rattle.std.specs.Prelude.{◌≡◌, ◌≤◌, true, Some, IfOk, length};
-    ghost use Rattle.protocol.specs.Coordinators.{block_written, forgetting};
+    ghost use Rattle.std.specs.Prelude.{◌≡◌, ◌≤◌, ◌<◌, true, false, Some, IfOk, length};
+    ghost use Rattle.protocol.specs.Coordinators.{looks_back, asked_group, block_written, forgetting, may_look_back};
     ghost use Rattle.protocol.specs.Nodes.{has_block, has_length, given_content};
     ghost use Rattle.coord_phase.specs.declared.operations.News.TheVariants as news;
-    ghost use Rattle.coord_phase.specs.Operations.{StoresBlocks, asked, needed, opened_op, is_storing, seen_in, stored_in, telling};
+    ghost use Rattle.coord_phase.specs.Operations.{StoresBlocks, PriorIsWithinLimits, MayAsk, needed, opened_op, is_storing, seen_in, stored_in, telling};
 
     /// An operation in its first round, in this phase of its call, asked of the members of a view, whose number and that of the group's
-    /// data blocks are within the limits of a quorum. The data block that it asks for is one of them. What it is given to write is one
-    /// block, or m blocks; and where the phase makes ready to store that, it is given that.
+    /// data blocks are within the limits of a quorum; so are those before them, where there is a view before. Its stamp is of the view, and the phase does not look
+    /// back. The data block that it asks for is one of them. What it is given to write is one block, or m blocks; and where the phase makes ready to store
+    /// that, it is given that.
+    #[tactic(auto, using(crate::proofs::Asked::asked_own, crate::proofs::Asked::may_ask_own))]
     pub(crate) fn opened(
         alloc: Global,
         layout: &Layout,
@@ -145,6 +157,9 @@ impl Operation {
         phase: Phase,
     ) -> Operation
         requires limits { IsWithinLimits (group_in_view layout.now view.now.members ask.group.0).m (length view.now.members) }
+        requires prior { PriorIsWithinLimits (group_in_view layout.now view.now.members ask.group.0).m view.now.number view.now.prior }
+        requires view { stamp.view ≡ view.now.number }
+        requires own { looks_back phase ≡ false }
         requires fits { has_block (group_in_view layout.now view.now.members ask.group.0).m ask.op ≡ true }
         requires length { has_length (group_in_view layout.now view.now.members ask.group.0).m layout.now.block ask.op ≡ true }
         requires content { StoresBlocks layout.now.block (group_in_view layout.now view.now.members ask.group.0).m ask.op (given_content ask.op) phase }
@@ -180,16 +195,44 @@ impl Operation {
             ask: self.ask.copy(alloc)?,
             stage: self.stage,
             on_base: copy_on_base(alloc, &self.on_base)?,
-            replies: Replies::new(alloc, self.group.policy()),
+            replies: Replies::new(alloc, self.asked().policy()),
             news: News::Nothing,
         })
     }
 
-    /// The group whose members the phase asks: that of the operation's view.
-    pub fn asked(&self) -> &Group
-        ensures { result.now ≡ asked self.now.state }
+    /// The group of the operation's view.
+    pub fn group(&self) -> &Group
+        ensures { result.now ≡ self.now.state.group }
     {
         &self.group
+    }
+
+    /// The group as the members keep it that a phase asks: those of the operation's view, or those before them where it looks back.
+    pub(crate) fn asked_in(&self, phase: Phase) -> Group
+        requires { MayAsk self.now.state.stamp.view phase }
+        ensures { result ≡ asked_group (record self.now.state { phase = phase }) }
+    {
+        match phase {
+            Phase::LooksBack(_) => {
+                group_of_members(self.prior.copy(), self.group.m(), self.group.stripes())
+            }
+            Phase::Looks
+            | Phase::LooksAt(_)
+            | Phase::Orders
+            | Phase::OrdersAt(_)
+            | Phase::Recovers
+            | Phase::Descends(_)
+            | Phase::Modifies { .. }
+            | Phase::Bases(_)
+            | Phase::Stores => self.group.copy(),
+        }
+    }
+
+    /// The group as the members keep it that the present phase asks.
+    pub fn asked(&self) -> Group
+        ensures { result ≡ asked_group self.now.state }
+    {
+        self.asked_in(self.stage.phase)
     }
 
     /// How many replies decide the phase, at least as many as there are data blocks: a quorum of those who are asked.
@@ -207,11 +250,20 @@ impl Operation {
         &self.ask
     }
 
-    /// How far the operation is.
+    /// How far the operation is. There is a view whose members its phase asks.
     pub fn stage(&self) -> Stage
-        ensures { result ≡ record { stamp = self.now.state.stamp; round = self.now.state.round; call = self.now.state.call; phase = self.now.state.phase } }
+        ensures asks { MayAsk self.now.state.stamp.view self.now.state.phase }
+        ensures stage { result ≡ record { stamp = self.now.state.stamp; round = self.now.state.round; call = self.now.state.call; phase = self.now.state.phase } }
     {
         self.stage
+    }
+
+    /// Whether the operation has a view before its own, and has not looked back yet.
+    pub fn may_look_back(&self) -> bool
+        ensures value { result ≡ may_look_back self.now.state }
+        ensures asks { result ≡ true → 1 < self.now.state.stamp.view.0 }
+    {
+        self.stage.stamp.view.0 > 1 && !looks_back(self.stage.phase)
     }
 
     /// Whether the phase has members keep the operation's version: only then may a reply end it with a version that may be collected.

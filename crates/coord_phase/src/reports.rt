@@ -1,17 +1,17 @@
-//! What goes first of what the replies of a phase tell: the greatest version, the refuser of the greatest stamp, and the full member and the
-//! mover of the lowest seat.
+//! What goes first of what the replies of a phase tell: the greatest version, the refuser of the greatest stamp, and the full member, the
+//! mover and the dropper of the lowest seat.
 
 ghost use Rattle.std.specs.Prelude.{◌≡◌, Bool, Option, length, nat_lt};
 ghost use Rattle.protocol.specs.declared.phases.Counted.{Counted};
 ghost use Rattle.fab_base.specs.Stamps.{stamp_below};
-ghost use Rattle.protocol.specs.Coordinators.{refuser_of, full_member_of, mover_of, is_behind};
-ghost use Rattle.coord_phase.specs.Foremost.{foremost, foremost_of, told_version, yields_refuser, yields_full, yields_mover};
+ghost use Rattle.protocol.specs.Coordinators.{refuser_of, full_member_of, mover_of, dropper_of, is_behind};
+ghost use Rattle.coord_phase.specs.Foremost.{foremost, foremost_of, told_version, yields_refuser, yields_full, yields_mover, yields_dropper};
 
 use crate::operations::Operation;
 use crate::versions::told_stamp;
 use fab_base::Stamp;
 use messages::Reply;
-use protocol::{Counted, FullMember, Mover, Refuser};
+use protocol::{Counted, Dropper, FullMember, Mover, Refuser};
 
 /// What a reply may tell; of two that are told one goes first.
 trait Report: Copy {
@@ -139,6 +139,27 @@ impl Report for Mover {
     }
 }
 
+/// A member that told that it has dropped its versions of the view before; the lower seat goes first.
+impl Report for Dropper {
+    ghost told = { dropper_of };
+
+    ghost yields = { yields_dropper };
+
+    fn told(counted: &Counted) -> Option<Dropper> {
+        match &counted.reply {
+            Reply::Retired => Some(Dropper {
+                seat: counted.seat,
+                brick: counted.brick,
+            }),
+            _ => None,
+        }
+    }
+
+    fn yields_to(self, other: Dropper) -> bool {
+        other.seat < self.seat
+    }
+}
+
 /// Whether a member's newest version is another than the one that was to be modified.
 fn is_behind(reply: &Reply) -> bool
     ensures { result ≡ is_behind reply.now }
@@ -148,7 +169,7 @@ fn is_behind(reply: &Reply) -> bool
 
 impl Operation {
     ghost use Rattle.std.specs.Prelude.{◌≡◌};
-    ghost use Rattle.protocol.specs.Coordinators.{greatest_refuser, lowest_full, lowest_mover, greatest_found, some_behind};
+    ghost use Rattle.protocol.specs.Coordinators.{greatest_refuser, lowest_full, lowest_mover, lowest_dropper, greatest_found, some_behind};
 
     /// The member that told the greatest later stamp, if one did; of equals, the one of the lowest seat.
     #[tactic(auto, using(crate::proofs::Foremost::greatest_refuser_is))]
@@ -172,6 +193,14 @@ impl Operation {
         ensures { result ≡ lowest_mover self.now.state.counted }
     {
         foremost::<Mover>(self.counted())
+    }
+
+    /// The member of the lowest seat that told that it has dropped its versions of the view before, if one did.
+    #[tactic(auto, using(crate::proofs::Foremost::lowest_dropper_is))]
+    pub(crate) fn dropper(&self) -> Option<Dropper>
+        ensures { result ≡ lowest_dropper self.now.state.counted }
+    {
+        foremost::<Dropper>(self.counted())
     }
 
     /// The stamp of the greatest version that the replies tell, if they tell one.

@@ -10,7 +10,7 @@ impl Operation {
     ghost use Rattle.std.specs.Prelude.{◌≡◌, ◌<◌, IfOk, length};
     ghost use Rattle.stripe_code.specs.Codes.{block_code};
     ghost use Rattle.protocol.specs.declared.phases.Phase.TheVariants.{Stores};
-    ghost use Rattle.protocol.specs.Coordinators.{delta_at, request_of};
+    ghost use Rattle.protocol.specs.Coordinators.{asked_group, delta_at, request_of};
     ghost use Rattle.coord_phase.specs.Messages.{phase_messages, HasParity};
 
     /// All parity blocks of what the phase stores, made in one pass; none where it stores nothing.
@@ -28,6 +28,7 @@ impl Operation {
             | Phase::OrdersAt(_)
             | Phase::Recovers
             | Phase::Descends(_)
+            | Phase::LooksBack(_)
             | Phase::Modifies { .. }
             | Phase::Bases(_) => Ok(Bytes::empty(alloc)),
         }
@@ -62,7 +63,7 @@ impl Operation {
     /// What the phase asks of the member at a seat. What it stores has these parity blocks.
     #[tactic(auto, unfolding(protocol::specs::Coordinators::request_of))]
     fn request(&self, alloc: Global, seat: u8, parity: &[u8]) -> Result<Request, NoMem>
-        requires seat { seat < length self.now.state.group.members }
+        requires seat { seat < length (asked_group self.now.state).members }
         requires parity { HasParity self.now parity.now }
         ensures { IfOk result (λ request. request ≡ request_of (block_code self.now.block) self.now.state seat) }
     {
@@ -88,6 +89,7 @@ impl Operation {
                 look: Look::Below(bound),
                 want: Want::All,
             }),
+            Phase::LooksBack(bound) => Ok(Request::OldRead { bound }),
             Phase::Modifies { base, data_block } => Ok(Request::Modify {
                 stamp,
                 base,
@@ -106,13 +108,14 @@ impl Operation {
         }
     }
 
-    /// The messages of the phase, in the order of seats: to each member without a counted reply.
+    /// The messages of the phase, in the order of seats: to each member that it asks, and that has no counted reply.
     pub fn messages(&self, alloc: Global) -> Result<Messages, NoMem>
         ensures { IfOk result (λ messages. messages.items ≡ phase_messages self.now) }
     {
         let parity = self.parity(alloc)?;
         let mut messages = Vec::new(alloc);
-        for (seat, member) in self.asked().members().as_slice().iter().enumerate() {
+        let asked = self.asked();
+        for (seat, member) in asked.members().as_slice().iter().enumerate() {
             let seat = seat as u8;
             if self.has_reply(seat) {
                 continue;

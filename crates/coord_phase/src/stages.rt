@@ -3,12 +3,13 @@
 ghost use Rattle.std.specs.Prelude.{◌≡◌, ◌*◌, IfOk, true, length};
 ghost use Rattle.reg_model.specs.Registers.{block_of, after_op};
 ghost use Rattle.protocol.specs.Nodes.{has_block, has_length};
+ghost use Rattle.protocol.specs.Coordinators.{asked_view};
 
-use crate::operations::{News, OnBase, Operation, Stage};
+use crate::operations::{News, OnBase, Operation, Stage, looks_back};
 use crate::replies::Replies;
-use fab_base::{Answer, Bytes, Cause, NoMem, Op, Stamp};
+use fab_base::{Answer, Bytes, Cause, NoMem, Op, Stamp, ViewNo};
 use messages::{Messages, Next, Turn};
-use protocol::{FullMember, Mover, Phase, Refuser};
+use protocol::{Dropper, FullMember, Mover, Phase, Refuser};
 use std::alloc::Global;
 use std::mem;
 
@@ -46,24 +47,35 @@ fn content_after(alloc: Global, op: &Op, block: u16, m: u8, content: Bytes) -> R
     }
 }
 
+/// The view whose members a phase of an operation of this stamp asks.
+fn asked_view(stamp: Stamp, phase: Phase) -> ViewNo
+    ensures { result ≡ asked_view stamp phase }
+{
+    if looks_back(phase) {
+        return ViewNo(stamp.view.0.saturating_sub(1));
+    }
+    stamp.view
+}
+
 impl Operation {
-    ghost use Rattle.std.specs.Prelude.{◌≡◌, ◌-◌, ◌*◌, ◌<◌, ◌^◌, true, None, Some, IsSome, IfOk, OnOk, OnErr, length};
-    ghost use Rattle.protocol.specs.Coordinators.{Ends, bytes_at, block_written, next_phase, in_phase, restoring, modifying, ordered_again, answer_with, common_version_at, greatest_refuser, aborted_by, aborted_full, aborted_moved, unless_refused};
+    ghost use Rattle.std.specs.Prelude.{◌≡◌, ◌-◌, ◌*◌, ◌<◌, ◌^◌, true, None, Some, IsSome, IfSome, IfOk, OnOk, OnErr, length};
+    ghost use Rattle.protocol.specs.Coordinators.{Ends, bytes_at, block_written, asked_view, next_phase, in_phase, restoring, modifying, ordered_again, answer_with, common_version_at, greatest_refuser, aborted_by, aborted_full, aborted_moved, aborted_gone, unless_refused};
     ghost use Rattle.stripe_code.specs.Codes.{block_code};
     ghost use Rattle.reg_model.specs.Registers.{read_of};
     ghost use Rattle.protocol.specs.declared.phases.Phase.TheVariants.{Orders, OrdersAt, Stores};
-    ghost use Rattle.coord_phase.specs.Operations.{telling, at_stage, on_base, is_ordering, StoresBlocks, StaysAsked};
+    ghost use Rattle.coord_phase.specs.Operations.{telling, at_stage, on_base, is_ordering, StoresBlocks, MayAsk, StaysAsked};
     ghost use Rattle.coord_phase.specs.Messages.{phase_messages};
     ghost use Rattle.coord_phase.specs.Decisions.{decision, SendsPhase, NeverRecovers};
     ghost use Rattle.coord_phase.specs.declared.operations.News.TheVariants as news;
 
-    /// The stage with the next phase of the operation's call, which asks this.
+    /// The stage with the next phase of the operation's call, which asks this of the members of its view, or of those before them.
     pub fn next_stage(&self, phase: Phase) -> Stage
         requires { self.now.state.call.phase < 2 ^ 32 - 1 }
-        ensures { result ≡ record { stamp = self.now.state.stamp; round = self.now.state.round; call = next_phase self.now.state.call; phase = phase } }
+        ensures { result ≡ record { stamp = self.now.state.stamp; round = self.now.state.round; call = record (next_phase self.now.state.call) { view = asked_view self.now.state.stamp phase }; phase = phase } }
     {
         let mut stage = self.stage;
         stage.call.phase += 1;
+        stage.call.view = asked_view(stage.stamp, phase);
         stage.phase = phase;
         stage
     }
@@ -105,16 +117,19 @@ impl Operation {
         Next::Recover(turn)
     }
 
-    /// Begins a stage, and gives its messages. Where memory runs out nothing has changed.
+    /// Begins a stage of the operation, and gives its messages: to the members of its view, or of the view before where it looks back. Where memory runs out
+    /// nothing has changed.
     pub fn begin(&mut self, alloc: Global, stage: Stage) -> Result<Messages, NoMem>
         requires content { StoresBlocks self.old.block self.old.state.group.m self.old.state.ask.op self.old.state.content stage.phase }
+        requires view { stage.stamp.view ≡ self.old.state.stamp.view }
+        requires asks { MayAsk stage.stamp.view stage.phase }
         ensures state { OnOk result (self.new ≡ telling self.old (at_stage self.old.state stage) news.Nothing) }
         ensures messages { IfOk result (λ messages. messages.items ≡ phase_messages self.new) }
         ensures err { OnErr result (self.new ≡ self.old) }
     {
-        let before = mem::replace(&mut self.stage, stage);
-        let none = Replies::new(alloc, self.group.policy());
+        let none = Replies::new(alloc, self.asked_in(stage.phase).policy());
         let replies = mem::replace(&mut self.replies, none);
+        let before = mem::replace(&mut self.stage, stage);
         match self.messages(alloc) {
             Ok(messages) => {
                 self.tell(News::Nothing);
@@ -140,6 +155,7 @@ impl Operation {
         requires phase { self.old.state.call.phase < 2 ^ 32 - 1 }
         requires before { StoresBlocks self.old.block self.old.state.group.m self.old.state.ask.op content self.old.state.phase }
         requires content { StoresBlocks self.old.block self.old.state.group.m self.old.state.ask.op content phase }
+        requires asks { MayAsk self.old.state.stamp.view phase }
         ensures state { OnOk result (self.new ≡ telling self.old (on_base (in_phase self.old.state phase) base content) news.Nothing) }
         ensures messages { IfOk result (λ messages. messages.items ≡ phase_messages self.new) }
         ensures err { OnErr result (self.new ≡ self.old) }
@@ -277,7 +293,20 @@ impl Operation {
         }))
     }
 
-    /// Begins another round of ordering with a new stamp, while there is one and a round is left; else this member's later stamp aborts
+    /// Ends the operation, since this member has dropped its versions of the view before.
+    pub(crate) fn abort_gone(&mut self, dropper: Dropper) -> Next
+        ensures next { decision self.new result ≡ aborted_gone dropper }
+        ensures state { self.new ≡ telling self.old self.old.state news.Nothing }
+        ensures sent { SendsPhase self.new result }
+        ensures never { NeverRecovers result }
+    {
+        self.tell(News::Nothing);
+        Next::End(Answer::Aborted(Cause::Gone {
+            brick: dropper.brick,
+        }))
+    }
+
+    /// Begins another round of ordering with a new stamp of the operation's view, while there is one and a round is left; else this member's later stamp aborts
     /// the operation. Where memory runs out nothing has changed.
     pub fn order_again(
         &mut self,
@@ -287,6 +316,7 @@ impl Operation {
     ) -> Result<Next, NoMem>
         requires phase { self.old.state.call.phase < 2 ^ 32 - 1 }
         requires orders { is_ordering self.old.state.phase ≡ true }
+        requires fresh { IfSome fresh (λ stamp. stamp.view ≡ self.old.state.stamp.view) }
         ensures next { IfOk result (λ next. decision self.new next ≡ ordered_again fresh self.old.state refuser) }
         ensures sent { IfOk result (λ next. SendsPhase self.new next) }
         ensures never { IfOk result NeverRecovers }

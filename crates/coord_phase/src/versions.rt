@@ -21,6 +21,9 @@ pub(crate) fn told_stamp(reply: &Reply) -> Option<Stamp>
         }
         | Reply::OrderedRead {
             found: Some(version),
+        }
+        | Reply::Old {
+            found: Some(version),
         } => Some(version.stamp),
         _ => None,
     }
@@ -35,7 +38,8 @@ fn finds(counted: &Counted, version: Stamp) -> bool
             newest: Some(found),
             ..
         }
-        | Reply::OrderedRead { found: Some(found) } => found.stamp.is_same(version),
+        | Reply::OrderedRead { found: Some(found) }
+        | Reply::Old { found: Some(found) } => found.stamp.is_same(version),
         _ => false,
     }
 }
@@ -49,7 +53,8 @@ fn found_bytes(reply: &Reply) -> &[u8]
             newest: Some(found),
             ..
         }
-        | Reply::OrderedRead { found: Some(found) } => found.block.as_slice(),
+        | Reply::OrderedRead { found: Some(found) }
+        | Reply::Old { found: Some(found) } => found.block.as_slice(),
         _ => &[],
     }
 }
@@ -209,7 +214,7 @@ impl Operation {
             (pieces_at version self.now.state.counted)) }
         ensures long { IfOk result (λ content. length content ≡ self.now.state.group.m * self.now.block) }
     {
-        let m = self.group.policy().m();
+        let m = self.asked().policy().m();
         let seats = seats_finding(alloc, self.replies.as_slice(), version)?;
         let blocks = blocks_finding(alloc, self.replies.as_slice(), version)?;
         let long = m as usize * self.block as usize;

@@ -1,11 +1,12 @@
 //! Recoveries.
 
-ghost use Rattle.std.specs.Prelude.{◌≡◌, ◌-◌, ◌<◌, ◌^◌, true, false, IfOk, OnOk, OnErr};
+ghost use Rattle.std.specs.Prelude.{◌≡◌, ◌-◌, ◌<◌, ◌^◌, true, false, IfOk, IfSome, OnOk, OnErr};
 ghost use Rattle.protocol.specs.declared.phases.Phase.TheVariants.{Recovers};
-ghost use Rattle.protocol.specs.Coordinators.{read_back, greatest_found, greatest_refuser, once_ordered, unless_refused};
+ghost use Rattle.protocol.specs.Coordinators.{in_phase, lower_phase, read_back, greatest_found, greatest_refuser, once_ordered, unless_refused};
 ghost use Rattle.stripe_code.specs.Codes.{block_code};
 ghost use Rattle.coord_phase.specs.Messages.{phase_messages};
-ghost use Rattle.coord_phase.specs.Operations.{StaysAsked};
+ghost use Rattle.coord_phase.specs.Operations.{StaysAsked, telling};
+ghost use Rattle.coord_phase.specs.declared.operations.News.TheVariants as news;
 ghost use Rattle.coord_phase.specs.Decisions.{SendsPhase, NeverRecovers, IsSend, HasBlocks, decision};
 ghost use Rattle.coord_recover.specs.Recoveries.{is_of_recovery, entered};
 
@@ -37,8 +38,31 @@ fn take_turn(op: &mut Operation, alloc: Global, turn: Turn) -> Result<Messages, 
     }
 }
 
+/// Looks for the greatest version below this one: in the view before, once the operation looks back. Where memory runs out nothing has changed.
+fn look_lower(op: &mut Operation, alloc: Global, version: Stamp) -> Result<Messages, NoMem>
+    requires few { op.old.state.call.phase < 2 ^ 32 - 1 }
+    ensures state { OnOk result (op.new ≡ telling op.old (in_phase op.old.state (lower_phase op.old.state.phase version)) news.Nothing) }
+    ensures own { OnOk result (is_of_recovery op.new.state.phase ≡ true) }
+    ensures messages { IfOk result (λ messages. messages.items ≡ phase_messages op.new) }
+    ensures err { OnErr result (op.new ≡ op.old) }
+{
+    match op.stage().phase {
+        Phase::LooksBack(_) => op.begin(alloc, op.next_stage(Phase::LooksBack(Some(version)))),
+        Phase::Looks
+        | Phase::LooksAt(_)
+        | Phase::Orders
+        | Phase::OrdersAt(_)
+        | Phase::Recovers
+        | Phase::Descends(_)
+        | Phase::Modifies { .. }
+        | Phase::Bases(_)
+        | Phase::Stores => op.begin(alloc, op.next_stage(Phase::Descends(version))),
+    }
+}
+
 /// Reads back the greatest version that the replies tell, and begins to store what the operation makes of it, where they tell m blocks of
-/// it; else looks for the greatest version below it. Where they tell none, forgets them, and waits for more. After want of memory nothing has changed.
+/// it; else looks for the greatest version below it. Where they tell none, asks the members of the view before; where there is no such view, or they were asked
+/// already, forgets the replies, and waits for more. After want of memory nothing has changed.
 fn read_back(op: &mut Operation, alloc: Global) -> Result<Next, NoMem>
     requires few { op.old.state.call.phase < 2 ^ 32 - 1 }
     requires phase { is_of_recovery op.old.state.phase ≡ true }
@@ -50,13 +74,15 @@ fn read_back(op: &mut Operation, alloc: Global) -> Result<Next, NoMem>
     ensures err { OnErr result (op.new ≡ op.old) }
 {
     let Some(version) = op.greatest_version() else {
+        if op.may_look_back() {
+            let stage = op.next_stage(Phase::LooksBack(None));
+            return Ok(Next::Send(op.begin(alloc, stage)?));
+        }
         op.forget();
         return Ok(op.wait());
     };
-    if op.blocks_of(version) < op.asked().m() as usize {
-        let stage = op.next_stage(Phase::Descends(version));
-        let messages = op.begin(alloc, stage)?;
-        return Ok(Next::Send(messages));
+    if op.blocks_of(version) < op.group().m() as usize {
+        return Ok(Next::Send(look_lower(op, alloc, version)?));
     }
     let content = op.content_of(alloc, version)?;
     let messages = op.make_on(alloc, version, content)?;
@@ -67,6 +93,7 @@ fn read_back(op: &mut Operation, alloc: Global) -> Result<Next, NoMem>
 fn end_order(op: &mut Operation, alloc: Global, fresh: Option<Stamp>) -> Result<Next, NoMem>
     requires few { op.old.state.call.phase < 2 ^ 32 - 1 }
     requires phase { op.old.state.phase ≡ Recovers }
+    requires fresh { IfSome fresh (λ stamp. stamp.view ≡ op.old.state.stamp.view) }
     ensures next { IfOk result (λ next. decision op.new next ≡ once_ordered fresh op.old.state (greatest_refuser op.old.state.counted)
         (read_back op.old.block (block_code op.old.block) op.old.state (greatest_found op.old.state.counted))) }
     ensures sent { IfOk result (λ next. SendsPhase op.new next) }
@@ -110,6 +137,7 @@ impl Decide for Recovering {
         match op.stage().phase {
             Phase::Recovers => end_order(op, alloc, fresh),
             Phase::Descends(_) => end_descent(op, alloc),
+            Phase::LooksBack(_) => read_back(op, alloc),
             Phase::Stores => op.end_store(alloc),
             Phase::Looks
             | Phase::LooksAt(_)

@@ -1,6 +1,6 @@
 //! Operations on whole stripes.
 
-ghost use Rattle.std.specs.Prelude.{◌≡◌, ◌-◌, ◌<◌, ◌≤◌, ◌^◌, true, IfOk, OnOk, OnErr, length};
+ghost use Rattle.std.specs.Prelude.{◌≡◌, ◌-◌, ◌<◌, ◌≤◌, ◌^◌, true, IfOk, IfSome, OnOk, OnErr, length};
 ghost use Rattle.protocol.specs.declared.phases.Phase.TheVariants.{Looks, Orders, Stores};
 ghost use Rattle.protocol.specs.Coordinators.{fast_version, in_phase, greatest_refuser, once_ordered, answered_fast, Makes};
 ghost use Rattle.stripe_code.specs.Codes.{block_code};
@@ -42,6 +42,7 @@ fn end_look(op: &mut Operation, alloc: Global) -> Result<Next, NoMem>
 fn end_order(op: &mut Operation, alloc: Global, fresh: Option<Stamp>) -> Result<Next, NoMem>
     requires phase { op.old.state.phase ≡ Orders }
     requires few { op.old.state.call.phase < 2 ^ 32 - 1 }
+    requires fresh { IfSome fresh (λ stamp. stamp.view ≡ op.old.state.stamp.view) }
     ensures next { IfOk result (λ next. decision op.new next ≡ once_ordered fresh op.old.state (greatest_refuser op.old.state.counted)
         (Makes (in_phase op.old.state Stores))) }
     ensures sent { IfOk result (λ next. SendsPhase op.new next) }
@@ -72,6 +73,7 @@ impl Decide for Stripe {
             | Phase::OrdersAt(_)
             | Phase::Recovers
             | Phase::Descends(_)
+            | Phase::LooksBack(_)
             | Phase::Modifies { .. }
             | Phase::Bases(_) => unreachable!(),
         }

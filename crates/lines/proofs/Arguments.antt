@@ -1,6 +1,6 @@
 -- What stands behind a line's first word, where there are so many words of it.
 use Rattle.std.proofs.Common.{◌≡◌, ◌≢◌, ◌-◌, ◌<◌, ◌≤◌, ℕ, List, [], ◌∷◌, length, map, take, drop, take_all, get_or, Bor, Some, None, refl, arith}
-use Rattle.lines.specs.Grammar.{write_block, read_block, write_all, read_all, fault, deliver, start, clock, one_brick, calm, propose}
+use Rattle.lines.specs.Grammar.{write_block, read_block, write_all, read_all, fault, deliver, start, clock, one_brick, calm, propose, sync}
 
 -- the words that stand in a slice
 abbrev pub words : List (Bor (List ℕ)) → List (List ℕ)
@@ -115,6 +115,13 @@ clock_count [] other = refl
 clock_count (b ∷ []) other = refl
 clock_count (b ∷ v ∷ []) other = absurd (other refl)
 clock_count (b ∷ v ∷ a ∷ more) other = refl
+
+pub sync_count : (found : List (Bor (List ℕ))) → length found ≢ 2 → None ≡ sync (words found)
+unfolding sync
+sync_count [] other = refl
+sync_count (b ∷ []) other = refl
+sync_count (b ∷ g ∷ []) other = absurd (other refl)
+sync_count (b ∷ g ∷ s ∷ more) other = refl
 
 pub read_all_count : (found : List (Bor (List ℕ))) → length found ≢ 3 → None ≡ read_all (words found)
 unfolding read_all

@@ -5,7 +5,7 @@ use Rattle.std.specs.Option.{option_map}
 use Rattle.std.specs.Str.{bytes_eq}
 use Rattle.lines.specs.Tokens.{tokens, number, bytes_of_hex}
 use Rattle.lines.specs.declared.forms.Line.{Line}
-use Rattle.lines.specs.declared.forms.Line.TheVariants.{Nothing, Invoke, Deliver, SetClock, Tick, Crash, Start, Propose, Calm}
+use Rattle.lines.specs.declared.forms.Line.TheVariants.{Nothing, Invoke, Deliver, SetClock, Tick, Crash, Start, Propose, Sync, Calm}
 use Rattle.lines.specs.declared.forms.Access.{Access}
 use Rattle.lines.specs.declared.forms.Access.TheVariants.{WriteBlock, ReadBlock, WriteStripe, ReadStripe}
 use Rattle.lines.specs.declared.forms.Fault.{Fault}
@@ -141,6 +141,14 @@ propose (b ∷ g ∷ tokens) = do
   Some (Propose brick group members)
 propose _ = None
 
+-- `sync B G`, behind its first word
+unfoldable pub sync : List (List ℕ) → Option Line
+sync (b ∷ g ∷ []) = do
+  brick ← number b
+  group ← number g
+  Some (Sync brick group)
+sync _ = None
+
 -- what a line says whose first word and the words behind it are these; nothing else is a line
 unfoldable pub form : List ℕ → List (List ℕ) → Option Line
 form word arguments =
@@ -154,6 +162,7 @@ form word arguments =
     else if bytes_eq word (codes "crash") then option_map Crash (one_brick arguments)
     else if bytes_eq word (codes "start") then start arguments
     else if bytes_eq word (codes "view") then propose arguments
+    else if bytes_eq word (codes "sync") then sync arguments
     else if bytes_eq word (codes "calm") then calm arguments
     else None
 

@@ -1,6 +1,6 @@
 // The forms of a line.
 ghost use Rattle.std.specs.Prelude.{◌≡◌, map, IfOk};
-ghost use Rattle.lines.specs.Grammar.{line_of, line_of_tokens, form, write_all, read_all, write_block, read_block, invoke, call_number, fail, cut, fault, deliver, start, clock, one_brick, numbers, brick_list, calm, propose};
+ghost use Rattle.lines.specs.Grammar.{line_of, line_of_tokens, form, write_all, read_all, write_block, read_block, invoke, call_number, fail, cut, fault, deliver, start, clock, one_brick, numbers, brick_list, calm, propose, sync};
 
 use crate::brick_lists::BrickList;
 use crate::tokens::{parse_hex, parse_number, split};
@@ -101,6 +101,13 @@ pub enum Line {
         /// The members.
         members: BrickList,
     },
+    /// A brick is to synchronise the view that it has learnt of a group: `sync B G`.
+    Sync {
+        /// The brick that is asked.
+        brick: u64,
+        /// The group.
+        group: u64,
+    },
     /// An operation is to run alone among some bricks, until it ends: `calm N B ..`, with 1 to 64 bricks.
     Calm {
         /// The number of the operation, in the order of beginning.
@@ -164,6 +171,8 @@ fn parse_form(alloc: Global, word: &[u8], arguments: &[&[u8]]) -> Result<Option<
         Ok(parse_start(arguments))
     } else if word == b"view".as_slice() {
         parse_propose(alloc, arguments)
+    } else if word == b"sync".as_slice() {
+        Ok(parse_sync(arguments))
     } else if word == b"calm".as_slice() {
         parse_calm(alloc, arguments)
     } else {
@@ -393,6 +402,19 @@ fn parse_propose(alloc: Global, arguments: &[&[u8]]) -> Result<Option<Line>, NoM
         group,
         members,
     }))
+}
+
+/// `sync B G`, behind its first word.
+fn parse_sync(arguments: &[&[u8]]) -> Option<Line>
+    ensures { result ≡ sync (map (λ token. token.now) arguments.now) }
+{
+    if arguments.len() != 2 {
+        return None;
+    }
+    Some(Line::Sync {
+        brick: parse_number(arguments[0])?,
+        group: parse_number(arguments[1])?,
+    })
 }
 
 /// The numbers of 1 to 64 bricks. None where there are fewer or more tokens, or one spells no number.

@@ -12,7 +12,7 @@ use Rattle.messages.specs.declared.turns.Next.{Next}
 use Rattle.messages.specs.declared.turns.Next.TheVariants.{Send, Wait, End, Recover}
 use Rattle.fab_base.specs.Layouts.{Layout}
 use Rattle.protocol.specs.Coordinators as machine
-use Rattle.protocol.specs.Coordinators.{Coordinator, next_phase, request_of}
+use Rattle.protocol.specs.Coordinators.{Coordinator, asked_group, request_of}
 use Rattle.protocol.specs.Nodes.{to_members, phase_packets, seen_told}
 use Rattle.stripe_code.specs.Codes.{coding, block_code}
 use Rattle.coord_phase.specs.Operations as phased
@@ -38,15 +38,15 @@ length-to_members : (me : BrickId) (call : Call) (request : ℕ → Request) (se
 length-to_members me call request seat [] = refl
 length-to_members me call request seat (member ∷ members) = let rest = length-to_members me call request (seat + 1) members in omega arith
 
--- the messages of a phase are as many as the members
+-- the messages of a phase are as many as the members that it asks
 pub count_of_phase : (layout : Layout) (op : Operation) (messages : List (BrickId × Message)) → SendsPhase layout op messages
-    → length messages ≡ length (coordinator_of op).group.members
+    → length messages ≡ length (asked_group (coordinator_of op)).members
 count_of_phase layout op messages sends =
     let me : BrickId = record { 0 = 0 } in
     let c = coordinator_of op in
     sym (length-map messages (λ (sent : BrickId × Message). record { from = me; to = sent.0; message = sent.1 }))
     ∙ ap length (sends me)
-    ∙ length-to_members me c.call (request_of (block_code layout.block) c) 0 c.group.members
+    ∙ length-to_members me c.call (request_of (block_code layout.block) c) 0 (asked_group c).members
 
 -- these messages are as many as the members, if there are any
 length-collect_from : (call : Call) (t : Stamp) (members : List BrickId) → length (collect_from call t members) ≡ length members
@@ -100,21 +100,21 @@ module _ (layout : Layout) (before after : Operation) (block : (shown_of after).
 
   -- one that begins a phase sends and tells that
   pub begins_out : (known later : ℕ) (messages : List (BrickId × Message)) → SendsPhase layout after messages
-      → (coordinator_of after).call ≡ next_phase (coordinator_of before).call
+      → (coordinator_of after).call.seq ≡ (coordinator_of before).call.seq
       → (let next = begins_in (shown_of after).news (coordinator_of after) in later ≡ known_by known next
       → CarriesOut layout before after known later next (record { messages = messages; told = told_in (coordinator_of after).call.seq next; answers = []; reports = [] }))
-  begins_out known later messages sends call knows =
+  begins_out known later messages sends seq knows =
       let c = coordinator_of before in
       let d = coordinator_of after in
       let news = (shown_of after).news in
       record {
         packets = λ me. sends me ∙ phase_carried layout me c d news;
-        told = ap (λ (call : Call). told_in call.seq (begins_in news d)) call;
+        told = ap (λ (n : ℕ). told_in n (begins_in news d)) seq;
         answers = none_answered c.call.seq d news;
         reports = refl;
         knows = knows;
         left = phase_left d news;
-        keeps = ap (λ (call : Call). call.seq) call;
+        keeps = seq;
         block = block;
       }
 

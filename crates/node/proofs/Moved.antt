@@ -15,7 +15,7 @@ use Rattle.quorum.specs.Quorums.{quorum_of}
 use Rattle.protocol.specs.Settings.{Code}
 use Rattle.protocol.specs.declared.phases.Counted.{Counted}
 use Rattle.protocol.specs.declared.phases.Mover.{Mover}
-use Rattle.protocol.specs.Coordinators.{Coordinator, Next, Waits, counts_at, counted_at, decided, lowest_mover, on_reply, once_full, unless_told_moved, aborted_moved, with_reply}
+use Rattle.protocol.specs.Coordinators.{Coordinator, Next, Waits, asked_group, counts_at, counted_at, decided, lowest_mover, on_reply, once_full, unless_told_moved, aborted_moved, with_reply}
 use Rattle.protocol.proofs.CountsAt.{CountsAt, counts_facts}
 use Rattle.node.specs.Operations.{EndsOrWaits}
 
@@ -30,12 +30,12 @@ unfolding decided
 decided_by block code fresh c m lowest = moved_first (lowest_mover c.counted) m _ lowest
 
 -- a brick that is no member ends nothing
-pub no_member : (c : Coordinator) (from : BrickId) (view : ViewNo) → seat_in c.group.members from.0 ≡ None → EndsOrWaits c from view None
+pub no_member : (c : Coordinator) (from : BrickId) (view : ViewNo) → seat_in (asked_group c).members from.0 ≡ None → EndsOrWaits c from view None
 no_member c from view none block code fresh call lineage seat counts =
     let at = (counts_facts block c from.0 call (Moved view lineage) seat counts).seat_is in
     absurd (let never : None ≡ Some seat = sym none ∙ at in cc)
 
-module _ (c : Coordinator) (from : BrickId) (view : ViewNo) (at : ℕ) (here : seat_in c.group.members from.0 ≡ Some at) where
+module _ (c : Coordinator) (from : BrickId) (view : ViewNo) (at : ℕ) (here : seat_in (asked_group c).members from.0 ≡ Some at) where
   -- the reply, as it counts at the brick's seat
   abbrev told : Option Lineage → Counted
   told lineage = record { seat = at; brick = from; reply = Moved view lineage }
@@ -61,22 +61,22 @@ module _ (c : Coordinator) (from : BrickId) (view : ViewNo) (at : ℕ) (here : s
       ∙ ap (λ (k : ℕ). once_full block code fresh (with_reply c k from (Moved view lineage))) (seat_at block call lineage seat counts)
 
   -- it waits where they are fewer
-  pub waits_on : length c.counted + 1 < quorum_of c.group → EndsOrWaits c from view None
+  pub waits_on : length c.counted + 1 < quorum_of (asked_group c) → EndsOrWaits c from view None
   waits_on few block code fresh call lineage seat counts =
       let reply = Moved view lineage in
       let longer = one_longer lineage in
-      let test : nat_lt (length (c.counted ++ (told lineage ∷ []))) (quorum_of c.group) ≡ true = grind (arith, nat_tests, few, longer) in
+      let test : nat_lt (length (c.counted ++ (told lineage ∷ []))) (quorum_of (asked_group c)) ≡ true = grind (arith, nat_tests, few, longer) in
       counted_so block code fresh call lineage seat counts
       ∙ ap (λ (b : Bool). cond b (Waits (with_reply c at from reply)) (decided block code fresh (with_reply c at from reply))) test
       ∙ ap (λ (k : ℕ). Waits (with_reply c k from reply)) (sym (seat_at block call lineage seat counts))
 
   -- and ends where they are a quorum, by the mover of the lowest seat
-  pub ends_on : quorum_of c.group ≤ length c.counted + 1 → (m : Mover) → ((lineage : Option Lineage) → lowest_mover (c.counted ++ (told lineage ∷ [])) ≡ Some m)
+  pub ends_on : quorum_of (asked_group c) ≤ length c.counted + 1 → (m : Mover) → ((lineage : Option Lineage) → lowest_mover (c.counted ++ (told lineage ∷ [])) ≡ Some m)
       → EndsOrWaits c from view (Some (Aborted (Cause.Moved m.brick m.view)))
   ends_on many m lowest block code fresh call lineage seat counts =
       let reply = Moved view lineage in
       let longer = one_longer lineage in
-      let test : nat_lt (length (c.counted ++ (told lineage ∷ []))) (quorum_of c.group) ≡ false = grind (arith, nat_tests, many, longer) in
+      let test : nat_lt (length (c.counted ++ (told lineage ∷ []))) (quorum_of (asked_group c)) ≡ false = grind (arith, nat_tests, many, longer) in
       counted_so block code fresh call lineage seat counts
       ∙ ap (λ (b : Bool). cond b (Waits (with_reply c at from reply)) (decided block code fresh (with_reply c at from reply))) test
       ∙ decided_by block code fresh (with_reply c at from reply) m (lowest lineage)

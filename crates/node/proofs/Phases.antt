@@ -7,22 +7,23 @@ use Rattle.fab_base.specs.declared.asks.Ask.{Ask}
 use Rattle.messages.specs.declared.calls.Call.{Call}
 use Rattle.messages.specs.declared.replies.Reply.{Reply}
 use Rattle.protocol.specs.declared.phases.Phase.{Phase}
-use Rattle.protocol.specs.declared.phases.Phase.TheVariants.{Looks, LooksAt, Orders, OrdersAt, Recovers, Descends, Modifies, Bases, Stores}
+use Rattle.protocol.specs.declared.phases.Phase.TheVariants.{Looks, LooksAt, Orders, OrdersAt, Recovers, Descends, LooksBack, Modifies, Bases, Stores}
 use Rattle.protocol.specs.declared.phases.Counted.{Counted}
 use Rattle.protocol.specs.declared.phases.Refuser.{Refuser}
 use Rattle.protocol.specs.declared.phases.FullMember.{FullMember}
 use Rattle.protocol.specs.declared.phases.Mover.{Mover}
+use Rattle.protocol.specs.declared.phases.Dropper.{Dropper}
 use Rattle.fab_base.specs.Layouts.{Group}
 use Rattle.quorum.specs.Quorums.{quorum_of}
 use Rattle.reg_model.specs.Registers.{read_of}
 use Rattle.protocol.specs.Settings.{Code}
-use Rattle.protocol.specs.Coordinators.{Coordinator, Next, Ignores, Waits, Sends, Makes, Ends, next_phase, in_phase, fast_version, fast_version_at, common_version_at, some_behind, greatest_refuser, greatest_found, pieces_at, answered_fast, answered_fast_at, modified_if, once_modified, rebuilt, once_ordered, ordered_again, unless_refused, unless_told_full, unless_told_moved, lowest_full, lowest_mover, read_back, answer_with, decided, once_full, counted_at, counts_at, on_reply, most_rounds}
+use Rattle.protocol.specs.Coordinators.{Coordinator, Next, Ignores, Waits, Sends, Makes, Ends, asked_group, in_phase, may_look_back, fast_version, fast_version_at, common_version_at, some_behind, greatest_refuser, greatest_found, pieces_at, answered_fast, answered_fast_at, modified_if, once_modified, rebuilt, once_ordered, ordered_again, unless_refused, unless_told_full, unless_told_gone, unless_told_moved, lowest_full, lowest_dropper, lowest_mover, read_back, answer_with, decided, once_full, counted_at, counts_at, on_reply, most_rounds}
 use Rattle.coord_phase.specs.Operations.{is_storing}
 use Rattle.node.specs.Decisions.{Collects}
 
--- the coordinator begins the next phase of its call, in which no reply counts yet
+-- the coordinator begins a further phase of its call, in which no reply counts yet
 pub record Begins (c d : Coordinator) : Type 0 where
-  pub call : d.call ≡ next_phase c.call
+  pub seq : d.call.seq ≡ c.call.seq
   pub counted : d.counted ≡ []
 
 -- what follows from a decision of the coordinator
@@ -42,26 +43,26 @@ module _ (group : Group) (prior : List BrickId) (ask : Ask) (stamp : Stamp) (rou
   after phase = record { group = group; prior = prior; ask = ask; stamp = stamp; round = round; base = base; content = content; call = call; phase = phase; counted = more }
 
   fast : (code : Code) (v : Option Stamp) → Follows (before Looks) (answered_fast code (after Looks) v)
-  fast code None = record { call = refl; counted = refl }
+  fast code None = record { seq = refl; counted = refl }
   fast code (Some v) = tt
 
   fast_at : (j : ℕ) (v : Option Stamp) → Follows (before (LooksAt j)) (answered_fast_at (after (LooksAt j)) j v)
-  fast_at j None = record { call = refl; counted = refl }
+  fast_at j None = record { seq = refl; counted = refl }
   fast_at j (Some v) = tt
 
   again : (phase : Phase) (fresh : Option Stamp) (r : Refuser) → Follows (before phase) (ordered_again fresh (after phase) r)
   again phase None r = tt
   again phase (Some t) r =
-      cond_both (nat_lt round most_rounds) _ _ (λ next. Follows (before phase) next) (λ left. record { call = refl; counted = refl }) (λ last. tt)
+      cond_both (nat_lt round most_rounds) _ _ (λ next. Follows (before phase) next) (λ left. record { seq = refl; counted = refl }) (λ last. tt)
 
   orders : (fresh : Option Stamp) (r : Option Refuser)
       → Follows (before Orders) (once_ordered fresh (after Orders) r (Makes (in_phase (after Orders) Stores)))
-  orders fresh None = record { call = refl; counted = refl }
+  orders fresh None = record { seq = refl; counted = refl }
   orders fresh (Some r) = again Orders fresh r
 
   modified : (code : Code) (j : ℕ) (v : Option Stamp) → Follows (before (OrdersAt j)) (modified_if code (after (OrdersAt j)) j v)
-  modified code j None = record { call = refl; counted = refl }
-  modified code j (Some v) = record { call = refl; counted = refl }
+  modified code j None = record { seq = refl; counted = refl }
+  modified code j (Some v) = record { seq = refl; counted = refl }
 
   orders_at : (code : Code) (fresh : Option Stamp) (j : ℕ) (r : Option Refuser)
       → Follows (before (OrdersAt j)) (once_ordered fresh (after (OrdersAt j)) r (modified_if code (after (OrdersAt j)) j (common_version_at j more)))
@@ -69,10 +70,11 @@ module _ (group : Group) (prior : List BrickId) (ask : Ask) (stamp : Stamp) (rou
   orders_at code fresh j (Some r) = again (OrdersAt j) fresh r
 
   reads_back : (block : ℕ) (code : Code) (phase : Phase) (v : Option Stamp) → Follows (before phase) (read_back block code (after phase) v)
-  reads_back block code phase None = refl
+  reads_back block code phase None =
+      cond_both (may_look_back (after phase)) _ _ (λ next. Follows (before phase) next) (λ may. record { seq = refl; counted = refl }) (λ not. refl)
   reads_back block code phase (Some v) =
       cond_both (nat_lt (length (pieces_at v more)) group.m) _ _ (λ next. Follows (before phase) next)
-      (λ few. record { call = refl; counted = refl }) (λ enough. record { call = refl; counted = refl })
+      (λ few. record { seq = refl; counted = refl }) (λ enough. record { seq = refl; counted = refl })
 
   recovers : (block : ℕ) (code : Code) (fresh : Option Stamp) (r : Option Refuser)
       → Follows (before Recovers) (once_ordered fresh (after Recovers) r (read_back block code (after Recovers) (greatest_found more)))
@@ -87,14 +89,14 @@ module _ (group : Group) (prior : List BrickId) (ask : Ask) (stamp : Stamp) (rou
   modifies : (base : Stamp) (j : ℕ) (r : Option Refuser)
       → Follows (before (Modifies base j)) (unless_refused r (once_modified (after (Modifies base j)) base))
   modifies base j None =
-      cond_both (some_behind more) _ _ (λ next. Follows (before (Modifies base j)) next) (λ behind. record { call = refl; counted = refl }) (λ all. refl)
+      cond_both (some_behind more) _ _ (λ next. Follows (before (Modifies base j)) next) (λ behind. record { seq = refl; counted = refl }) (λ all. refl)
   modifies base j (Some r) = tt
 
   bases : (block : ℕ) (code : Code) (base : Stamp) (r : Option Refuser)
       → Follows (before (Bases base)) (unless_refused r (rebuilt block code (after (Bases base)) base))
   bases block code base None =
       cond_both (nat_lt (length (pieces_at base more)) group.m) _ _ (λ next. Follows (before (Bases base)) next) (λ few. refl)
-      (λ enough. record { call = refl; counted = refl })
+      (λ enough. record { seq = refl; counted = refl })
   bases block code base (Some r) = tt
 
   stores : (block : ℕ) (r : Option Refuser)
@@ -107,14 +109,20 @@ module _ (group : Group) (prior : List BrickId) (ask : Ask) (stamp : Stamp) (rou
   unless_full None phase next is = is
   unless_full (Some f) phase next is = tt
 
+  unless_gone : (told : Option Dropper) (phase : Phase) (next : Next) → Follows (before phase) next
+      → Follows (before phase) (unless_told_gone told next)
+  unless_gone None phase next is = is
+  unless_gone (Some d) phase next is = tt
+
   unless_moved : (told : Option Mover) (phase : Phase) (next : Next) → Follows (before phase) next
       → Follows (before phase) (unless_told_moved told next)
   unless_moved None phase next is = is
   unless_moved (Some m) phase next is = tt
 
   unless_ended : (phase : Phase) (next : Next) → Follows (before phase) next
-      → Follows (before phase) (unless_told_moved (lowest_mover more) (unless_told_full (lowest_full more) next))
-  unless_ended phase next is = unless_moved (lowest_mover more) phase _ (unless_full (lowest_full more) phase next is)
+      → Follows (before phase) (unless_told_moved (lowest_mover more) (unless_told_gone (lowest_dropper more) (unless_told_full (lowest_full more) next)))
+  unless_ended phase next is =
+      unless_moved (lowest_mover more) phase _ (unless_gone (lowest_dropper more) phase _ (unless_full (lowest_full more) phase next is))
 
   decides : (block : ℕ) (code : Code) (fresh : Option Stamp) (phase : Phase) → Follows (before phase) (decided block code fresh (after phase))
   unfolding decided
@@ -124,13 +132,14 @@ module _ (group : Group) (prior : List BrickId) (ask : Ask) (stamp : Stamp) (rou
   decides block code fresh (OrdersAt j) = unless_ended (OrdersAt j) _ (orders_at code fresh j (greatest_refuser more))
   decides block code fresh Recovers = unless_ended Recovers _ (recovers block code fresh (greatest_refuser more))
   decides block code fresh (Descends bound) = unless_ended (Descends bound) _ (descends block code bound (greatest_refuser more))
+  decides block code fresh (LooksBack bound) = unless_ended (LooksBack bound) _ (reads_back block code (LooksBack bound) (greatest_found more))
   decides block code fresh (Modifies base j) = unless_ended (Modifies base j) _ (modifies base j (greatest_refuser more))
   decides block code fresh (Bases base) = unless_ended (Bases base) _ (bases block code base (greatest_refuser more))
   decides block code fresh Stores = unless_ended Stores _ (stores block (greatest_refuser more))
 
   once_full_follows : (block : ℕ) (code : Code) (fresh : Option Stamp) (phase : Phase) → Follows (before phase) (once_full block code fresh (after phase))
   once_full_follows block code fresh phase =
-      cond_both (nat_lt (length more) (quorum_of group)) _ _ (λ next. Follows (before phase) next) (λ few. refl)
+      cond_both (nat_lt (length more) (quorum_of (asked_group (after phase)))) _ _ (λ next. Follows (before phase) next) (λ few. refl)
       (λ enough. decides block code fresh phase)
 
 counted_follows : (block : ℕ) (code : Code) (fresh : Option Stamp) (c : Coordinator) (from : BrickId) (reply : Reply) (seat : Option ℕ)

@@ -11,7 +11,7 @@ use Rattle.messages.specs.declared.requests.Request.{Request}
 use Rattle.protocol.specs.declared.phases.Counted.{Counted}
 use Rattle.fab_base.specs.Layouts.{Layout}
 use Rattle.protocol.specs.Settings.{Setting}
-use Rattle.protocol.specs.Coordinators.{Coordinator, has_seat, request_of}
+use Rattle.protocol.specs.Coordinators.{Coordinator, asked_group, has_seat, request_of}
 use Rattle.protocol.specs.Nodes as machine
 use Rattle.protocol.specs.Nodes.{to_members, phase_packets, resent_to, resent, resent_up_to, view_in}
 use Rattle.stripe_code.specs.Codes.{block_code, coding}
@@ -64,25 +64,25 @@ few_silent me call request counted seat (member ∷ members) =
 -- an operation of a layout sends its phase again as the machine does
 phase_again : (layout : Layout) (op : phased.Operation) (me : BrickId) → op.block ≡ layout.block
     → packets_from me (phase_messages op)
-    ≡ resent_to me op.state.call (request_of (block_code layout.block) op.state) op.state.counted 0 op.state.group.members
+    ≡ resent_to me op.state.call (request_of (block_code layout.block) op.state) op.state.counted 0 (asked_group op.state).members
 phase_again layout op me block =
-    silent_again (record { 0 = 0 }) me op.state.call (request_of (block_code op.block) op.state) op.state.counted 0 op.state.group.members
-    ∙ ap (λ block. resent_to me op.state.call (request_of (block_code block) op.state) op.state.counted 0 op.state.group.members) block
+    silent_again (record { 0 = 0 }) me op.state.call (request_of (block_code op.block) op.state) op.state.counted 0 (asked_group op.state).members
+    ∙ ap (λ block. resent_to me op.state.call (request_of (block_code block) op.state) op.state.counted 0 (asked_group op.state).members) block
 
--- and first, to all members
+-- and first, to all members that it asks
 pub phase_sent : (layout : Layout) (op : phased.Operation) (me : BrickId) → op.block ≡ layout.block → op.state.counted ≡ []
     → packets_from me (phase_messages op) ≡ phase_packets (coding layout) me op.state
 phase_sent layout op me block none =
     phase_again layout op me block
-    ∙ ap (λ counted. resent_to me op.state.call (request_of (block_code layout.block) op.state) counted 0 op.state.group.members) none
-    ∙ all_asked me op.state.call (request_of (block_code layout.block) op.state) 0 op.state.group.members
+    ∙ ap (λ counted. resent_to me op.state.call (request_of (block_code layout.block) op.state) counted 0 (asked_group op.state).members) none
+    ∙ all_asked me op.state.call (request_of (block_code layout.block) op.state) 0 (asked_group op.state).members
 
 -- what an operation sends at a tick
 abbrev pub sends_again : Operation → List (BrickId × Message)
 sends_again op = teaching (coordinator_of op).call.group (view_in (coordinator_of op)) (phase_messages (shown_of op))
 
 -- it is what the machine sends
-again_is : (layout : Layout) (op : Operation) (me : BrickId) → IsOperationOf layout op
+pub again_is : (layout : Layout) (op : Operation) (me : BrickId) → IsOperationOf layout op
     → packets_from me (sends_again op) ≡ resent (coding layout) me (Some (coordinator_of op))
 again_is layout op me block =
     let c = coordinator_of op in
@@ -112,12 +112,12 @@ pub resent_of : (setting : Setting) (me : BrickId) (held : Option Operation)
 resent_of setting me None = refl
 resent_of setting me (Some op) = refl
 
--- its messages are few where its members are
-pub few_again : (op : phased.Operation) (messages : List (BrickId × Message)) → messages ≡ phase_messages op → length op.state.group.members ≤ 32
+-- its messages are few where the members that it asks are
+pub few_again : (op : phased.Operation) (messages : List (BrickId × Message)) → messages ≡ phase_messages op → length (asked_group op.state).members ≤ 32
     → length messages ≤ 32
 few_again op messages sent small =
     let me : BrickId = record { 0 = 0 } in
-    let packets = resent_to me op.state.call (request_of (block_code op.block) op.state) op.state.counted 0 op.state.group.members in
-    let count = few_silent me op.state.call (request_of (block_code op.block) op.state) op.state.counted 0 op.state.group.members in
+    let packets = resent_to me op.state.call (request_of (block_code op.block) op.state) op.state.counted 0 (asked_group op.state).members in
+    let count = few_silent me op.state.call (request_of (block_code op.block) op.state) op.state.counted 0 (asked_group op.state).members in
     let same : length messages ≡ length packets = ap length sent ∙ length-map packets without_sender in
     omega arith

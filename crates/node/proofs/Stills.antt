@@ -1,12 +1,13 @@
 -- A message that makes no call of the disk changes nothing that is kept.
 use Rattle.std.proofs.Common.{◌≡◌, ℕ, suc, Bool, true, false, cond, nat_lt, Option, Some, None, List, [], ◌∷◌, ◌++◌, map, refl, sym, ◌∙◌, ap, subst, arith, eq-eqb}
-use Rattle.std.specs.Prelude.{replicate, nat_eq}
-use Rattle.std.proofs.lemmas.Bool.{cond_both, eqb-true}
+use Rattle.std.specs.Prelude.{replicate, nat_eq, not, ◌&&◌, ◌||◌, is_some}
+use Rattle.std.proofs.lemmas.Bool.{and_parts, cond_both, eqb-true}
 use Rattle.std.proofs.lemmas.Bool.Decides.{nat_tests}
 use Rattle.fab_base.specs.declared.identities.BrickId.{BrickId}
 use Rattle.fab_base.specs.declared.stamps.Stamp.{Stamp}
 use Rattle.fab_base.specs.Stamps.{stamp_below, stamp_same, first_stamp}
 use Rattle.fab_base.specs.declared.identities.GroupId.{GroupId}
+use Rattle.fab_base.specs.declared.identities.ViewNo.{ViewNo}
 use Rattle.fab_base.specs.declared.member_lists.View.{View}
 use Rattle.fab_base.specs.Layouts.{Layout, group_of}
 use Rattle.fab_base.proofs.StampOrder.{stamp_same_refl, stamp_same_true}
@@ -27,8 +28,8 @@ use Rattle.stripe_code.specs.Codes.{coding}
 use Rattle.protocol.specs.Settings.{Code}
 use Rattle.protocol.specs.Replicas.{Replica, Reaction, handle, is_held, is_wanted, top_of, newest_of, told_version, looked_up, below, stays, unless_full, promised, stored, modified_block, modified_on, collected}
 use Rattle.protocol.specs.Ballots.{Voted}
-use Rattle.protocol.specs.Views.{Learnt, is_later, learns}
-use Rattle.protocol.specs.Nodes.{Node, NodeStep, put, requested, replica_at, full_at, may_teach, node_learnt, node_taught, vote_at, with_learnt, with_replica}
+use Rattle.protocol.specs.Views.{Learnt, is_later, is_unsynced, learns, notes_synced}
+use Rattle.protocol.specs.Nodes.{Node, NodeStep, put, requested, replica_at, full_at, may_teach, node_learnt, node_synced, node_taught, vote_at, with_learnt, with_replica}
 use Rattle.protocol.proofs.Served.{request_each, parts_each}
 use Rattle.replica.specs.Calls.{shares_block, stored_append, part_append, ballot_append, either_append, learnt_append, message_calls, same_ballots}
 use Rattle.replica.specs.Parts.{as_version, IsBegun, IsPartsOf}
@@ -170,7 +171,8 @@ module _ {D : Type 0} (store : Brick D) where
       let here : put node.learnt g (learns (node.learnt g) view) g ≡ new =
       ap (λ (b : Bool). cond b (learns (node.learnt g) view) (node.learnt g)) (eq-eqb g g refl) ∙ ap (λ (b : Bool). cond b new (node.learnt g)) later in
       let other : nat_eq (node.learnt g).view.number.0 view.number.0 ≡ false = grind (arith, nat_tests, later) in
-      ap (learnt_append (node.learnt g)) here ∙ ap (λ (b : Bool). cond b None (Some (append_of (view_size view) append_calls))) other
+      ap (learnt_append (node.learnt g)) here
+      ∙ ap (λ (b : Bool). cond (b && ((node.learnt g).synced || true)) None (Some (append_of (view_size view) append_calls))) other
 
   -- where no call keeps a view that is taught, it is not learnt
   taught_still : (block g : ℕ) (node : Node) (view : View)
@@ -191,6 +193,36 @@ module _ {D : Type 0} (store : Brick D) where
       cond_both (may_teach layout (Some view) (group_of layout group.0)) (node_taught layout.block group.0 node view) node
       (λ (n : Node). calls_now (learnt_append (node.learnt group.0) (n.learnt group.0)) ≡ 0 → KeepsSame node n)
       (λ may. taught_still layout.block group.0 node view) (λ not none. all_same node)
+
+  -- that the learnt view is synced is appended, where it was not known
+  note_appended : (g : ℕ) (node : Node) (number : ℕ) → is_unsynced (node.learnt g) number ≡ true
+      → learnt_append (node.learnt g) (put node.learnt g (notes_synced (node.learnt g) number) g) ≡ Some (append_of (view_size (node.learnt g).view) append_calls)
+  unfolding notes_synced
+  note_appended g node number unsynced =
+      let l : Learnt = node.learnt g in
+      let noted : Learnt = record l { synced = true } in
+      let record_of : Option Append = Some (append_of (view_size l.view) append_calls) in
+      let here : put node.learnt g (notes_synced l number) g ≡ noted =
+      ap (λ (b : Bool). cond b (notes_synced l number) l) (eq-eqb g g refl) ∙ ap (λ (b : Bool). cond b noted l) unsynced in
+      ap (learnt_append l) here
+      ∙ ap (λ (b : Bool). cond (nat_eq l.view.number.0 l.view.number.0 && (b || false)) None record_of) (unknown l.synced (and_parts _ _ unsynced).1)
+      ∙ ap (λ (b : Bool). cond (b && false) None record_of) (eq-eqb l.view.number.0 l.view.number.0 refl)
+    where
+      unknown : (b : Bool) → not b ≡ true → b ≡ false
+      unknown true h = absurd cc
+      unknown false h = refl
+
+  synced_still : (layout : Layout) (node : Node) (group : GroupId) (number : ViewNo)
+      → calls_now (learnt_append (node.learnt group.0) ((node_synced layout node group number).learnt group.0)) ≡ 0
+      → KeepsSame node (node_synced layout node group number)
+  unfolding node_synced
+  synced_still layout node group number =
+      cond_both (is_some (group_of layout group.0) && is_unsynced (node.learnt group.0) number.0)
+      (with_learnt layout.block group.0 node (notes_synced (node.learnt group.0) number.0)) node
+      (λ (n : Node). calls_now (learnt_append (node.learnt group.0) (n.learnt group.0)) ≡ 0 → KeepsSame node n)
+      (λ notes some. absurd (never_none (has_room_for store.shape store.listed (view_size (node.learnt group.0).view)) 3 10
+      (sym (ap calls_now (note_appended group.0 node number.0 (and_parts (is_some (group_of layout group.0)) _ notes).1)) ∙ some)))
+      (λ not none. all_same node)
 
 -- a message that no call of a store keeps leaves all that is kept as it is
 pub all_still : {D : Type 0} (layout : Layout) (me from : BrickId) (store : Brick D) (node : Node) (message : Message)
@@ -232,6 +264,6 @@ all_still layout me from store node (Message.Request call request) parts =
     })
 all_still layout me from store node (Message.Reply call reply) parts = λ none. all_same node
 all_still layout me from store node (Message.Learn group view) parts = learnt_still store layout node group view
-all_still layout me from store node (Message.Synced group view) parts = λ none. all_same node
+all_still layout me from store node (Message.Synced group number) parts = synced_still store layout node group number
 all_still layout me from store node (Message.Client ask) parts = λ none. all_same node
 all_still layout me from store node (Message.ClientReply id answer) parts = λ none. all_same node

@@ -78,7 +78,7 @@ module _ (layout : Layout) (before : OpenWork) (from : BrickId) (call : Call) (o
       let node = state_in kept before in
       let c = coordinator_of op in
       let me = before.calls.me in
-      let fresh = fresh_stamp me c.call.view now node.boot node.known in
+      let fresh = fresh_stamp me c.stamp.view now node.boot node.known in
       let counts_here = ap (λ (block : ℕ). machine.counts_at block c from.0 call reply) (sym at.is_operation) ∙ seat_found.1 in
       ap (replied_at (coding layout) me now from node call reply) (ap (option_map coordinator_of) held)
       ∙ ap (carried_out (coding layout) me node node.known c)

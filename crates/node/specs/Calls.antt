@@ -11,8 +11,8 @@ use Rattle.stripe_code.specs.Codes.{coding}
 use Rattle.protocol.specs.Nodes.{Node, absorbed}
 use Rattle.node.specs.Running.{shape_at}
 
--- What keeps what a packet makes a brick of the machine change: a record for a request that it serves, or a view that it is taught, where that changes
--- something; for a reply a record of the view that it tells, where the brick learns that; and nothing for any other message.
+-- What keeps what a packet makes a brick of the machine change: a record for a request that it serves, a view that it is taught, or one that it is told to be
+-- synced, where that changes something; for a reply a record of the view that it tells, where the brick learns that; and nothing for any other message.
 abbrev pub packet_append : Layout → BrickId → Node → Packet → Option Append
 packet_append layout me node packet = append_as packet.message
   where

@@ -72,6 +72,14 @@ left_by (machine.Sends d) = Some d
 left_by (machine.Makes d) = Some d
 left_by (machine.Ends answer seen stored) = None
 
+-- it does not end
+abbrev pub NeverEnds : machine.Next → Type 0
+NeverEnds machine.Ignores = Unit {0}
+NeverEnds (machine.Waits d) = Unit {0}
+NeverEnds (machine.Sends d) = Unit {0}
+NeverEnds (machine.Makes d) = Unit {0}
+NeverEnds (machine.Ends answer seen stored) = ⊥
+
 -- the messages are those of the operation's phase
 abbrev pub SendsPhase : Layout → Operation → List (BrickId × Message) → Type 0
 SendsPhase layout op messages = (me : BrickId) → packets_from me messages ≡ phase_packets (coding layout) me (coordinator_of op)

@@ -1,5 +1,6 @@
 -- A running brick over its durable store, and what its disk shows.
-use Rattle.std.specs.Prelude.{◌≡◌, ◌⊎◌, ℕ, ◌+◌, List, length, map, Option, None}
+use Rattle.std.specs.Prelude.{◌≡◌, ◌⊎◌, ℕ, ◌+◌, List, length, map, Option}
+use Rattle.std.specs.Option.{option_map}
 use Rattle.std.specs.Ordering.{nat_cmp}
 use Rattle.std.specs.Map.{lookup}
 use Rattle.std.specs.BTreeMap.{BTreeMap, is_at}
@@ -16,13 +17,14 @@ use Rattle.protocol.specs.Nodes as machine
 use Rattle.protocol.specs.Proposals.{Proposal}
 use Rattle.replica.specs.Parts.{part_in, learnt_in, ballots_in, live_at, IsPartsOf, ListsStand}
 use Rattle.node.specs.Proposals.{proposal_in}
-use Rattle.node.specs.declared.open_work.OpenWork.{OpenWork}
+use Rattle.node.specs.Jobs.{Reading, calls_with, reading_in}
+use Rattle.node.specs.declared.tasks.Tasks.{Tasks}
 use Rattle.node.specs.declared.operations.Operation.{Operation}
 use Rattle.node.specs.Operations.{coordinator_of}
-use Rattle.node.specs.States.{IsWorkOf}
+use Rattle.node.specs.Tasks.{AreTasksOf}
 
 -- A running brick: the disk's layout, its number, its last call number, the greatest time that it knows, the coordinators of its open operations
--- by their call numbers, which rise, the greatest round of a ballot that it knows, its proposal, and its store.
+-- by their call numbers, which rise, the greatest round of a ballot that it knows, its proposal, its synchronisation with the read of that, and its store.
 pub record Running (D : Type 0) : Type 0 where
   pub layout : Layout
   pub me : BrickId
@@ -31,6 +33,7 @@ pub record Running (D : Type 0) : Type 0 where
   pub calls : List (ℕ × Coordinator)
   pub round : ℕ
   pub proposal : Option Proposal
+  pub reading : Option Reading
   pub brick : Brick D
 
 -- what the machine sees of it
@@ -47,26 +50,27 @@ state_of node =
       learnt = learnt_in node.layout node.brick.state;
       ballots = ballots_in node.brick.state;
       replicas = part_in node.layout.block node.brick.state;
-      calls = λ k. lookup (is_at (nat_cmp k)) node.calls;
+      calls = calls_with node.reading (λ k. lookup (is_at (nat_cmp k)) node.calls);
       proposal = node.proposal;
-      job = None;
+      job = option_map (λ (r : Reading). r.job) node.reading;
     }
 
 -- the coordinators of operations by number
 abbrev pub coordinators : BTreeMap ℕ Operation → List (ℕ × Coordinator)
 coordinators operations = map (λ e. (e.0, coordinator_of e.1)) operations.entries
 
--- the brick of this layout that has these operations and this proposal under way, over this store
-abbrev pub running : {D : Type 0} → Layout → OpenWork → Brick D → Running D
-running layout work store =
+-- the brick of this layout that has this under way, over this store
+abbrev pub running : {D : Type 0} → Layout → Tasks → Brick D → Running D
+running layout tasks store =
     record {
       layout = layout;
-      me = work.calls.me;
-      seq = work.calls.seq;
-      known = work.calls.stamps.known;
-      calls = coordinators work.calls.operations;
-      round = work.proposals.rounds;
-      proposal = proposal_in work.proposals.under_way;
+      me = tasks.work.calls.me;
+      seq = tasks.work.calls.seq;
+      known = tasks.work.calls.stamps.known;
+      calls = coordinators tasks.work.calls.operations;
+      round = tasks.work.proposals.rounds;
+      proposal = proposal_in tasks.work.proposals.under_way;
+      reading = reading_in tasks.job;
       brick = store;
     }
 
@@ -103,10 +107,10 @@ pub record IsSameBrick {D : Type 0} (old new : Running D) : Type 0 where
   pub layout : new.layout ≡ old.layout
   pub me : new.me ≡ old.me
 
--- The store is that of the brick of the layout, was opened as often as its calls say, and its lists of members may keep the layout's groups; and the open
--- operations and the proposal are of the layout.
-pub record IsBrickOf (layout : Layout) (shape : Shape) (st : StateOf Version) (work : OpenWork) : Type 0 where
-  pub shape_is : shape ≡ shape_at layout work.calls.me
-  pub boot : work.calls.stamps.boot ≡ st.boot
+-- The store is that of the brick of the layout, was opened as often as its calls say, and its lists of members may keep the layout's groups; and all that is
+-- under way is of the layout.
+pub record IsBrickOf (layout : Layout) (shape : Shape) (st : StateOf Version) (tasks : Tasks) : Type 0 where
+  pub shape_is : shape ≡ shape_at layout tasks.work.calls.me
+  pub boot : tasks.work.calls.stamps.boot ≡ st.boot
   pub lists : ListsStand layout st
-  pub work_is : IsWorkOf layout work
+  pub tasks_are : AreTasksOf layout tasks

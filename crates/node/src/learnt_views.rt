@@ -4,6 +4,7 @@ ghost use Rattle.std.specs.Prelude.{◌≡◌, ◌<◌, true, false, Some, optio
 ghost use Rattle.fab_base.specs.Layouts as layouts;
 ghost use Rattle.fab_base.specs.Layouts.{group_of, most_groups};
 ghost use Rattle.quorum.specs.Quorums.{IsWithinLimits};
+ghost use Rattle.coord_phase.specs.Operations.{PriorIsWithinLimits};
 ghost use Rattle.brick_state.specs.States.{group_at};
 ghost use Rattle.protocol.specs.Views.{may_be_taught};
 ghost use Rattle.replica.specs.Parts.{learnt_in, lists_stand, may_be_accepted, ListsStand};
@@ -22,12 +23,25 @@ pub(crate) fn learnt_view<D: Disk>(store: &BrickStore<D>, number: GroupId, group
     ensures view { (layout : layouts.Layout) → group_of layout number.0 ≡ Some group.now → result ≡ (learnt_in layout store.now.state number.0).view }
     ensures limits { (layout : layouts.Layout) → group_of layout number.0 ≡ Some group.now → ListsStand layout store.now.state
         → IsWithinLimits group.now.m (length result.members) }
+    ensures prior { (layout : layouts.Layout) → group_of layout number.0 ≡ Some group.now → ListsStand layout store.now.state
+        → PriorIsWithinLimits group.now.m result.number result.prior }
 {
     // The call only tells limits.
     let _ = group.policy();
     match store.known_view(number) {
         Some((view, _)) => view,
         None => group.first_view(),
+    }
+}
+
+/// Whether a brick knows that all stripes of a group of the layout are kept in the view that it has learnt.
+pub(crate) fn is_synced<D: Disk>(store: &BrickStore<D>, number: GroupId) -> bool
+    requires few { number.0 < most_groups }
+    ensures { (layout : layouts.Layout) → result ≡ (learnt_in layout store.now.state number.0).synced }
+{
+    match store.known_view(number) {
+        Some((_, synced)) => synced,
+        None => true,
     }
 }
 

@@ -1,9 +1,11 @@
-//! One brick over its durable store: its parts of stripes, the operations that it coordinates, and its proposal of a view's successor. Each
-//! step computes exactly what the protocol's machine says, from the brick's own state and the message alone, and what it keeps is kept before
-//! it answers.
+//! One brick over its durable store: its parts of stripes, the operations that it coordinates, its proposal of a view's successor, and its synchronisation of a
+//! view. Each step computes exactly what the protocol's machine says, from the brick's own state and the message alone, and what it keeps is kept before it
+//! answers.
 #![tactic(auto)]
 
+pub mod call_sources;
 pub mod faults;
+pub mod jobs;
 mod learnt_views;
 pub mod nodes;
 mod numbered;
@@ -14,9 +16,10 @@ pub mod outs;
 pub mod proposals;
 mod refusals;
 mod sending;
+pub mod tasks;
 mod teaching;
 
 pub use faults::NodeFault;
 pub use nodes::Node;
 pub use operations::Operation;
-pub use outs::{Begun, Outs};
+pub use outs::{Begun, Outs, Tellings};

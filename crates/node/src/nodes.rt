@@ -11,7 +11,7 @@ ghost use Rattle.brick_state.specs.States.{StateOf};
 ghost use Rattle.brick_store.specs.Images.{IsFound};
 ghost use Rattle.brick_store.specs.Openings.{IsCounted, IsListedOnOpening, IsWornOut};
 ghost use Rattle.protocol.specs.Nodes as machine;
-ghost use Rattle.protocol.specs.Nodes.{view_at, refusal_of, invoked, heard, node_learnt, proposal_refusal, proposed, received, absorbed, ticked, restarted};
+ghost use Rattle.protocol.specs.Nodes.{view_at, refusal_of, invoked, heard, node_learnt, proposal_refusal, proposed, sync_refusal, synced_at, view_in, received, absorbed, ticked, restarted};
 ghost use Rattle.protocol.specs.Proposals.{Proposal};
 ghost use Rattle.protocol.specs.Views.{view_told};
 ghost use Rattle.fab_base.specs.Layouts.{Group, group_of};
@@ -31,10 +31,10 @@ ghost use Rattle.node.specs.Running.{shape_at, state_of, IsKept, ImageShows, IsS
 ghost use Rattle.node.specs.Teaching.{is_taught};
 
 use crate::faults::NodeFault;
-use crate::learnt_views::{do_lists_stand, learnt_number, learnt_view};
-use crate::open_work::OpenWork;
+use crate::learnt_views::{do_lists_stand, is_synced, learnt_number, learnt_view};
 use crate::outs::{Begun, Outs};
 use crate::sending::answer_messages;
+use crate::tasks::Tasks;
 use crate::teaching::{is_view, view_told};
 use brick_store::{BrickStore, OpenFault, State};
 use fab_base::{Ask, BrickId, GroupId, Refusal, StripeNo, View};
@@ -44,13 +44,14 @@ use messages::{Call, Message, Messages, Packet, Reply};
 use std::alloc::Global;
 use std::marker::Model;
 
-/// A running brick: its parts of stripes, which its disk keeps, the operations that it coordinates, and its proposal of a view's successor.
+/// A running brick: its parts of stripes, which its disk keeps, the operations that it coordinates, its proposal of a view's successor, and its synchronisation of
+/// a view.
 ///
-/// A clause sees the layout, the brick's number, the operations that it has open, its proposal, and its store.
+/// A clause sees the layout, the brick's number, the operations that it has open, its proposal, its synchronisation, and its store.
 pub struct Node<D: Disk> {
     alloc: Global,
     layout: Layout,
-    work: OpenWork,
+    tasks: Tasks,
     store: BrickStore<D>,
 }
 
@@ -59,9 +60,9 @@ impl<D: Disk> Model for Node<D> {
 
     ghost Value = { Running D };
 
-    ghost view = { λ n. running n.layout n.work n.store };
+    ghost view = { λ n. running n.layout n.tasks n.store };
 
-    ghost invariant = { λ n. IsBrickOf n.layout n.store.shape n.store.state n.work };
+    ghost invariant = { λ n. IsBrickOf n.layout n.store.shape n.store.state n.tasks };
 }
 
 impl<D: Disk + Drop> Drop for Node<D> {
@@ -70,7 +71,7 @@ impl<D: Disk + Drop> Drop for Node<D> {
         let Self {
             alloc: _,
             layout: _,
-            work: _,
+            tasks: _,
             store: _,
         } = self;
     }
@@ -123,11 +124,11 @@ impl<D: Disk> Node<D> {
         if !do_lists_stand(&store, &layout) {
             return Err((OpenFault::NotAStore, store.into_disk()));
         }
-        let work = OpenWork::new(alloc, me, store.boot());
+        let tasks = Tasks::new(alloc, me, store.boot());
         Ok(Node {
             alloc,
             layout,
-            work,
+            tasks,
             store,
         })
     }
@@ -153,16 +154,12 @@ impl<D: Disk> Node<D> {
         if self.is_halted() {
             return Err(NodeFault::Halted);
         }
-        let group = match self.work.calls.admit(&self.layout, ask) {
+        let group = match self.tasks.work.calls.admit(&self.layout, ask) {
             Ok(group) => group,
             Err(refusal) => return Err(NodeFault::Refused(refusal)),
         };
         let view = learnt_view(&self.store, ask.group, group);
-        Ok(
-            self.work
-                .calls
-                .begin(self.alloc, &self.layout, view, now, ask)?,
-        )
+        Ok(self.tasks.begin(self.alloc, &self.layout, view, now, ask)?)
     }
 
     /// Begins a proposal of these members as the successor of the view that the brick has learnt of a group: what it sends. A list that may
@@ -192,36 +189,72 @@ impl<D: Disk> Node<D> {
             return Err(NodeFault::Refused(Refusal::NoStripe));
         };
         let view = learnt_view(&self.store, group, kept);
-        if let Some(refusal) = self.work.proposal_refusal(view.number) {
+        if let Some(refusal) = self.tasks.work.proposal_refusal(view.number) {
             return Err(NodeFault::Refused(refusal));
         }
         Ok(
-            self.work
+            self.tasks
                 .propose(self.alloc, &self.layout, kept, group, view, members)?,
         )
     }
 
+    /// Begins to synchronise the view that the brick has learnt of a group, at this time of its clock: it reads each stripe in that, and tells all bricks in the
+    /// end. If all stripes are known to be kept in the view already, it ends at once: that is reported, and nothing is sent. So it ends where no later time or no
+    /// further call is left for the first read.
+    ///
+    /// # Errors
+    ///
+    /// `Halted` exactly where an earlier call answered `Disk`. `Refused` exactly where the brick does not begin it, with the first reason
+    /// there is: there is no such group; it has a synchronisation. `NoMemory` where no memory was left.
+    pub fn sync(&mut self, now: u64, group: GroupId) -> Result<Outs, NodeFault>
+        ensures refused { RefusesAs result (sync_refusal self.old.layout (state_of self.old) group.0) }
+        ensures step { IfOk result (StepsAs self.old.me (state_of self.new) (synced_at (coding self.old.layout) self.old.me now (state_of self.old) group)) }
+        ensures err { OnErr result (state_of self.new ≡ state_of self.old) }
+        ensures few { IfOk result (λ outs. length outs.messages ≤ 32) }
+        ensures same { IsSameBrick self.old self.new }
+        ensures brick { self.new.brick ≡ self.old.brick }
+        ensures halted { self.old.brick.halted ≡ true → result ≡ Err NodeFault.Halted }
+        ensures only_halted { result ≡ Err NodeFault.Halted → self.old.brick.halted ≡ true }
+        ensures not_disk { result ≢ Err NodeFault.Disk }
+    {
+        if self.is_halted() {
+            return Err(NodeFault::Halted);
+        }
+        let Some(kept) = self.layout.group(group) else {
+            return Err(NodeFault::Refused(Refusal::NoStripe));
+        };
+        if self.tasks.synchronises() {
+            return Err(NodeFault::Refused(Refusal::Busy));
+        }
+        let view = learnt_view(&self.store, group, kept);
+        let synced = is_synced(&self.store, group);
+        Ok(
+            self.tasks
+                .sync(self.alloc, &self.layout, kept, group, view, synced, now)?,
+        )
+    }
+
     /// At a tick of the brick's clock each open operation, in the order of beginning, sends its present phase again to each member
-    /// without a reply that counts, and then the proposal. Each message of a later view than view 1 goes right after one that teaches its
-    /// receiver that view.
+    /// without a reply that counts, then the proposal, and last the read of the synchronisation. Each message of a later view than view 1 goes right after one
+    /// that teaches its receiver that view.
     ///
     /// # Errors
     ///
     /// `Halted` exactly where an earlier call answered `Disk`. `NoMemory` where no memory was left.
     pub fn on_tick(&self) -> Result<Messages, NodeFault>
         ensures packets { IfOk result (λ messages. packets_from self.now.me messages.items ≡ ticked (coding self.now.layout) self.now.me (state_of self.now)) }
-        ensures few { IfOk result (λ messages. vec_len messages ≤ 4160) }
+        ensures few { IfOk result (λ messages. vec_len messages ≤ 4224) }
         ensures halted { self.now.brick.halted ≡ true → result ≡ Err NodeFault.Halted }
         ensures only { OnErr result ((result ≡ Err NodeFault.Halted × (self.now.brick.halted ≡ true)) ⊎ (result ≡ Err NodeFault.NoMemory)) }
     {
         if self.is_halted() {
             return Err(NodeFault::Halted);
         }
-        Ok(self.work.on_tick(self.alloc)?)
+        Ok(self.tasks.on_tick(self.alloc)?)
     }
 
-    /// Handles a message, at this time of the brick's clock. What it keeps of a request, and a view that it learns, is on the disk before it
-    /// answers, by the calls of [`replica::handle`]; a message that changes nothing that is kept makes no call of the disk. A reply makes
+    /// Handles a message, at this time of the brick's clock. What it keeps of a request, a view that it learns, and that all stripes are kept in that, is on
+    /// the disk before it answers, by the calls of [`replica::handle`]; a message that changes nothing that is kept makes no call of the disk. A reply makes
     /// some where it counts and tells a later view with its members, which the brick learns then.
     ///
     /// # Errors
@@ -231,7 +264,7 @@ impl<D: Disk> Node<D> {
     #[tactic(auto, unfolding(protocol::specs::Nodes::received, protocol::specs::Nodes::requested, protocol::specs::Nodes::absorbed))]
     pub fn on_message(&mut self, now: u64, packet: &Packet) -> Result<Outs, NodeFault>
         ensures step { IfOk result (StepsAs self.old.me (state_of self.new) (received (coding self.old.layout) self.old.me now (state_of self.old) packet.now)) }
-        ensures few { IfOk result (λ outs. length outs.messages ≤ 64) }
+        ensures few { IfOk result (λ outs. length outs.messages ≤ 96) }
         ensures err { OnErr result (state_of self.new ≡ state_of self.old) }
         ensures same { IsSameBrick self.old self.new }
         // A message that makes no call of the disk changes nothing that is kept, and does not touch the disk. None is made where what is kept stays as it is.
@@ -251,21 +284,20 @@ impl<D: Disk> Node<D> {
         match &packet.message {
             Message::Request(_, _) => self.serve(packet.from, &packet.message),
             Message::Learn { .. } => self.serve(packet.from, &packet.message),
+            Message::Synced { .. } => self.serve(packet.from, &packet.message),
             Message::Reply(call, reply) => self.on_reply(now, packet, *call, reply),
-            Message::Synced { .. } | Message::Client(_) | Message::ClientReply { .. } => {
-                Ok(Outs::nothing(self.alloc))
-            }
+            Message::Client(_) | Message::ClientReply { .. } => Ok(Outs::nothing(self.alloc)),
         }
     }
 
-    /// Serves a message as a member of a group: it handles a request, and learns a later view that it is taught. A brick ignores a void
-    /// request, and each other message.
+    /// Serves a message as a member of a group: it handles a request, learns a later view that it is taught, and notes that all stripes are kept in the view
+    /// that it has learnt. A brick ignores a void request, and each other message.
     fn serve(&mut self, from: BrickId, message: &Message) -> Result<Outs, NodeFault>
         requires runs { self.old.brick.halted ≡ false }
         requires stands { IsShown D.Disk self.old }
         ensures step { IfOk result (StepsAs self.old.me (state_of self.new)
             (member_step self.old.layout self.old.me from (state_of self.old) message.now)) }
-        ensures few { IfOk result (λ outs. length outs.messages ≤ 64) }
+        ensures few { IfOk result (λ outs. length outs.messages ≤ 96) }
         ensures err { OnErr result (state_of self.new ≡ state_of self.old) }
         ensures same { IsSameBrick self.old self.new }
         ensures still { message_calls self.old.layout self.old.me from (shape_at self.old.layout self.old.me) self.old.brick.listed (state_of self.old) message.now ≡ 0
@@ -299,7 +331,7 @@ impl<D: Disk> Node<D> {
         requires runs { self.old.brick.halted ≡ false }
         requires stands { IsShown D.Disk self.old }
         ensures step { IfOk result (StepsAs self.old.me (state_of self.new) (received (coding self.old.layout) self.old.me now (state_of self.old) packet.now)) }
-        ensures few { IfOk result (λ outs. length outs.messages ≤ 64) }
+        ensures few { IfOk result (λ outs. length outs.messages ≤ 96) }
         ensures err { OnErr result (state_of self.new ≡ state_of self.old) }
         ensures same { IsSameBrick self.old self.new }
         ensures still { packet_calls self.old.layout self.old.me (state_of self.old) packet.now self.old.brick.listed ≡ 0 → OnOk result
@@ -316,7 +348,7 @@ impl<D: Disk> Node<D> {
         if !self.is_taught_by(packet, call, &view) {
             return Ok(Outs::nothing(self.alloc));
         }
-        self.on_moved(packet, call, reply, view)
+        self.on_moved(now, packet, call, reply, view)
     }
 
     /// Handles a reply that teaches no view, at this time of the brick's clock: the operation of its call, or else the proposal, counts it,
@@ -332,7 +364,7 @@ impl<D: Disk> Node<D> {
         requires untaught { view_told reply.now ≡ None }
         ensures step { IfOk result (StepsAs self.old.me (state_of self.new) (heard (coding self.old.layout) self.old.me now packet.now.from
             (state_of self.old) call reply.now)) }
-        ensures few { IfOk result (λ outs. length outs.messages ≤ 64) }
+        ensures few { IfOk result (λ outs. length outs.messages ≤ 96) }
         ensures err { OnErr result (state_of self.new ≡ state_of self.old) }
         ensures same { IsSameBrick self.old self.new }
         ensures brick { self.new.brick ≡ self.old.brick }
@@ -341,7 +373,7 @@ impl<D: Disk> Node<D> {
         ensures only { OnErr result (result ≡ Err NodeFault.NoMemory) }
     {
         Ok(
-            self.work
+            self.tasks
                 .on_reply(self.alloc, &self.layout, now, packet, call, reply)?,
         )
     }
@@ -354,12 +386,13 @@ impl<D: Disk> Node<D> {
         let Some(group) = self.layout.group(call.group) else {
             return false;
         };
-        is_view(group.m(), self.layout.bricks(), view) && self.work.counts(call, packet)
+        is_view(group.m(), self.layout.bricks(), view) && self.tasks.counts(call, packet)
     }
 
     /// Handles a reply that counts and teaches a view: it counts, and the brick learns the view.
     fn on_moved(
         &mut self,
+        now: u64,
         packet: &Packet,
         call: Call,
         reply: &Reply,
@@ -370,9 +403,9 @@ impl<D: Disk> Node<D> {
         requires taught { is_taught self.old.layout (state_of self.old) packet.now.from call reply.now ≡ true }
         requires runs { self.old.brick.halted ≡ false }
         requires stands { IsShown D.Disk self.old }
-        ensures step { (now : ℕ) → IfOk result (StepsAs self.old.me (state_of self.new) (heard (coding self.old.layout) self.old.me now packet.now.from
+        ensures step { IfOk result (StepsAs self.old.me (state_of self.new) (heard (coding self.old.layout) self.old.me now packet.now.from
             (state_of self.old) call reply.now)) }
-        ensures few { IfOk result (λ outs. length outs.messages ≤ 64) }
+        ensures few { IfOk result (λ outs. length outs.messages ≤ 96) }
         ensures err { OnErr result (state_of self.new ≡ state_of self.old) }
         ensures same { IsSameBrick self.old self.new }
         ensures still { message_calls self.old.layout self.old.me self.old.me (shape_at self.old.layout self.old.me) self.old.brick.listed (state_of self.old)
@@ -387,12 +420,13 @@ impl<D: Disk> Node<D> {
         // All else that can be refused comes before the view is learnt, and is taken back where that is refused.
         let (alloc, seq) = (self.alloc, call.seq);
         let turn = self
-            .work
-            .hear_moved(alloc, &self.layout, packet, call, reply, view.number)?;
+            .tasks
+            .hear_moved(alloc, &self.layout, now, packet, call, reply, view.number)?;
         match replica::learn(&mut self.store, &self.layout, call.group, &view) {
-            Ok(()) => Ok(self.work.finish(alloc, seq, turn)),
+            Ok(()) => Ok(self.tasks.finish(alloc, seq, turn)),
             Err(fault) => {
-                self.work.take_back(seq, &turn);
+                self.tasks.take_back(seq, &turn);
+                turn.let_go();
                 Err(NodeFault::from(fault))
             }
         }
@@ -406,7 +440,7 @@ impl<D: Disk> Node<D> {
         let Node {
             alloc: _,
             layout: _,
-            work: _,
+            tasks: _,
             store,
         } = self;
         store.into_disk()
@@ -423,7 +457,7 @@ impl<D: Disk> Node<D> {
         ensures shape { self.now.brick.shape ≡ shape_at self.now.layout self.now.me }
     {
         // The clauses speak of the whole brick, so all of it is looked at.
-        let _ = &self.work;
+        let _ = &self.tasks;
         self.store.is_halted()
     }
 
@@ -438,7 +472,7 @@ impl<D: Disk> Node<D> {
     pub fn me(&self) -> BrickId
         ensures { result ≡ self.now.me }
     {
-        self.work.calls.me()
+        self.tasks.work.calls.me()
     }
 
     /// The store.
@@ -469,7 +503,7 @@ impl<D: Disk> Node<D> {
     pub fn proposing(&self) -> Option<GroupId>
         ensures { result ≡ option_map (λ (p : Proposal). p.call.group) (state_of self.now).proposal }
     {
-        self.work.proposals.group()
+        self.tasks.work.proposals.group()
     }
 
     /// The number of the brick's next call. None where no number is left.
@@ -477,15 +511,23 @@ impl<D: Disk> Node<D> {
     pub fn next_seq(&self) -> Option<u64>
         ensures { SomeIff result ((state_of self.now).seq + 1 < 2 ^ 64) ((state_of self.now).seq + 1) }
     {
-        self.work.calls.next_seq()
+        self.tasks.work.calls.next_seq()
     }
 
-    /// Whether the operation of the call of a number is open: it began since the brick started, and was not answered.
+    /// Whether the operation of the call of a number is open, or the call is that of the synchronisation's read: it began since the brick started, and has not
+    /// ended.
     #[tactic(auto, unfolding(crate::specs::Running::state_of))]
     pub fn is_open(&self, seq: u64) -> bool
         ensures { result ≡ is_some ((state_of self.now).calls seq) }
     {
-        self.work.calls.is_open(seq)
+        self.tasks.is_open(seq)
+    }
+
+    /// The view of the open operation of the call of a number, or of the synchronisation's read.
+    pub fn view_of(&self, seq: u64) -> Option<View>
+        ensures { result ≡ option_map view_in ((state_of self.now).calls seq) }
+    {
+        self.tasks.view_of(seq)
     }
 
     /// How often the brick's store was opened.
@@ -493,7 +535,7 @@ impl<D: Disk> Node<D> {
     pub fn boot(&self) -> u32
         ensures { result ≡ (state_of self.now).boot }
     {
-        self.work.calls.boot()
+        self.tasks.work.calls.boot()
     }
 
     /// The greatest time that the brick knows. 0 where it knows none.
@@ -501,7 +543,7 @@ impl<D: Disk> Node<D> {
     pub fn known_time(&self) -> u64
         ensures { result ≡ (state_of self.now).known }
     {
-        self.work.calls.known_time()
+        self.tasks.work.calls.known_time()
     }
 }
 

@@ -1,10 +1,11 @@
 //! The operations that a brick coordinates.
 
-ghost use Rattle.std.specs.Prelude.{◌≡◌, ◌<◌, ◌≤◌, ℕ, false, is_some};
+ghost use Rattle.std.specs.Prelude.{◌≡◌, ◌<◌, ◌≤◌, ℕ, false, is_some, IfSome};
 ghost use Rattle.std.specs.BTreeMap as tree;
 ghost use Rattle.std.specs.Ordering.{nat_cmp};
 ghost use Rattle.protocol.specs.Nodes.{known_after, fresh_stamp};
 
+use crate::call_sources::CallSource;
 use crate::numbered::{close_answered, keep_open};
 use crate::operations::Operation;
 use crate::outs::{Begun, Outs};
@@ -43,23 +44,30 @@ fn after_reply(mut stamps: StampSource, reply: &Reply) -> StampSource
 }
 
 /// The stamp that a new round of ordering would have in a view, at this time of the brick's clock. None where no later time is left.
-fn fresh_stamp(mut stamps: StampSource, now: u64, view: ViewNo, me: BrickId) -> Option<Stamp>
-    ensures { result ≡ fresh_stamp me view now stamps.boot stamps.known }
+pub(crate) fn fresh_stamp(
+    mut stamps: StampSource,
+    now: u64,
+    view: ViewNo,
+    me: BrickId,
+) -> Option<Stamp>
+    ensures stamp { result ≡ fresh_stamp me view now stamps.boot stamps.known }
+    ensures view { IfSome result (λ stamp. stamp.view ≡ view) }
 {
     stamps.next(now, view, me)
 }
 
 impl OpenCalls {
-    ghost use Rattle.std.specs.Prelude.{◌≡◌, ◌+◌, ◌-◌, ◌^◌, ◌<◌, ◌≤◌, ℕ, true, false, nat_eq, if◌then◌else◌, None, Some, is_some, IfOk, OnOk, OnErr, [], ◌∷◌, length, vec_len};
+    ghost use Rattle.std.specs.Prelude.{◌≡◌, ◌+◌, ◌-◌, ◌^◌, ◌<◌, ◌≤◌, ℕ, true, false, nat_eq, if◌then◌else◌, None, Some, is_some, option_map, IfOk, OnOk, OnErr, [], ◌∷◌, length, vec_len};
     ghost use Rattle.std.specs.BTreeMap.{get, btree_map_len};
     ghost use Rattle.std.specs.Ordering.{nat_cmp};
     ghost use Rattle.std.specs.Option.{SomeIff};
     ghost use Rattle.std.specs.Result.{result_err};
     ghost use Rattle.fab_base.specs.Layouts as layouts;
     ghost use Rattle.fab_base.specs.Layouts.{group_of, most_groups};
-    ghost use Rattle.protocol.specs.Nodes.{has_block, has_length, refusal_in, refusal_of, coordinator_in, began_in, known_after, next_call, replied_at, resent_up_to, with_call, with_known};
+    ghost use Rattle.protocol.specs.Nodes.{has_block, has_length, refusal_in, refusal_of, coordinator_in, began_in, known_after, next_call, replied_at, resent_up_to, view_in, with_call, with_known};
+    ghost use Rattle.node.specs.Operations.{coordinator_of};
     ghost use Rattle.quorum.specs.Quorums.{IsWithinLimits};
-    ghost use Rattle.coord_phase.specs.Operations.{group_in_view};
+    ghost use Rattle.coord_phase.specs.Operations.{PriorIsWithinLimits, group_in_view};
     ghost use Rattle.messages.specs.declared.packets.Message.TheVariants as message;
     ghost use Rattle.stripe_code.specs.Codes.{coding};
     ghost use Rattle.coord_phase.specs.Messages.{packets_from};
@@ -188,6 +196,7 @@ impl OpenCalls {
         requires known { self.old.stamps.known + 1 < 2 ^ 64 }
         requires seq { self.old.seq + 1 < 2 ^ 64 }
         requires limits { IsWithinLimits (group_in_view layout.now view.members ask.now.group.0).m (length view.members) }
+        requires prior { PriorIsWithinLimits (group_in_view layout.now view.members ask.now.group.0).m view.number view.prior }
         requires block { has_block (group_in_view layout.now view.members ask.now.group.0).m ask.now.op ≡ true }
         requires fits { has_length (group_in_view layout.now view.members ask.now.group.0).m layout.now.block ask.now.op ≡ true }
         ensures begun { (parts : OtherParts) → IfOk result
@@ -238,9 +247,71 @@ impl OpenCalls {
         }
     }
 
+    /// Where the next call comes from, at this time of the brick's clock.
+    pub(crate) fn source(&self, now: u64) -> CallSource
+        ensures { result ≡ record { me = self.now.me; seq = self.now.seq; stamps = self.now.stamps; now = now } }
+    {
+        CallSource {
+            me: self.me,
+            seq: self.seq,
+            stamps: self.stamps,
+            now,
+        }
+    }
+
+    /// The same, once a reply made a time known.
+    pub(crate) fn source_after(&self, now: u64, reply: &Reply) -> CallSource
+        ensures me { result.me ≡ self.now.me }
+        ensures seq { result.seq ≡ self.now.seq }
+        ensures boot { result.stamps.boot ≡ self.now.stamps.boot }
+        ensures known { result.stamps.known ≡ known_after self.now.stamps.known reply.now }
+        ensures now { result.now ≡ now }
+    {
+        let stamps = after_reply(self.stamps, reply);
+        CallSource {
+            me: self.me,
+            seq: self.seq,
+            stamps,
+            now,
+        }
+    }
+
+    /// Takes note that the call of this number, which is the last one then, was made of something other than an operation, with a stamp of this time.
+    pub(crate) fn made_read(&mut self, seq: u64, time: u64)
+        requires later { self.old.seq ≤ seq }
+        ensures state { (parts : OtherParts) → state_with parts self.new ≡ record (state_with parts self.old) { seq = seq; known = time } }
+        ensures operations { self.new.operations ≡ self.old.operations }
+        ensures same { (layout : layouts.Layout) → AreSameCalls layout self.old self.new }
+    {
+        self.seq = seq;
+        self.stamps.known = time;
+    }
+
+    /// This is the greatest time that the brick knows now.
+    pub(crate) fn knows(&mut self, time: u64)
+        ensures state { (parts : OtherParts) → state_with parts self.new ≡ with_known (state_with parts self.old) time }
+        ensures operations { self.new.operations ≡ self.old.operations }
+        ensures seq { self.new.seq ≡ self.old.seq }
+        ensures same { (layout : layouts.Layout) → AreSameCalls layout self.old self.new }
+    {
+        self.stamps.known = time;
+    }
+
+    /// The view of the open operation of a call, if there is one.
+    pub(crate) fn view_of(&self, seq: u64) -> Option<View>
+        ensures { result ≡ option_map (λ op. view_in (coordinator_of op)) (get nat_cmp self.now.operations seq) }
+    {
+        match self.operations.get(&seq) {
+            Some(open) => Some(open.view()),
+            None => None,
+        }
+    }
+
     /// Takes note of a time that a reply makes known.
     pub(crate) fn heard(&mut self, reply: &Reply)
         ensures state { (parts : OtherParts) → state_with parts self.new ≡ with_known (state_with parts self.old) (known_after (state_with parts self.old).known reply.now) }
+        ensures operations { self.new.operations ≡ self.old.operations }
+        ensures seq { self.new.seq ≡ self.old.seq }
         ensures same { (layout : layouts.Layout) → AreSameCalls layout self.old self.new }
     {
         self.stamps = after_reply(self.stamps, reply);
@@ -268,7 +339,7 @@ impl OpenCalls {
         let Some(open) = self.operations.get_mut(&call.seq) else {
             unreachable!()
         };
-        let fresh = fresh_stamp(stamps, now, open.call().view, me);
+        let fresh = fresh_stamp(stamps, now, open.stamp_view(), me);
         let outs = open.on_reply(alloc, packet.from, &packet.message, fresh, &mut stamps)?;
         self.stamps = stamps;
         close_answered(&mut self.operations, call.seq, &outs);

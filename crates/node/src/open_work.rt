@@ -5,7 +5,7 @@ use crate::outs::Outs;
 use crate::proposals::{Heard, Proposals};
 use fab_base::{Answer, BrickId, GroupId, NoMem, Refusal, View, ViewNo};
 use layout::{Group, Layout};
-use messages::{Call, Messages, Packet, Reply};
+use messages::{Call, Message, Messages, Packet, Reply};
 use quorum::is_membership;
 use std::alloc::Global;
 
@@ -18,7 +18,7 @@ pub struct OpenWork {
 
 /// What a reply that counts, and tells a later view, comes to.
 #[derive(Drop)]
-pub(crate) enum Turn {
+pub enum Turn {
     /// An operation has counted it, and waits for more.
     Counted,
     /// An operation is to end with this answer.
@@ -34,11 +34,11 @@ impl OpenWork {
     ghost use Rattle.fab_base.specs.declared.identities.BrickId.{BrickId};
     ghost use Rattle.fab_base.specs.Layouts as layouts;
     ghost use Rattle.messages.specs.declared.calls.Call.{Call};
-    ghost use Rattle.messages.specs.declared.packets.Message.TheVariants as message;
+    ghost use Rattle.messages.specs.declared.packets.Message.TheVariants as told;
     ghost use Rattle.messages.specs.declared.replies.Reply.{Reply};
     ghost use Rattle.quorum.specs.Quorums.{IsWithinLimits};
     ghost use Rattle.stripe_code.specs.Codes.{coding};
-    ghost use Rattle.protocol.specs.Nodes.{proposal_refusal_in, proposed_in, replied_at, ticked, with_round};
+    ghost use Rattle.protocol.specs.Nodes.{proposal_refusal_in, proposed_in, known_after, replied_at, ticked, with_known, with_round};
     ghost use Rattle.coord_phase.specs.Messages.{packets_from};
     ghost use Rattle.node.specs.declared.open_work.OpenWork.{OpenWork};
     ghost use Rattle.node.specs.States.{KeptParts, state_in, fresh_node, IsWorkOf, IsSameWork, StepsAs};
@@ -125,7 +125,7 @@ impl OpenWork {
         call: Call,
         reply: &Reply,
     ) -> Result<Outs, NoMem>
-        requires reply { packet.now.message ≡ message.Reply call reply.now }
+        requires reply { packet.now.message ≡ told.Reply call reply.now }
         requires of { IsWorkOf layout.now self.old }
         ensures step { (kept : KeptParts) → IfOk result (StepsAs self.old.calls.me (state_in kept self.new)
             (replied_at (coding layout.now) self.old.calls.me now packet.now.from (with_round (state_in kept self.old) reply.now) call reply.now
@@ -145,6 +145,19 @@ impl OpenWork {
         self.calls.heard(reply);
         self.proposals.heard(&packet.message);
         Ok(self.proposals.go_on(heard))
+    }
+
+    /// Takes note of the time and the round of a ballot that a reply makes known.
+    pub(crate) fn heard(&mut self, message: &Message, reply: &Reply)
+        requires reply { (call : Call) × (message.now ≡ told.Reply call reply.now) }
+        ensures state { (kept : KeptParts) → state_in kept self.new
+            ≡ with_known (with_round (state_in kept self.old) reply.now) (known_after self.old.calls.stamps.known reply.now) }
+        ensures operations { self.new.calls.operations ≡ self.old.calls.operations }
+        ensures seq { self.new.calls.seq ≡ self.old.calls.seq }
+        ensures same { (layout : layouts.Layout) → IsSameWork layout self.old self.new }
+    {
+        self.calls.heard(reply);
+        self.proposals.heard(message);
     }
 
     /// Whether a reply counts in the open operation of its call, or, if there is none, in the proposal.
@@ -173,7 +186,7 @@ impl OpenWork {
         reply: &Reply,
         view: ViewNo,
     ) -> Result<Turn, NoMem>
-        requires reply { packet.now.message ≡ message.Reply call reply.now }
+        requires reply { packet.now.message ≡ told.Reply call reply.now }
         requires moved { IsMoved reply.now view }
         requires counts { counts_at self.old call.seq packet.now.from packet.now.message ≡ true }
         requires of { IsWorkOf layout.now self.old }

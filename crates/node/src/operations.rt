@@ -5,7 +5,7 @@ ghost use Rattle.protocol.specs.declared.phases.Counted.{Counted};
 ghost use Rattle.protocol.specs.Coordinators.{mover_of, lowest_mover};
 ghost use Rattle.node.specs.Kinds.{shown_in};
 
-use crate::outs::Outs;
+use crate::outs::{Outs, Tellings};
 use crate::sending::{messages_in, put_collects};
 use crate::teaching::teaching;
 use coord_block::BlockOp;
@@ -67,11 +67,13 @@ pub struct Operation {
 }
 
 impl Operation {
-    ghost use Rattle.std.specs.Prelude.{◌≡◌, ◌≤◌, true, None, IfOk, OnOk, OnErr, [], ◌∷◌, length, vec_len, vec_capacity};
+    ghost use Rattle.std.specs.Prelude.{◌≡◌, ◌≤◌, true, false, Option, None, IfOk, IfSome, OnOk, OnErr, [], ◌∷◌, length, vec_len, vec_capacity};
+    ghost use Rattle.fab_base.specs.declared.stamps.Stamp as machine_stamp;
     ghost use Rattle.quorum.specs.Quorums.{IsWithinLimits};
     ghost use Rattle.fab_base.specs.Layouts.{Layout};
     ghost use Rattle.protocol.specs.Nodes.{has_block, has_length, seen_told};
-    ghost use Rattle.coord_phase.specs.Operations.{group_in_view, first_op, is_storing, seen_in, stored_in};
+    ghost use Rattle.coord_phase.specs.Operations.{PriorIsWithinLimits, group_in_view, first_op, is_storing, seen_in, stored_in};
+    ghost use Rattle.protocol.specs.Coordinators.{asked_group};
     ghost use Rattle.coord_phase.specs.Decisions as decisions;
     ghost use Rattle.coord_phase.specs.Decisions.{Answers, AsksRecovery, NeverRecovers, IsSend, decided_on, begins_in};
     ghost use Rattle.coord_phase.specs.Messages.{phase_messages};
@@ -81,7 +83,7 @@ impl Operation {
     ghost use Rattle.node.specs.declared.operations.Kind.TheVariants as kind;
     ghost use Rattle.node.specs.Operations.{shown_of, coordinator_of, EndsOrWaits, IsOperationOf};
     ghost use Rattle.node.specs.Teaching.{teaching};
-    ghost use Rattle.node.specs.Decisions.{told_in, or_waits, known_by, SendsPhase, CarriesOut, Collects};
+    ghost use Rattle.node.specs.Decisions.{told_in, or_waits, known_by, SendsPhase, CarriesOut, Collects, NeverEnds};
     ghost use Rattle.node.specs.Sending.{collect_messages};
 
     /// The operation, as the coordinators of all kinds share it.
@@ -103,21 +105,35 @@ impl Operation {
     }
 
     /// The view that it belongs to.
-    fn view(&self) -> View
+    pub(crate) fn view(&self) -> View
         ensures { result ≡ view_in (coordinator_of self.now) }
     {
         View {
-            number: self.call().view,
+            number: self.stamp_view(),
             members: self.group().members().copy(),
             prior: self.prior.copy(),
         }
     }
 
-    /// The group whose members the present phase asks.
+    /// The group, as the members of the operation's view keep it.
     pub fn group(&self) -> &Group
         ensures { result.now ≡ (coordinator_of self.now).group }
     {
-        self.shown().asked()
+        self.shown().group()
+    }
+
+    /// The view that a new round's stamp is of.
+    pub(crate) fn stamp_view(&self) -> ViewNo
+        ensures { result ≡ (coordinator_of self.now).stamp.view }
+    {
+        self.shown().stage().stamp.view
+    }
+
+    /// The time of its stamp.
+    pub(crate) fn time(&self) -> u64
+        ensures { result ≡ (coordinator_of self.now).stamp.time }
+    {
+        self.shown().stage().stamp.time
     }
 
     /// Begins an operation on a stripe of a group, or on a block of it, in this view.
@@ -130,6 +146,8 @@ impl Operation {
         stamp: Stamp,
     ) -> Result<(Operation, Next), NoMem>
         requires limits { IsWithinLimits (group_in_view layout.now view.members ask.group.0).m (length view.members) }
+        requires prior { PriorIsWithinLimits (group_in_view layout.now view.members ask.group.0).m view.number view.prior }
+        requires view { stamp.view ≡ view.number }
         requires block { has_block (group_in_view layout.now view.members ask.group.0).m ask.op ≡ true }
         requires fits { has_length (group_in_view layout.now view.members ask.group.0).m layout.now.block ask.op ≡ true }
         ensures operation { IfOk result (λ begun. shown_of begun.0 ≡ first_op layout.now view call ask stamp) }
@@ -161,6 +179,8 @@ impl Operation {
         stamp: Stamp,
     ) -> Result<(Operation, Messages), NoMem>
         requires limits { IsWithinLimits (group_in_view layout.now view.members ask.now.group.0).m (length view.members) }
+        requires prior { PriorIsWithinLimits (group_in_view layout.now view.members ask.now.group.0).m view.number view.prior }
+        requires view { stamp.view ≡ view.number }
         requires block { has_block (group_in_view layout.now view.members ask.now.group.0).m ask.now.op ≡ true }
         requires fits { has_length (group_in_view layout.now view.members ask.now.group.0).m layout.now.block ask.now.op ≡ true }
         ensures operation { IfOk result (λ begun. shown_of begun.0 ≡ first_op layout.now view call ask.now stamp) }
@@ -168,18 +188,18 @@ impl Operation {
         ensures few { IfOk result (λ begun. vec_len begun.1 ≤ 32) }
     {
         let (op, next) = Operation::start(alloc, layout, view, call, ask.copy(alloc)?, stamp)?;
-        // There is a message for each member, and these are few.
-        let _ = op.group().policy();
+        // There is a message for each member that is asked, and these are few.
+        let _ = op.asked_count();
         Ok((op, messages_in(alloc, next)))
     }
 
-    /// The messages of the present phase again, to each member of the group without a reply that counts.
+    /// The messages of the present phase again, to each member that is asked without a reply that counts.
     fn messages(&self, alloc: Global) -> Result<Messages, NoMem>
         ensures messages { IfOk result (λ messages. messages.items ≡ phase_messages (shown_of self.now)) }
         ensures few { IfOk result (λ messages. vec_len messages ≤ 32) }
     {
-        // There is at most a message for each member, and these are few.
-        let _ = self.member_count();
+        // There is at most a message for each member that is asked, and these are few.
+        let _ = self.asked_count();
         self.shown().messages(alloc)
     }
 
@@ -205,12 +225,20 @@ impl Operation {
         }
     }
 
-    /// How many members are asked, at most 32.
+    /// How many members the operation's view has, at most 32.
     fn member_count(&self) -> usize
         ensures value { result ≡ length (coordinator_of self.now).group.members }
         ensures few { result ≤ 32 }
     {
         self.group().policy().n() as usize
+    }
+
+    /// How many members the present phase asks, at most 32.
+    fn asked_count(&self) -> usize
+        ensures value { result ≡ length (asked_group (coordinator_of self.now)).members }
+        ensures few { result ≤ 32 }
+    {
+        self.shown().asked().policy().n() as usize
     }
 
     /// Room for the messages that let all members collect. Only an operation that has members keep its version may end with such messages.
@@ -226,14 +254,15 @@ impl Operation {
         Ok(Vec::with_capacity(alloc, most)?)
     }
 
-    /// Takes a message in place, and may ask that its stripe be recovered. A new round of ordering would have the fresh stamp; there is
-    /// none where no later time is left.
+    /// Takes a message in place, and may ask that its stripe be recovered. A new round of ordering would have the fresh stamp, which is of the operation's
+    /// view; there is none where no later time is left.
     fn hear(
         &mut self,
         from: BrickId,
         message: &Message,
         fresh: Option<Stamp>,
     ) -> Result<Next, NoMem>
+        requires fresh { IfSome fresh (λ stamp. stamp.view ≡ (coordinator_of self.old).stamp.view) }
         ensures answers { IfOk result (λ next. Answers fresh (shown_of self.old) from message.now next (shown_of self.new)) }
         ensures recovery { IfOk result (λ next. AsksRecovery true (shown_of self.old).block next (shown_of self.old).state
             (without_last (shown_of self.new).state)) }
@@ -266,6 +295,7 @@ impl Operation {
         message: &Message,
         fresh: Option<Stamp>,
     ) -> Result<Next, NoMem>
+        requires fresh { IfSome fresh (λ stamp. stamp.view ≡ (coordinator_of self.old).stamp.view) }
         ensures answers { IfOk result (λ next. Answers fresh (shown_of self.old) from message.now next (shown_of self.new)) }
         ensures never { IfOk result NeverRecovers }
         ensures same { OnErr result (coordinator_of self.new ≡ coordinator_of self.old) }
@@ -310,11 +340,11 @@ impl Operation {
         match op.news() {
             News::Made => Outs {
                 messages,
-                told: Some(Told::Made {
+                told: Tellings::of_version(Some(Told::Made {
                     seq: call.seq,
                     stamp,
                     base: op.base(),
-                }),
+                })),
                 answer: None,
                 report: None,
             },
@@ -344,7 +374,7 @@ impl Operation {
         };
         Outs {
             messages: put_collects(room, self.group(), call, self.shown().made()),
-            told,
+            told: Tellings::of_version(told),
             answer: Some(Answered { seq, answer }),
             report: None,
         }
@@ -364,10 +394,12 @@ impl Operation {
         fresh: Option<Stamp>,
         stamps: &mut StampSource,
     ) -> Result<Outs, NoMem>
+        requires fresh { IfSome fresh (λ stamp. stamp.view ≡ (coordinator_of self.old).stamp.view) }
         ensures step { IfOk result (λ outs. (layout : Layout) → IsOperationOf layout self.old → CarriesOut layout self.old self.new stamps.old.known
             stamps.new.known (or_waits (coordinator_of self.old) (decided_on fresh (shown_of self.old) from message.now)) outs) }
         ensures few { IfOk result (λ outs. length outs.messages ≤ 32) }
         ensures boot { stamps.new.boot ≡ stamps.old.boot }
+        ensures group { OnOk result ((coordinator_of self.new).group ≡ (coordinator_of self.old).group) }
         ensures same { OnErr result (coordinator_of self.new ≡ coordinator_of self.old) }
         ensures block { OnErr result ((shown_of self.new).block ≡ (shown_of self.old).block) }
     {
@@ -376,10 +408,22 @@ impl Operation {
         let call = self.call();
         match self.take_reply(alloc, from, message, fresh)? {
             Next::Wait => Ok(Outs::nothing(alloc)),
-            Next::Send(messages) => Ok(self.begin_phase(messages, stamps)),
+            Next::Send(messages) => {
+                // There is a message for each member that is asked, and these are few.
+                let _ = self.asked_count();
+                Ok(self.begin_phase(messages, stamps))
+            }
             Next::End(answer) => Ok(self.end(room, call, answer)),
             Next::Recover(_) => unreachable!(),
         }
+    }
+
+    /// Whether a message may end the operation: it counts, and as many replies count then as decide the phase.
+    pub(crate) fn may_end(&self, from: BrickId, message: &Message) -> bool
+        ensures { result ≡ false → (fresh : Option machine_stamp.Stamp) → NeverEnds (decided_on fresh (shown_of self.now) from message.now) }
+    {
+        self.counts(from, message)
+            && self.shown().counted().len() + 1 >= usize::from(self.shown().asked().quorum())
     }
 
     /// Counts a reply on which the operation waits for more.
@@ -405,11 +449,12 @@ impl Operation {
     pub(crate) fn ended_by(&self, from: BrickId, view: ViewNo) -> Option<Answer>
         ensures { EndsOrWaits (coordinator_of self.now) from view result }
     {
-        let Some(seat) = self.group().seat_of(from) else {
+        let asked = self.shown().asked();
+        let Some(seat) = asked.seat_of(from) else {
             return None;
         };
         let counted = self.shown().counted();
-        if counted.len() + 1 < usize::from(self.group().quorum()) {
+        if counted.len() + 1 < usize::from(asked.quorum()) {
             return None;
         }
         let last = Mover {

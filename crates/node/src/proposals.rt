@@ -30,7 +30,7 @@ pub struct Proposals {
 
 /// What a reply comes to for a proposal: what is sent and reported, and what is left of the proposal.
 #[derive(Drop)]
-pub(crate) struct Heard {
+pub struct Heard {
     outs: Outs,
     left: Option<OpenProposal>,
     ghost few: { length outs.messages ≤ 64 },

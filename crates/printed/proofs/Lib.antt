@@ -4,7 +4,7 @@ pub mod OtherLines
 pub mod ReportLines
 pub mod LineTexts
 pub mod Reading
-pub mod OpenProposals
+pub mod OpenWorks
 pub mod PrintedMarks
 pub mod Standing
 pub mod Counts

@@ -16,15 +16,16 @@ use Rattle.protocol.specs.declared.tellings.Report.{Report}
 use Rattle.protocol.specs.declared.tellings.Told.{Told}
 use Rattle.protocol.specs.declared.tellings.Told.TheVariants as told
 use Rattle.protocol.specs.Proposals.{Proposal}
-use Rattle.protocol.specs.Nodes.{Node, NodeStep, put, refusal_of, proposal_refusal, group_at, began, invoked, proposed, stopped, restarted}
-use Rattle.protocol.specs.Worlds.{World, Event, first_world, Found, Invokes, Proposes, Delivers, Sets, Ticks, Stops, Starts, Before, After, number_of, mark_of, is_brick, is_up, may_start, world_began, world_told, world_tells, world_answered, world_answers, reports_of, world_stepped, world_ticked, world_stopped, world_found, world_started, delivered, packet_of, happens, run}
+use Rattle.protocol.specs.Jobs.{Job}
+use Rattle.protocol.specs.Nodes.{Node, NodeStep, put, refusal_of, proposal_refusal, sync_refusal, group_at, began, invoked, proposed, synced_at, stopped, restarted}
+use Rattle.protocol.specs.Worlds.{World, Event, first_world, Found, Invokes, Proposes, Syncs, Delivers, Sets, Ticks, Stops, Starts, Before, After, number_of, mark_of, is_brick, is_up, may_start, world_began, world_told, world_tells, world_answered, world_answers, reports_of, world_stepped, world_ticked, world_stopped, world_found, world_started, delivered, packet_of, happens, run}
 use Rattle.lines.specs.declared.forms.Line.{Line}
-use Rattle.lines.specs.declared.forms.Line.TheVariants.{Nothing, Invoke, Deliver, SetClock, Tick, Crash, Start, Propose, Calm}
+use Rattle.lines.specs.declared.forms.Line.TheVariants.{Nothing, Invoke, Deliver, SetClock, Tick, Crash, Start, Propose, Sync, Calm}
 use Rattle.fab_base.specs.Layouts.{Layout, Group}
 use Rattle.fab_disk.specs.declared.mem_disk.MemDisk.{MemDisk}
 use Rattle.stripe_code.specs.Codes.{coding}
 use Rattle.protocol.specs.Coordinators.{Coordinator}
-use Rattle.protocol.specs.Calms.{RunsAlone, Ended, Stuck, Next, open_call, next_delivery}
+use Rattle.protocol.specs.Calms.{RunsAlone, Ended, Stuck, Next, open_call, next_delivery, operation_marked}
 use Rattle.transcript.specs.Kinds.{is_begin}
 use Rattle.world.specs.Faults.{IsEventsOf}
 use Rattle.world.specs.Runs.{Run, Step, world_of, all_events, brick_of}
@@ -39,7 +40,7 @@ use Rattle.printed.specs.Printed.{Printed, OfMark, OfReport, OfRefusal, OfNothin
 use Rattle.printed.specs.Outputs.{left_by, steps_text}
 use Rattle.printed.specs.LineSteps.{LeadsTo, AreStepsOf}
 use Rattle.printed.proofs.Standing.{up_brick}
-use Rattle.printed.proofs.OpenProposals.{proposals_in, proposals_none, proposals_put, proposals_fewer, proposals_kept, Closes, received_closes, proposed_closes}
+use Rattle.printed.proofs.OpenWorks.{works_in, works_none, works_put, works_fewer, works_kept, Closes, received_closes, proposed_closes, synced_closes}
 
 -- the lines that an outcome prints, with the marks that were made, and what was reported
 abbrev lines_of : Outcome → List Mark → List (BrickId × Report) → List Printed
@@ -203,17 +204,17 @@ behind : {A : Type 0} (first more : List A) → drop (length first) (first ++ mo
 behind [] more = refl
 behind (one ∷ first) more = behind first more
 
--- A world after another, whose new marks and reports are those that are printed. So many of the lines at most are no Ends, beside the reports that close proposals.
+-- A world after another, whose new marks and reports are those that are printed. So many of the lines at most are no Ends, beside the reports that close proposals and synchronisations.
 record IsPrinted (setting : Setting) (w next : World) (outcome : Outcome) (most : ℕ) : Type 0 where
   marks : next.marks ≡ w.marks ++ printed_marks (lines_of outcome (new_marks w next) (new_reports w next))
   reports : next.choices.reports ≡ w.choices.reports ++ printed_reports (lines_of outcome (new_marks w next) (new_reports w next))
-  few : others (lines_of outcome (new_marks w next) (new_reports w next)) + proposals_in setting.layout.bricks next.nodes
-      ≤ most + proposals_in setting.layout.bricks w.nodes
+  few : others (lines_of outcome (new_marks w next) (new_reports w next)) + works_in setting.layout.bricks next.nodes
+      ≤ most + works_in setting.layout.bricks w.nodes
 
 -- marks were made, and something was reported
 printed_more : (setting : Setting) (w next : World) (more : List Mark) (told : List (BrickId × Report)) (most : ℕ) → next.marks ≡ w.marks ++ more
     → next.choices.reports ≡ w.choices.reports ++ told
-    → others (map OfMark more) + length told + proposals_in setting.layout.bricks next.nodes ≤ most + proposals_in setting.layout.bricks w.nodes
+    → others (map OfMark more) + length told + works_in setting.layout.bricks next.nodes ≤ most + works_in setting.layout.bricks w.nodes
     → IsPrinted setting w next Marks most
 printed_more setting w next more told most is reported few =
     let made : new_marks w next ≡ more = ap (λ (l : List Mark). drop (length w.marks) l) is ∙ behind w.marks more in
@@ -231,7 +232,7 @@ printed_more setting w next more told most is reported few =
 
 -- no mark was made, and nothing reported
 printed_none : (setting : Setting) (w next : World) (most : ℕ) → next.marks ≡ w.marks → next.choices.reports ≡ w.choices.reports
-    → proposals_in setting.layout.bricks next.nodes ≤ proposals_in setting.layout.bricks w.nodes → IsPrinted setting w next Marks most
+    → works_in setting.layout.bricks next.nodes ≤ works_in setting.layout.bricks w.nodes → IsPrinted setting w next Marks most
 printed_none setting w next most same silent fewer =
     printed_more setting w next [] [] most (same ∙ sym (append-nil w.marks)) (silent ∙ sym (append-nil w.choices.reports)) (omega (arith, fewer))
 
@@ -254,10 +255,12 @@ done_or_not setting w next true printed = printed refl
 done_or_not setting w next false printed = printed_idle setting w
 
 -- an answer is a mark, and nothing else that a step does is
-told_marks : (setting : Setting) (w : World) (brick : BrickId) (told : List Told) → (world_tells setting w brick told).marks ≡ w.marks
-told_marks setting w brick [] = refl
-told_marks setting w brick (told.Made seq t base ∷ more) = told_marks setting (world_told setting w brick (told.Made seq t base)) brick more
-told_marks setting w brick (told.Seen seq t ∷ more) = told_marks setting (world_told setting w brick (told.Seen seq t)) brick more
+told_marks : (setting : Setting) (nodes : ℕ → Node) (w : World) (brick : BrickId) (told : List Told) → (world_tells setting nodes w brick told).marks ≡ w.marks
+told_marks setting nodes w brick [] = refl
+told_marks setting nodes w brick (told.Made seq t base ∷ more) = told_marks setting nodes (world_told setting nodes w brick (told.Made seq t base)) brick more
+told_marks setting nodes w brick (told.Seen seq t ∷ more) = told_marks setting nodes (world_told setting nodes w brick (told.Seen seq t)) brick more
+told_marks setting nodes w brick (told.Began call ∷ more) = told_marks setting nodes (world_told setting nodes w brick (told.Began call)) brick more
+told_marks setting nodes w brick (told.Closed seq cause ∷ more) = told_marks setting nodes (world_told setting nodes w brick (told.Closed seq cause)) brick more
 
 -- answers are Ends
 answer_marks : (w : World) (brick : BrickId) (answers : List Answered)
@@ -272,12 +275,12 @@ answer_marks w brick (one ∷ answers) =
 stepped_printed : (setting : Setting) (w : World) (brick : BrickId) (step : NodeStep) (most : ℕ) → is_up setting.layout w brick ≡ true
     → Closes (w.nodes brick.0) step most → IsPrinted setting w (world_stepped setting w brick step) Marks most
 stepped_printed setting w brick step most up closes =
-    let more = answer_marks (world_tells setting w brick step.told) brick step.answers in
-    let changed = proposals_put setting.layout.bricks brick.0 w.nodes step.node (up_brick setting.layout w brick up) in
+    let more = answer_marks (world_tells setting (put w.nodes brick.0 step.node) w brick step.told) brick step.answers in
+    let changed = works_put setting.layout.bricks brick.0 w.nodes step.node (up_brick setting.layout w brick up) in
     let many : length (reports_of brick step.reports) ≡ length step.reports = length-map step.reports (λ (report : Report). (brick, report)) in
     let none = more.2 in
     printed_more setting w (world_stepped setting w brick step) more.0 (reports_of brick step.reports) most
-    (more.1 ∙ ap (λ (l : List Mark). l ++ more.0) (told_marks setting w brick step.told)) refl
+    (more.1 ∙ ap (λ (l : List Mark). l ++ more.0) (told_marks setting (put w.nodes brick.0 step.node) w brick step.told)) refl
     (omega (arith, none, many, changed, closes))
 
 -- no other line is at most one
@@ -302,14 +305,14 @@ delivered_printed setting w number (Some packet) =
     done_or_not setting w next (is_up setting.layout w packet.to)
     (λ up. printed_fewer setting w next Marks (handled_printed setting w number packet up))
 
--- an operation or a proposal begins exactly where no refusal is printed
+-- an operation, a proposal or a synchronisation begins exactly where no refusal is printed
 begun_printed : (setting : Setting) (w next : World) (up : Bool) (refusal : Option Refusal) → (up ≡ true → IsPrinted setting w next Marks 1)
     → IsPrinted setting w (if up && not (is_some refusal) then next else w) (refused_or_begun (if up then refusal else Some Down)) 1
 begun_printed setting w next false refusal printed = printed_refused setting w Down
 begun_printed setting w next true None printed = printed refl
 begun_printed setting w next true (Some refusal) printed = printed_refused setting w refusal
 
--- a brick that begins an operation keeps its proposal
+-- a brick that begins an operation keeps its proposal and its synchronisation
 invoked_keeps : (setting : Setting) (me : BrickId) (now : ℕ) (node : Node) (ask : Ask) → (invoked setting me now node ask).node.proposal ≡ node.proposal
 unfolding invoked
 invoked_keeps setting me now node ask = by (group_at setting.layout node ask.group.0)
@@ -318,14 +321,22 @@ invoked_keeps setting me now node ask = by (group_at setting.layout node ask.gro
     by None = refl
     by (Some group) = refl
 
--- one that stops or starts has none
-stopped_has_none : (node : Node) → is_some (stopped node).proposal ≡ false
-unfolding stopped
-stopped_has_none node = refl
+invoked_keeps_job : (setting : Setting) (me : BrickId) (now : ℕ) (node : Node) (ask : Ask) → (invoked setting me now node ask).node.job ≡ node.job
+unfolding invoked
+invoked_keeps_job setting me now node ask = by (group_at setting.layout node ask.group.0)
+  where
+    by : (z : Option Group) → (began setting me now node ask z).node.job ≡ node.job
+    by None = refl
+    by (Some group) = refl
 
-restarted_has_none : (openings : ℕ) (node : Node) → is_some (restarted openings node).proposal ≡ false
+-- one that stops or starts has none
+stopped_has_none : (node : Node) → (is_some (stopped node).proposal ≡ false) × (is_some (stopped node).job ≡ false)
+unfolding stopped
+stopped_has_none node = (refl, refl)
+
+restarted_has_none : (openings : ℕ) (node : Node) → (is_some (restarted openings node).proposal ≡ false) × (is_some (restarted openings node).job ≡ false)
 unfolding restarted
-restarted_has_none openings node = refl
+restarted_has_none openings node = (refl, refl)
 
 -- which is not to have one
 not_both : {A : Type 0} (b : Bool) → b ≡ false → b ≡ true → A
@@ -336,16 +347,20 @@ started_printed : (setting : Setting) (w : World) (brick : BrickId) (openings : 
     → IsPrinted setting w (world_started (world_found w brick found) brick openings) Marks 1
 started_printed setting w brick openings Before =
     printed_none setting w (world_started w brick openings) 1 refl refl
-    (proposals_kept setting.layout.bricks brick.0 w.nodes (restarted openings (w.nodes brick.0))
-    (not_both _ (restarted_has_none openings (w.nodes brick.0))))
+    (works_kept setting.layout.bricks brick.0 w.nodes (restarted openings (w.nodes brick.0))
+    (not_both _ (restarted_has_none openings (w.nodes brick.0)).0) (not_both _ (restarted_has_none openings (w.nodes brick.0)).1))
 started_printed setting w brick openings After =
     let found : World = world_found w brick After in
     let node : Node = restarted openings (found.nodes brick.0) in
     printed_none setting w (world_started found brick openings) 1 refl (append-nil w.choices.reports)
-    (proposals_fewer setting.layout.bricks w.nodes (put found.nodes brick.0 node)
+    (works_fewer setting.layout.bricks w.nodes (put found.nodes brick.0 node)
     (put_each (λ j z. is_some z.proposal ≡ true → is_some (w.nodes j).proposal ≡ true) found.nodes brick.0 node
-    (not_both _ (restarted_has_none openings (found.nodes brick.0)))
+    (not_both _ (restarted_has_none openings (found.nodes brick.0)).0)
     (λ j other. put_each (λ k z. k ≢ brick.0 → is_some z.proposal ≡ true → is_some (w.nodes k).proposal ≡ true) w.nodes brick.0 (w.after brick.0)
+    (λ apart. absurd (apart refl)) (λ k away apart is. is) j other))
+    (put_each (λ j z. is_some z.job ≡ true → is_some (w.nodes j).job ≡ true) found.nodes brick.0 node
+    (not_both _ (restarted_has_none openings (found.nodes brick.0)).1)
+    (λ j other. put_each (λ k z. k ≢ brick.0 → is_some z.job ≡ true → is_some (w.nodes k).job ≡ true) w.nodes brick.0 (w.after brick.0)
     (λ apart. absurd (apart refl)) (λ k away apart is. is) j other)))
 
 -- the marks and the reports that an event makes are those that it prints
@@ -353,8 +368,9 @@ event_printed : (setting : Setting) (w : World) (event : Event) → IsPrinted se
 unfolding happens
 event_printed setting w (Invokes brick ask) =
     let step : NodeStep = invoked setting brick (w.clocks brick.0) (w.nodes brick.0) ask in
-    let fewer = proposals_kept setting.layout.bricks brick.0 w.nodes step.node
-    (λ is. subst (λ (z : Option Proposal). is_some z ≡ true) (invoked_keeps setting brick (w.clocks brick.0) (w.nodes brick.0) ask) is) in
+    let fewer = works_kept setting.layout.bricks brick.0 w.nodes step.node
+    (λ is. subst (λ (z : Option Proposal). is_some z ≡ true) (invoked_keeps setting brick (w.clocks brick.0) (w.nodes brick.0) ask) is)
+    (λ is. subst (λ (z : Option Job). is_some z ≡ true) (invoked_keeps_job setting brick (w.clocks brick.0) (w.nodes brick.0) ask) is) in
     begun_printed setting w (world_began w brick ask step) (is_up setting.layout w brick) (refusal_of setting.layout (w.nodes brick.0) ask)
     (λ up. printed_more setting w (world_began w brick ask step) (mark.Begin (length w.marks) (w.marked + 1) brick ask ∷ []) [] 1 refl
     (sym (append-nil w.choices.reports)) (omega (arith, fewer)))
@@ -363,6 +379,11 @@ event_printed setting w (Proposes brick group members) =
     begun_printed setting w (world_stepped setting w brick step) (is_up setting.layout w brick)
     (proposal_refusal setting.layout (w.nodes brick.0) group.0)
     (λ up. stepped_printed setting w brick step 1 up (proposed_closes setting brick (w.nodes brick.0) group members))
+event_printed setting w (Syncs brick group) =
+    let step : NodeStep = synced_at setting brick (w.clocks brick.0) (w.nodes brick.0) group in
+    begun_printed setting w (world_stepped setting w brick step) (is_up setting.layout w brick)
+    (sync_refusal setting.layout (w.nodes brick.0) group.0)
+    (λ up. stepped_printed setting w brick step 1 up (synced_closes setting brick (w.clocks brick.0) (w.nodes brick.0) group))
 event_printed setting w (Delivers number) = delivered_printed setting w number (packet_of w.packets number)
 event_printed setting w (Sets brick time) =
     done_or_not setting w (record w { clocks = put w.clocks brick.0 time }) (is_brick setting.layout brick)
@@ -371,7 +392,8 @@ event_printed setting w (Ticks brick) =
     done_or_not setting w (world_ticked setting w brick) (is_up setting.layout w brick)
     (λ is. printed_none setting w (world_ticked setting w brick) 1 refl refl (omega arith))
 event_printed setting w (Stops brick during) =
-    let fewer = proposals_kept setting.layout.bricks brick.0 w.nodes (stopped (w.nodes brick.0)) (not_both _ (stopped_has_none (w.nodes brick.0))) in
+    let fewer = works_kept setting.layout.bricks brick.0 w.nodes (stopped (w.nodes brick.0)) (not_both _ (stopped_has_none (w.nodes brick.0)).0)
+    (not_both _ (stopped_has_none (w.nodes brick.0)).1) in
     done_or_not setting w (world_stopped setting w brick during) (is_up setting.layout w brick)
     (λ is. printed_more setting w (world_stopped setting w brick during) (mark.Crash (length w.marks) brick ∷ []) [] 1 refl
     (sym (append-nil w.choices.reports)) (omega (arith, fewer)))
@@ -380,13 +402,13 @@ event_printed setting w (Starts brick openings found) =
     (λ is. started_printed setting w brick openings found)
 
 -- A text is that of printed lines, and the marks and reports among them are those that a world has after another. So many of the lines at most are no Ends, beside
--- the reports that close proposals.
+-- the reports that close proposals and synchronisations.
 pub record IsPrintedAs (setting : Setting) (w next : World) (text : List ℕ) (most : ℕ) : Type 0 where
   pub printed : List Printed
   pub text_is : text ≡ printed_texts printed
   pub marks_are : next.marks ≡ w.marks ++ printed_marks printed
   pub reports_are : next.choices.reports ≡ w.choices.reports ++ printed_reports printed
-  pub few : others printed + proposals_in setting.layout.bricks next.nodes ≤ most + proposals_in setting.layout.bricks w.nodes
+  pub few : others printed + works_in setting.layout.bricks next.nodes ≤ most + works_in setting.layout.bricks w.nodes
 
 -- nothing
 nothing_printed : (setting : Setting) (w : World) (most : ℕ) → IsPrintedAs setting w w [] most
@@ -429,7 +451,7 @@ most_printed setting w next text most more le printed = record {
 pub lines_few : (layout : Layout) (next : World) (text : List ℕ) (most : ℕ)
     → (printed : IsPrintedAs (coding layout) (first_world layout) next text most) → others printed.printed ≤ most
 lines_few layout next text most printed =
-    let none : proposals_in (coding layout).layout.bricks (first_world layout).nodes ≡ 0 = proposals_none (coding layout).layout.bricks layout in
+    let none : works_in (coding layout).layout.bricks (first_world layout).nodes ≡ 0 = works_none (coding layout).layout.bricks layout in
     let few = printed.few in
     omega (arith, none, few)
 
@@ -547,10 +569,11 @@ of_one setting w line event events are =
     subst (λ (l : List Event). IsPrintedAs setting w (run setting l w) (line_text setting w line l) 1) (sym are) (one_printed setting w line event)
 
 -- so its line prints one other line at most
-calm_printed : (setting : Setting) (n : ℕ) (numbers : List ℕ) (w last : World) (events : List Event)
-    → RunsAlone setting n (map brick_of numbers) w events last → IsPrintedAs setting w (run setting events w) (line_text setting w (Calm n numbers) events) 1
-calm_printed setting n numbers w last [] runs = idle_printed setting n numbers w
-calm_printed setting n numbers w last (event ∷ events) runs =
+calm_printed : (setting : Setting) (mark n : ℕ) (numbers : List ℕ) (w last : World) (events : List Event)
+    → RunsAlone setting n (map brick_of numbers) w events last
+    → IsPrintedAs setting w (run setting events w) (line_text setting w (Calm mark numbers) events) 1
+calm_printed setting mark n numbers w last [] runs = idle_printed setting mark numbers w
+calm_printed setting mark n numbers w last (event ∷ events) runs =
     most_printed setting w (run setting (event ∷ events) w) (text_of setting w (event ∷ events)) 0 1 (omega arith)
     (alone_printed setting n (map brick_of numbers) w last (event ∷ events) runs)
 
@@ -568,8 +591,9 @@ line_printed layout w old new (Start b fault) events (inl down) = of_one (coding
 line_printed layout w old new (Start b fault) events (inr (inl started)) = of_one (coding layout) w (Start b fault) _ events started.events_are
 line_printed layout w old new (Start b fault) events (inr (inr none)) = of_one (coding layout) w (Start b fault) _ events none.events_are
 line_printed layout w old new (Propose b g members) events are = of_one (coding layout) w (Propose b g members) _ events are
+line_printed layout w old new (Sync b g) events are = of_one (coding layout) w (Sync b g) _ events are
 line_printed layout w old new (Calm n numbers) events (inl calm) =
-    calm_printed (coding layout) n numbers w (run (coding layout) events w) events calm.runs
+    calm_printed (coding layout) n (operation_marked w n) numbers w (run (coding layout) events w) events calm.runs
 line_printed layout w old new (Calm n numbers) events (inr none) =
     of_none (coding layout) w (Calm n numbers) events none.1 (idle_printed (coding layout) n numbers w)
 

@@ -5,7 +5,7 @@ use Rattle.std.proofs.lemmas.Bool.{cond_both, eqb-true, and_parts}
 use Rattle.messages.specs.declared.calls.Call.{Call}
 use Rattle.messages.specs.declared.replies.Reply.{Reply}
 use Rattle.fab_base.specs.Layouts.{seat_in}
-use Rattle.protocol.specs.Coordinators.{Coordinator, Counted, call_same, answers_phase, has_seat, new_seat, answering_seat, counts_at}
+use Rattle.protocol.specs.Coordinators.{Coordinator, Counted, call_same, answers_phase, has_seat, new_seat, asked_group, answering_seat, counts_at}
 
 -- calls that test the same are equal
 call_of : ℕ → ℕ → ℕ → ℕ → ℕ → ℕ → Call
@@ -38,7 +38,7 @@ call_same_true a b is =
 pub record CountsAt (block : ℕ) (c : Coordinator) (from : ℕ) (call : Call) (reply : Reply) (seat : ℕ) : Type 0 where
   pub call_is : call ≡ c.call
   pub answers : answers_phase block c.stamp seat c.phase reply ≡ true
-  pub seat_is : seat_in c.group.members from ≡ Some seat
+  pub seat_is : seat_in (asked_group c).members from ≡ Some seat
   pub first : has_seat seat c.counted ≡ false
 
 new_seat_is : (counted : List Counted) (o : Option ℕ) (seat : ℕ) → new_seat counted o ≡ Some seat → (o ≡ Some seat) × (has_seat seat counted ≡ false)
@@ -66,12 +66,12 @@ pub counts_facts : (block : ℕ) (c : Coordinator) (from : ℕ) (call : Call) (r
 unfolding counts_at
 counts_facts block c from call reply seat is =
     cond_both (call_same call c.call && nat_lt c.call.phase (2 ^ 32 - 1))
-    (new_seat c.counted (answering_seat block c reply (seat_in c.group.members from))) None
+    (new_seat c.counted (answering_seat block c reply (seat_in (asked_group c).members from))) None
     (λ (z : Option ℕ). z ≡ Some seat → CountsAt block c from call reply seat)
     (λ test e.
     let p = and_parts (call_same call c.call) (nat_lt c.call.phase (2 ^ 32 - 1)) test in
-    let n = new_seat_is c.counted (answering_seat block c reply (seat_in c.group.members from)) seat e in
-    let a = answering_seat_is block c reply (seat_in c.group.members from) seat n.0 in
+    let n = new_seat_is c.counted (answering_seat block c reply (seat_in (asked_group c).members from)) seat e in
+    let a = answering_seat_is block c reply (seat_in (asked_group c).members from) seat n.0 in
     record { call_is = call_same_true call c.call p.0; answers = a.1; seat_is = a.0; first = n.1 })
     (λ test e. cc)
     is

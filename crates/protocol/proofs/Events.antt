@@ -1,18 +1,20 @@
--- What an event makes of a world: nothing, or one of seven things. So a fact holds in every world of a run where it holds at first, and each of
+-- What an event makes of a world: nothing, or one of eight things. So a fact holds in every world of a run where it holds at first, and each of
 -- these keeps it.
 use Rattle.std.proofs.Common.{◌≡◌, ℕ, true, List, [], ◌∷◌, ◌++◌, Option, Some, None, refl, ap, subst, Bool}
 use Rattle.std.proofs.lemmas.Bool.{cond_both}
 use Rattle.fab_base.specs.declared.identities.BrickId.{BrickId}
 use Rattle.fab_base.specs.declared.identities.GroupId.{GroupId}
 use Rattle.fab_base.specs.declared.asks.Ask.{Ask}
+use Rattle.fab_base.specs.declared.answers.Cause.{Cause}
 use Rattle.fab_base.specs.declared.stamps.Stamp.{Stamp}
+use Rattle.messages.specs.declared.calls.Call.{Call}
 use Rattle.messages.specs.declared.packets.Packet.{Packet}
 use Rattle.protocol.specs.Settings.{Setting}
 use Rattle.protocol.specs.declared.tellings.Told.{Told}
-use Rattle.protocol.specs.declared.tellings.Told.TheVariants.{Made, Seen}
+use Rattle.protocol.specs.declared.tellings.Told.TheVariants.{Made, Seen, Began, Closed}
 use Rattle.protocol.specs.declared.tellings.Answered.{Answered}
-use Rattle.protocol.specs.Nodes.{Node, NodeStep, put, invoked, proposed, received}
-use Rattle.protocol.specs.Worlds.{World, Choices, Found, Before, After, Event, Invokes, Proposes, Delivers, Sets, Ticks, Stops, Starts, first_world, is_brick, is_up, may_begin, may_propose, may_start, replies_with, voiced, delivered, packet_of, world_began, world_told, world_tells, world_answered, world_answers, world_stepped, world_ticked, world_stopped, world_found, world_started, happens, run}
+use Rattle.protocol.specs.Nodes.{Node, NodeStep, put, invoked, proposed, synced_at, received}
+use Rattle.protocol.specs.Worlds.{World, Choices, Found, Before, After, Event, Invokes, Proposes, Syncs, Delivers, Sets, Ticks, Stops, Starts, first_world, is_brick, is_up, may_begin, may_propose, may_sync, may_start, replies_with, voiced, delivered, packet_of, world_began, world_told, world_tells, world_answered, world_answers, world_stepped, world_ticked, world_stopped, world_found, world_started, happens, run}
 
 -- a brick's step on a packet
 abbrev pub step_on : Setting → World → Packet → NodeStep
@@ -32,6 +34,8 @@ pub record EachEvent (setting : Setting) (w : World) (P : Event → World → Ty
       → P (Invokes brick ask) (world_began w brick ask (invoked setting brick (w.clocks brick.0) (w.nodes brick.0) ask))
   pub proposes : (brick : BrickId) (group : GroupId) (members : List BrickId) → may_propose setting w brick group ≡ true
       → P (Proposes brick group members) (world_stepped setting w brick (proposed setting brick (w.nodes brick.0) group members))
+  pub syncs : (brick : BrickId) (group : GroupId) → may_sync setting w brick group ≡ true
+      → P (Syncs brick group) (world_stepped setting w brick (synced_at setting brick (w.clocks brick.0) (w.nodes brick.0) group))
   pub handles : (number : ℕ) (packet : Packet) → packet_of w.packets number ≡ Some packet → is_up setting.layout w packet.to ≡ true
       → P (Delivers number) (world_handled setting w number packet)
   pub sets : (brick : BrickId) (time : ℕ) → is_brick setting.layout brick ≡ true
@@ -67,6 +71,8 @@ event_each P setting w cases still (Invokes brick ask) =
 event_each P setting w cases still (Proposes brick group members) =
     cond_both (may_propose setting w brick group) _ _ (P (Proposes brick group members)) (cases.proposes brick group members)
     (λ isnt. still (Proposes brick group members))
+event_each P setting w cases still (Syncs brick group) =
+    cond_both (may_sync setting w brick group) _ _ (P (Syncs brick group)) (cases.syncs brick group) (λ isnt. still (Syncs brick group))
 event_each P setting w cases still (Delivers number) =
     handled_or_not (P (Delivers number)) setting w (still (Delivers number)) number (cases.handles number)
 event_each P setting w cases still (Sets brick time) =
@@ -127,19 +133,26 @@ onward P setting all events more = subst P (run-append setting (first_world sett
 
 -- A brick's step keeps a fact that is not of bricks, of what they have held, of choices or of packets, where what it tells and what it answers do.
 pub stepped_each : (P : World → Type 0) (setting : Setting) (me : BrickId) (step : NodeStep)
-    → (made : (x : World) (seq : ℕ) (t : Stamp) (base : Option Stamp) → P x → P (world_told setting x me (Made seq t base)))
-    → (seen : (x : World) (seq : ℕ) (v : Stamp) → P x → P (world_told setting x me (Seen seq v)))
+    → (made : (x : World) (seq : ℕ) (t : Stamp) (base : Option Stamp) → P x → P (world_told setting x.nodes x me (Made seq t base)))
+    → (seen : (x : World) (seq : ℕ) (v : Stamp) → P x → P (world_told setting x.nodes x me (Seen seq v)))
+    → (began : (x : World) (nodes : ℕ → Node) (call : Call) → P x → P (world_told setting nodes x me (Began call)))
+    → (closed : (x : World) (seq : ℕ) (cause : Option Cause) → P x → P (world_told setting x.nodes x me (Closed seq cause)))
     → (answers : (x : World) (answered : Answered) → P x → P (world_answered x me answered))
     → (keeps : (x : World) (nodes : ℕ → Node) (held : ℕ → ℕ → ℕ → Stamp → Bool) (packets : List Packet) (choices : Choices) → P x
     → P (record x { nodes = nodes; held = held; packets = packets; choices = choices }))
     → (w : World) → P w → P (world_stepped setting w me step)
-stepped_each P setting me step made seen answers keeps w holds =
-    keeps (world_answers (world_tells setting w me step.told) me step.answers) _ _ _ _ (answer step.answers _ (tell step.told w holds))
+stepped_each P setting me step made seen began closed answers keeps w holds =
+    keeps (world_answers (world_tells setting nodes w me step.told) me step.answers) _ _ _ _ (answer step.answers _ (tell step.told w holds))
   where
-    tell : (told : List Told) (x : World) → P x → P (world_tells setting x me told)
+    nodes : ℕ → Node
+    nodes = put w.nodes me.0 step.node
+
+    tell : (told : List Told) (x : World) → P x → P (world_tells setting nodes x me told)
     tell [] x now = now
-    tell (Made seq t base ∷ more) x now = tell more (world_told setting x me (Made seq t base)) (made x seq t base now)
-    tell (Seen seq v ∷ more) x now = tell more (world_told setting x me (Seen seq v)) (seen x seq v now)
+    tell (Made seq t base ∷ more) x now = tell more (world_told setting nodes x me (Made seq t base)) (made x seq t base now)
+    tell (Seen seq v ∷ more) x now = tell more (world_told setting nodes x me (Seen seq v)) (seen x seq v now)
+    tell (Began call ∷ more) x now = tell more (world_told setting nodes x me (Began call)) (began x nodes call now)
+    tell (Closed seq cause ∷ more) x now = tell more (world_told setting nodes x me (Closed seq cause)) (closed x seq cause now)
 
     answer : (list : List Answered) (x : World) → P x → P (world_answers x me list)
     answer [] x now = now

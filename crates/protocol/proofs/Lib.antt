@@ -6,4 +6,6 @@ pub mod Packets
 pub mod Puts
 pub mod RunExample
 pub mod Served
+pub mod SyncExample
+pub mod SyncRun
 pub mod Tables

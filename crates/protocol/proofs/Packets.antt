@@ -15,7 +15,7 @@ use Rattle.messages.specs.declared.requests.Request.{Request}
 use Rattle.messages.specs.declared.replies.Reply.{Reply}
 use Rattle.protocol.specs.Settings.{Setting}
 use Rattle.protocol.specs.declared.phases.Counted.{Counted}
-use Rattle.protocol.specs.Coordinators.{Coordinator, has_seat, request_of}
+use Rattle.protocol.specs.Coordinators.{Coordinator, asked_group, has_seat, request_of}
 use Rattle.protocol.specs.Nodes.{to_members, collect_packets, reply_packets, resent_to, resent, resent_up_to, each_taught, teaching, view_in, ballot_resent, learn_packets}
 use Rattle.protocol.specs.Proposals.{Proposal, ballot_request, ballot_packets}
 
@@ -95,7 +95,7 @@ module _ (P : Packet → Type 0) where
   -- of the requests of all open operations again, and of what teaches their views
   pub each_ticked : (setting : Setting) (me : BrickId) (calls : ℕ → Option Coordinator) (k : ℕ)
       → ((j : ℕ) (c : Coordinator) → calls j ≡ Some c → OfRequests me c.call (request_of setting.code c))
-      → ((j : ℕ) (c : Coordinator) → calls j ≡ Some c → 1 < c.call.view.0
+      → ((j : ℕ) (c : Coordinator) → calls j ≡ Some c → 1 < c.stamp.view.0
       → (from to : BrickId) → P (record { from = from; to = to; message = Message.Learn c.call.group (view_in c) }))
       → OfEach P (resent_up_to setting me calls k)
   each_ticked setting me calls zero holds teaches = each_none
@@ -107,7 +107,7 @@ module _ (P : Packet → Type 0) where
       of_call None is = each_none
       of_call (Some c) is =
           each_teaching c.call.group (view_in c) (teaches (suc k) c is) _
-          (each_resent me c.call (request_of setting.code c) (holds (suc k) c is) c.counted 0 c.group.members)
+          (each_resent me c.call (request_of setting.code c) (holds (suc k) c is) c.counted 0 (asked_group c).members)
 
   -- of the requests of a proposal, and of what teaches its view again
   pub each_ballot : (me : BrickId) (p : Proposal)

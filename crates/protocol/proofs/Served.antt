@@ -1,9 +1,8 @@
--- What a brick does with a request: it ignores it, tells that it serves the call's view no more, votes on a ballot, or changes its part of the call's stripe in
--- the view that it has learnt.
+-- What a brick does with a request: it ignores it, tells that it serves the call's view no more, or what it keeps in that, votes on a ballot, or changes its part
+-- of the call's stripe in the view that it has learnt.
 use Rattle.std.proofs.Common.{◌≡◌, ◌+◌, ℕ, Bool, not, ◌&&◌, ◌||◌, nat_lt, List, Option, Some, None, refl, true, false, ◌⊎◌, inl, inr, sym, ap, ◌∙◌}
 use Rattle.std.specs.Prelude.{nat_eq, is_some}
-use Rattle.std.proofs.lemmas.Bool.{cond_both, eqb-true, and_parts, or_parts, not-true, not-false}
-use Rattle.std.proofs.lemmas.Option.{same_Some}
+use Rattle.std.proofs.lemmas.Bool.{cond_both, eqb-true, or_parts, not-false}
 use Rattle.fab_base.specs.declared.identities.BrickId.{BrickId}
 use Rattle.fab_base.specs.declared.stamps.Ballot.{Ballot}
 use Rattle.fab_base.specs.declared.stamps.Stamp.{Stamp}
@@ -15,7 +14,7 @@ use Rattle.fab_base.specs.Layouts.{Layout, Group, seat_in}
 use Rattle.protocol.specs.Settings.{Setting}
 use Rattle.protocol.specs.Replicas.{Replica, Reaction, handle}
 use Rattle.protocol.specs.Ballots.{moved_to}
-use Rattle.protocol.specs.Nodes.{Node, NodeStep, view_at, has_accepted, group_at, put, no_step, sending, with_replica, replica_at, full_at, reacted, reply_packets, requested_at, is_now, fits, seat_now, is_void, moved_at, served_unless, vote_at, voted_on, requested_as, requested_in, requested}
+use Rattle.protocol.specs.Nodes.{Node, NodeStep, view_at, has_accepted, group_at, put, no_step, sending, with_replica, replica_at, full_at, reacted, reply_packets, requested_at, is_now, fits, seat_now, is_void, moved_at, served_unless, vote_at, voted_on, old_reply, requested_as, requested_in, requested}
 use Rattle.protocol.proofs.Tables.{put_each}
 
 -- a request to drop versions
@@ -30,6 +29,29 @@ pub record IsServed (layout : Layout) (me : BrickId) (node : Node) (call : Call)
   pub stripe : nat_lt call.stripe.0 group.stripes ≡ true
   pub fitting : fits layout group.m call request (Some seat) ≡ true
   pub free : (has_accepted node call.group.0 ≡ false) ⊎ IsCollect request
+
+-- a brick tells what it keeps in the view of a call: it knows that view, and is asked for it
+pub record TellsOld (node : Node) (call : Call) (request : Request) (reply : Reply) : Type 0 where
+  pub bound : Option Stamp
+  pub asked : request ≡ Request.OldRead bound
+  pub view : nat_eq call.view.0 0 ≡ false
+  pub known : nat_lt (view_at node call.group.0) call.view.0 ≡ false
+  pub says : old_reply node call bound ≡ Some reply
+
+-- what a brick tells that changes nothing: that it serves the view of a call no more, or what it keeps in it
+abbrev pub IsTold : Node → Call → Request → Reply → Type 0
+IsTold node call request reply = (moved_at node call ≡ Some reply) ⊎ TellsOld node call request reply
+
+-- where a request is not void, its view has a number, and is one that the brick knows
+known_view : (layout : Layout) (me : BrickId) (node : Node) (call : Call) (request : Request) (group : Group)
+    → is_void layout me node call request group ≡ false
+    → (nat_eq call.view.0 0 ≡ false) × (nat_lt (view_at node call.group.0) call.view.0 ≡ false)
+known_view layout me node call request group isnt =
+    let stripe = or_parts (not (nat_lt call.stripe.0 group.stripes)) _ isnt in
+    let view = or_parts (nat_eq call.view.0 0) _ stripe.1 in
+    let known = or_parts (nat_lt (view_at node call.group.0) call.view.0)
+    ((is_now node call && not (is_some (seat_now me node call group))) || not (fits layout group.m call request (seat_now me node call group))) view.1 in
+    (view.0, known.0)
 
 -- where a request is not void, its stripe is one of the group, and what it names fits
 not_void : (layout : Layout) (me : BrickId) (node : Node) (call : Call) (request : Request) (group : Group)
@@ -93,50 +115,62 @@ module _ (P : NodeStep → Type 0) (setting : Setting) (me from : BrickId) (node
 
   -- the same, unless the brick tells that it serves the view no more
   each_served : (request : Request) → P (no_step node)
-      → ((reply : Reply) → moved_at node call ≡ Some reply → P (sending node (reply_packets me from call (Some reply)))) → Handles request
+      → ((reply : Reply) → IsTold node call request reply → P (sending node (reply_packets me from call (Some reply)))) → Handles request
       → (group : Group) → group_at setting.layout node call.group.0 ≡ Some group → is_void setting.layout me node call request group ≡ false
       → P (served_unless setting group.m me from node call request (seat_now me node call group) (moved_at node call))
-  each_served request ignored moved handled group at isnt = by_move (moved_at node call) refl
+  each_served request ignored told handled group at isnt = by_move (moved_at node call) refl
     where
       by_move : (z : Option Reply) → moved_at node call ≡ z
           → P (served_unless setting group.m me from node call request (seat_now me node call group) z)
       by_move None is = each_seat request ignored handled group at isnt (inl (serves_free node call is))
-      by_move (Some reply) is = moved reply is
+      by_move (Some reply) is = told reply (inl is)
+
+  -- a brick that is asked for what it keeps in a view
+  each_old : (bound : Option Stamp) → P (no_step node)
+      → ((reply : Reply) → IsTold node call (Request.OldRead bound) reply → P (sending node (reply_packets me from call (Some reply)))) → (group : Group)
+      → is_void setting.layout me node call (Request.OldRead bound) group ≡ false → P (sending node (reply_packets me from call (old_reply node call bound)))
+  each_old bound ignored told group isnt = by_reply (old_reply node call bound) refl
+    where
+      by_reply : (z : Option Reply) → old_reply node call bound ≡ z → P (sending node (reply_packets me from call z))
+      by_reply None is = ignored
+      by_reply (Some reply) is =
+          let known = known_view setting.layout me node call (Request.OldRead bound) group isnt in
+          told reply (inr (record { bound = bound; asked = refl; view = known.0; known = known.1; says = is }))
 
   -- a request that is not void
   each_as : (request : Request) → P (no_step node)
-      → ((reply : Reply) → moved_at node call ≡ Some reply → P (sending node (reply_packets me from call (Some reply)))) → Handles request
+      → ((reply : Reply) → IsTold node call request reply → P (sending node (reply_packets me from call (Some reply)))) → Handles request
       → ((group : Group) (ballot : Ballot) (asks : Option (List BrickId)) → group_at setting.layout node call.group.0 ≡ Some group
       → P (voted_on me from node call (vote_at node call ballot asks)))
       → (group : Group) → group_at setting.layout node call.group.0 ≡ Some group → is_void setting.layout me node call request group ≡ false
       → P (requested_as setting group me from node call request)
-  each_as (Request.Read want) ignored moved handled votes group at isnt = each_served (Request.Read want) ignored moved handled group at isnt
-  each_as (Request.Order t) ignored moved handled votes group at isnt = each_served (Request.Order t) ignored moved handled group at isnt
-  each_as (Request.OrderRead t look want) ignored moved handled votes group at isnt =
-      each_served (Request.OrderRead t look want) ignored moved handled group at isnt
-  each_as (Request.Write t block) ignored moved handled votes group at isnt = each_served (Request.Write t block) ignored moved handled group at isnt
-  each_as (Request.Modify t base j delta) ignored moved handled votes group at isnt =
-      each_served (Request.Modify t base j delta) ignored moved handled group at isnt
-  each_as (Request.Collect t) ignored moved handled votes group at isnt =
+  each_as (Request.Read want) ignored told handled votes group at isnt = each_served (Request.Read want) ignored told handled group at isnt
+  each_as (Request.Order t) ignored told handled votes group at isnt = each_served (Request.Order t) ignored told handled group at isnt
+  each_as (Request.OrderRead t look want) ignored told handled votes group at isnt =
+      each_served (Request.OrderRead t look want) ignored told handled group at isnt
+  each_as (Request.Write t block) ignored told handled votes group at isnt = each_served (Request.Write t block) ignored told handled group at isnt
+  each_as (Request.Modify t base j delta) ignored told handled votes group at isnt =
+      each_served (Request.Modify t base j delta) ignored told handled group at isnt
+  each_as (Request.Collect t) ignored told handled votes group at isnt =
       each_seat (Request.Collect t) ignored handled group at isnt (inr (t, refl))
-  each_as (Request.OldRead bound) ignored moved handled votes group at isnt = ignored
-  each_as (Request.Prepare ballot) ignored moved handled votes group at isnt = votes group ballot None at
-  each_as (Request.Accept ballot members) ignored moved handled votes group at isnt = votes group ballot (Some members) at
+  each_as (Request.OldRead bound) ignored told handled votes group at isnt = each_old bound ignored told group isnt
+  each_as (Request.Prepare ballot) ignored told handled votes group at isnt = votes group ballot None at
+  each_as (Request.Accept ballot members) ignored told handled votes group at isnt = votes group ballot (Some members) at
 
-  -- a brick ignores a request, tells that it serves its view no more, handles it at its seat, or votes
+  -- a brick ignores a request, tells that it serves its view no more or what it keeps in it, handles it at its seat, or votes
   pub request_each : (request : Request) → P (no_step node)
-      → ((reply : Reply) → moved_at node call ≡ Some reply → P (sending node (reply_packets me from call (Some reply)))) → Handles request
+      → ((reply : Reply) → IsTold node call request reply → P (sending node (reply_packets me from call (Some reply)))) → Handles request
       → ((group : Group) (ballot : Ballot) (asks : Option (List BrickId)) → group_at setting.layout node call.group.0 ≡ Some group
       → P (voted_on me from node call (vote_at node call ballot asks)))
       → P (requested setting me from node call request)
   unfolding requested
-  request_each request ignored moved handled votes = in_group (group_at setting.layout node call.group.0) refl
+  request_each request ignored told handled votes = in_group (group_at setting.layout node call.group.0) refl
     where
       in_group : (z : Option Group) → group_at setting.layout node call.group.0 ≡ z → P (requested_in setting me from node call request z)
       in_group None is = ignored
       in_group (Some group) is =
           cond_both (is_void setting.layout me node call request group) (no_step node) (requested_as setting group me from node call request) P
-          (λ void. ignored) (λ isnt. each_as request ignored moved handled votes group is isnt)
+          (λ void. ignored) (λ isnt. each_as request ignored told handled votes group is isnt)
 
 -- what holds of the changed part, and of each part as it was
 pub parts_each : (Q : ℕ → ℕ → ℕ → Replica → Type 0) (node : Node) (call : Call) (reaction : Reaction)

@@ -2,6 +2,7 @@
 use Rattle.std.specs.Prelude.{ℕ, ◌+◌, ◌-◌, ◌^◌, Bool, true, false, not, nat_eq, nat_lt, ◌&&◌, ◌||◌, if◌then◌else◌, List, [], ◌∷◌, ◌++◌, length, Option, Some, None, filter}
 use Rattle.std.specs.Option.{option_map}
 use Rattle.fab_base.specs.declared.identities.BrickId.{BrickId}
+use Rattle.fab_base.specs.declared.identities.ViewNo.{ViewNo}
 use Rattle.fab_base.specs.declared.stamps.Stamp.{Stamp}
 use Rattle.fab_base.specs.declared.asks.Ask.{Ask}
 use Rattle.fab_base.specs.declared.asks.Op.{Op}
@@ -15,19 +16,21 @@ use Rattle.messages.specs.declared.requests.Look.TheVariants.{Below, At}
 use Rattle.messages.specs.declared.requests.Version.{Version}
 use Rattle.messages.specs.declared.requests.Want.TheVariants.{Seat, All}
 use Rattle.messages.specs.declared.requests.Request.{Request}
-use Rattle.messages.specs.declared.requests.Request.TheVariants.{Read, Order, OrderRead, Write, Modify}
+use Rattle.messages.specs.declared.requests.Request.TheVariants.{Read, Order, OrderRead, Write, Modify, OldRead}
 use Rattle.messages.specs.declared.replies.Reply.{Reply}
-use Rattle.messages.specs.declared.replies.Reply.TheVariants.{Found, Ordered, OrderedRead, Stored, Behind, Later, Full, Moved}
+use Rattle.messages.specs.declared.replies.Reply.TheVariants.{Found, Ordered, OrderedRead, Stored, Behind, Later, Full, Moved, Old, Retired}
 pub use Rattle.protocol.specs.declared.phases.Phase.{Phase}
-pub use Rattle.protocol.specs.declared.phases.Phase.TheVariants.{Looks, LooksAt, Orders, OrdersAt, Recovers, Descends, Modifies, Bases, Stores}
+pub use Rattle.protocol.specs.declared.phases.Phase.TheVariants.{Looks, LooksAt, Orders, OrdersAt, Recovers, Descends, LooksBack, Modifies, Bases, Stores}
 pub use Rattle.protocol.specs.declared.phases.Counted.{Counted}
 pub use Rattle.protocol.specs.declared.phases.Refuser.{Refuser}
 pub use Rattle.protocol.specs.declared.phases.FullMember.{FullMember}
 pub use Rattle.protocol.specs.declared.phases.Mover.{Mover}
+pub use Rattle.protocol.specs.declared.phases.Dropper.{Dropper}
 use Rattle.fab_base.specs.Layouts.{Group, seat_in}
 use Rattle.quorum.specs.Quorums.{quorum_of}
 use Rattle.reg_model.specs.Registers.{read_of, after_op}
 use Rattle.protocol.specs.Settings.{Code, Piece}
+use Rattle.protocol.specs.Views.{floor_of, kept_by}
 use Rattle.protocol.specs.Replicas.{is_changed}
 
 -- An open operation at its coordinator: the group, with the members of the operation's view; the members of the view before that; what is asked; its stamp; how many rounds of
@@ -44,6 +47,24 @@ pub record Coordinator : Type 0 where
   pub call : Call
   pub phase : Phase
   pub counted : List Counted
+
+-- a phase looks back: it asks the members of the view before the operation's, and each other phase asks those of the operation's own
+abbrev pub looks_back : Phase → Bool
+looks_back (LooksBack bound) = true
+looks_back phase = false
+
+-- the view whose members a phase of an operation of this stamp asks
+abbrev pub asked_view : Stamp → Phase → ViewNo
+asked_view t phase = if looks_back phase then record { 0 = t.view.0 - 1 } else t.view
+
+-- the group as the members keep it that the present phase asks
+abbrev pub asked_group : Coordinator → Group
+asked_group c = if looks_back c.phase then kept_by c.prior c.group else c.group
+
+-- the stamp below which a phase that looks back finds versions: its bound, or the first stamp of the operation's view, which all of the view before are below
+abbrev pub old_bound : Stamp → Option Stamp → Stamp
+old_bound t None = floor_of t.view.0
+old_bound t (Some bound) = bound
 
 -- two calls are the same, phase and all
 unfoldable pub call_same : Call → Call → Bool
@@ -93,6 +114,9 @@ answers_phase block t seat (Bases base) (Full live) = true
 answers_phase block t seat Stores Stored = true
 answers_phase block t seat Stores (Later x) = true
 answers_phase block t seat Stores (Full live) = true
+answers_phase block t seat (LooksBack bound) (Old found) = may_be_found block (old_bound t bound) found
+answers_phase block t seat (LooksBack bound) Retired = true
+answers_phase block t seat (LooksBack bound) reply = false
 answers_phase block t seat phase (Moved view lineage) = true
 answers_phase block t seat phase reply = false
 
@@ -116,13 +140,14 @@ answering_seat block c reply (Some seat) = if answers_phase block c.stamp seat c
 unfoldable pub counts_at : ℕ → Coordinator → ℕ → Call → Reply → Option ℕ
 counts_at block c from call reply =
     if call_same call c.call && nat_lt c.call.phase (2 ^ 32 - 1)
-    then new_seat c.counted (answering_seat block c reply (seat_in c.group.members from))
+    then new_seat c.counted (answering_seat block c reply (seat_in (asked_group c).members from))
     else None
 
 -- the version that a reply tells
 abbrev pub told_in : Reply → Option Version
 told_in (Found order version) = version
 told_in (OrderedRead version) = version
+told_in (Old version) = version
 told_in reply = None
 
 -- the stamp of the version that a reply tells
@@ -281,6 +306,25 @@ abbrev pub lowest_mover : List Counted → Option Mover
 lowest_mover [] = None
 lowest_mover (c ∷ counted) = lower_mover (mover_of c) (lowest_mover counted)
 
+-- the member that told that it has dropped the versions of the view before, if this one did
+abbrev pub dropper_of : Counted → Option Dropper
+dropper_of c = dropper_with c.reply
+  where
+    dropper_with : Reply → Option Dropper
+    dropper_with Retired = Some (record { seat = c.seat; brick = c.brick })
+    dropper_with reply = None
+
+-- of two such members the one of the lower seat
+abbrev pub lower_dropper : Option Dropper → Option Dropper → Option Dropper
+lower_dropper None b = b
+lower_dropper (Some a) None = Some a
+lower_dropper (Some a) (Some b) = if nat_lt b.seat a.seat then Some b else Some a
+
+-- the member of the lowest seat that told that it has dropped the versions of the view before, if one did
+abbrev pub lowest_dropper : List Counted → Option Dropper
+lowest_dropper [] = None
+lowest_dropper (c ∷ counted) = lower_dropper (dropper_of c) (lowest_dropper counted)
+
 -- what a seat is told that data block j changed by: nothing, where its block stays as it is
 abbrev pub delta_at : ℕ → ℕ → ℕ → List ℕ → List ℕ
 delta_at m j seat delta = if is_changed m j seat then delta else []
@@ -296,6 +340,7 @@ request_of code c seat = request_in c.phase
     request_in (OrdersAt j) = OrderRead c.stamp (Below c.stamp) (Seat j)
     request_in Recovers = OrderRead c.stamp (Below c.stamp) All
     request_in (Descends bound) = OrderRead c.stamp (Below bound) All
+    request_in (LooksBack bound) = OldRead bound
     request_in (Modifies base j) = Modify c.stamp base j (delta_at c.group.m j seat c.content)
     request_in (Bases base) = OrderRead c.stamp (At base) All
     request_in Stores = Write c.stamp (code.encode c.group.m c.content seat)
@@ -314,9 +359,9 @@ pub data Next : Type 0 where
 abbrev pub next_phase : Call → Call
 next_phase call = record call { phase = call.phase + 1 }
 
--- the coordinator in its next phase
+-- the coordinator in its next phase, whose call is of the view whose members that asks
 abbrev pub in_phase : Coordinator → Phase → Coordinator
-in_phase c phase = record c { call = next_phase c.call; phase = phase; counted = [] }
+in_phase c phase = record c { call = record (next_phase c.call) { view = asked_view c.stamp phase }; phase = phase; counted = [] }
 
 -- the coordinator in its store phase, where it read this version back: what it stores is what the operation makes of that content
 abbrev pub restoring : ℕ → Coordinator → Stamp → List ℕ → Coordinator
@@ -358,10 +403,19 @@ aborted_full f = Ends (Aborted (Cause.Full f.brick f.live)) None None
 abbrev pub aborted_moved : Mover → Next
 aborted_moved m = Ends (Aborted (Cause.Moved m.brick m.view)) None None
 
+-- the operation is aborted, since this member has dropped the versions of the view before
+abbrev pub aborted_gone : Dropper → Next
+aborted_gone d = Ends (Aborted (Cause.Gone d.brick)) None None
+
 -- a member that serves the view no more aborts the operation; else it goes on so
 abbrev pub unless_told_moved : Option Mover → Next → Next
 unless_told_moved None next = next
 unless_told_moved (Some m) next = aborted_moved m
+
+-- a member that has dropped the versions of the view before aborts the operation; else it goes on so
+abbrev pub unless_told_gone : Option Dropper → Next → Next
+unless_told_gone None next = next
+unless_told_gone (Some d) next = aborted_gone d
 
 -- a member whose store is full aborts the operation; else it goes on so
 abbrev pub unless_told_full : Option FullMember → Next → Next
@@ -393,12 +447,21 @@ abbrev pub answered_fast_at : Coordinator → ℕ → Option Stamp → Next
 answered_fast_at c j None = Sends (in_phase c Recovers)
 answered_fast_at c j (Some v) = Ends (Data (bytes_at j c.counted)) (Some v) None
 
+-- the phase in which a recovery looks below a version: in the view before, once it looks back
+abbrev pub lower_phase : Phase → Stamp → Phase
+lower_phase (LooksBack bound) v = LooksBack (Some v)
+lower_phase phase v = Descends v
+
+-- an operation has a view before its own, and has not looked back yet
+abbrev pub may_look_back : Coordinator → Bool
+may_look_back c = nat_lt 1 c.stamp.view.0 && not (looks_back c.phase)
+
 -- A recovery reads back the greatest version found, where there are enough blocks of it, and else looks below
--- it. Where nothing was found, it forgets the replies, and waits for more.
+-- it. Where nothing was found, it looks back; where there is no view before its own, or it looked back already, it forgets the replies, and waits for more.
 abbrev pub read_back : ℕ → Code → Coordinator → Option Stamp → Next
-read_back block code c None = Waits (forgetting c)
+read_back block code c None = if may_look_back c then Sends (in_phase c (LooksBack None)) else Waits (forgetting c)
 read_back block code c (Some v) =
-    if nat_lt (length (pieces_at v c.counted)) c.group.m then Sends (in_phase c (Descends v))
+    if nat_lt (length (pieces_at v c.counted)) c.group.m then Sends (in_phase c (lower_phase c.phase v))
     else Makes (restoring block c v (code.decode c.group.m (pieces_at v c.counted)))
 
 -- a write of data block j modifies the version that all found, where the block's seat replied, and else looks for the greatest below its own stamp
@@ -424,7 +487,9 @@ answer_with (Some bytes) = Data bytes
 
 -- what a quorum of replies decides, where a new round would have this fresh stamp
 unfoldable pub decided : ℕ → Code → Option Stamp → Coordinator → Next
-decided block code fresh c = unless_told_moved (lowest_mover c.counted) (unless_told_full (lowest_full c.counted) (decided_in c.phase))
+decided block code fresh c =
+    unless_told_moved (lowest_mover c.counted)
+    (unless_told_gone (lowest_dropper c.counted) (unless_told_full (lowest_full c.counted) (decided_in c.phase)))
   where
     decided_in : Phase → Next
     decided_in Looks = answered_fast code c (fast_version c.counted)
@@ -433,6 +498,7 @@ decided block code fresh c = unless_told_moved (lowest_mover c.counted) (unless_
     decided_in (OrdersAt j) = once_ordered fresh c (greatest_refuser c.counted) (modified_if code c j (common_version_at j c.counted))
     decided_in Recovers = once_ordered fresh c (greatest_refuser c.counted) (read_back block code c (greatest_found c.counted))
     decided_in (Descends bound) = unless_refused (greatest_refuser c.counted) (read_back block code c (greatest_found c.counted))
+    decided_in (LooksBack bound) = read_back block code c (greatest_found c.counted)
     decided_in (Modifies base j) = unless_refused (greatest_refuser c.counted) (once_modified c base)
     decided_in (Bases base) = unless_refused (greatest_refuser c.counted) (rebuilt block code c base)
     decided_in Stores = unless_refused (greatest_refuser c.counted) (Ends (answer_with (read_of block c.ask.op c.content)) None (Some c.stamp))
@@ -441,9 +507,9 @@ decided block code fresh c = unless_told_moved (lowest_mover c.counted) (unless_
 abbrev pub with_reply : Coordinator → ℕ → BrickId → Reply → Coordinator
 with_reply c seat brick reply = record c { counted = c.counted ++ (record { seat = seat; brick = brick; reply = reply } ∷ []) }
 
--- with a quorum of replies the phase is decided
+-- with a quorum of the replies of those that are asked the phase is decided
 abbrev pub once_full : ℕ → Code → Option Stamp → Coordinator → Next
-once_full block code fresh c = if nat_lt (length c.counted) (quorum_of c.group) then Waits c else decided block code fresh c
+once_full block code fresh c = if nat_lt (length c.counted) (quorum_of (asked_group c)) then Waits c else decided block code fresh c
 
 abbrev pub counted_at : ℕ → Code → Option Stamp → Coordinator → BrickId → Reply → Option ℕ → Next
 counted_at block code fresh c from reply None = Ignores

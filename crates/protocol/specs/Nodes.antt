@@ -10,30 +10,30 @@ use Rattle.fab_base.specs.declared.stamps.Stamp.{Stamp}
 use Rattle.fab_base.specs.declared.asks.Ask.{Ask}
 use Rattle.fab_base.specs.declared.asks.Op.{Op}
 use Rattle.fab_base.specs.declared.asks.Op.TheVariants.{ReadBlock, WriteBlock, ReadStripe, WriteStripe}
+use Rattle.fab_base.specs.declared.answers.Answer.{Answer}
 use Rattle.fab_base.specs.declared.answers.Refusal.{Refusal}
 use Rattle.messages.specs.declared.calls.Call.{Call}
 use Rattle.messages.specs.declared.packets.Message.{Message}
 use Rattle.messages.specs.declared.packets.Packet.{Packet}
 use Rattle.messages.specs.declared.requests.Request.{Request}
 use Rattle.messages.specs.declared.replies.Reply.{Reply}
-use Rattle.messages.specs.declared.replies.Reply.TheVariants.{Moved}
+use Rattle.messages.specs.declared.replies.Reply.TheVariants.{Moved, Old, Retired}
 pub use Rattle.protocol.specs.declared.tellings.Told.{Told}
-pub use Rattle.protocol.specs.declared.tellings.Told.TheVariants.{Made, Seen}
+pub use Rattle.protocol.specs.declared.tellings.Told.TheVariants.{Made, Seen, Began, Closed}
 pub use Rattle.protocol.specs.declared.tellings.Answered.{Answered}
 pub use Rattle.protocol.specs.declared.tellings.Report.{Report}
-use Rattle.protocol.specs.declared.tellings.Report.TheVariants as Report
 use Rattle.protocol.specs.declared.tellings.ViewAnswer.TheVariants as answer
 use Rattle.quorum.specs.Memberships.{is_membership}
 pub use Rattle.protocol.specs.Requests.{to_members, resent_to}
 use Rattle.synod_laws.specs.Synods.{Kept, last_of}
 use Rattle.protocol.specs.Proposals.{Proposal, ViewAnswer, Voting, Ignored, Waited, Asks, Ended, begun_proposal, ballot_packets, seat_voting, voted, round_after, next_ballot}
-use Rattle.protocol.specs.Jobs.{Job}
+use Rattle.protocol.specs.Jobs.{Job, JobNext, Reads, Finishes, GivesUp, sync_refusal_in, begun_job, job_ask, job_after, abort_cause, synced_answer, stopped_answer, spent_answer}
 use Rattle.fab_base.specs.Layouts.{Layout, Group, group_of, seat_in}
 use Rattle.protocol.specs.Settings.{Setting, are_bytes}
-use Rattle.protocol.specs.Views.{Learnt, first_learnt, first_kept, group_kept, floor_of, is_later, learns, may_be_taught, view_told}
+use Rattle.protocol.specs.Views.{Learnt, first_learnt, first_kept, group_kept, floor_of, is_later, learns, is_unsynced, notes_synced, may_be_taught, view_told}
 use Rattle.protocol.specs.Ballots.{Voted, voting, moved_to}
-use Rattle.protocol.specs.Replicas.{Replica, Reaction, fresh_replica, handle, is_changed, stamp_max, top_of}
-use Rattle.protocol.specs.Coordinators.{Phase, Looks, LooksAt, Orders, OrdersAt, Coordinator, Next, Ignores, Waits, Sends, Makes, Ends, counts_at, request_of, on_reply}
+use Rattle.protocol.specs.Replicas.{Replica, Reaction, fresh_replica, handle, is_changed, newest_of, stamp_max, top_of, under}
+use Rattle.protocol.specs.Coordinators.{Phase, Looks, LooksAt, Orders, OrdersAt, Coordinator, Next, Ignores, Waits, Sends, Makes, Ends, asked_group, counts_at, request_of, on_reply}
 
 -- a function with one value changed
 abbrev pub put : {A : Type 0} → (ℕ → A) → ℕ → A → ℕ → A
@@ -97,8 +97,8 @@ view_floor node group = floor_of (if has_accepted node group then view_at node g
 unfoldable pub top_at : Node → ℕ → ℕ → Stamp
 top_at node group stripe = stamp_max (view_floor node group) (top_of (node.replicas group (view_at node group) stripe))
 
--- What a step leaves, the packets that it sends, what it tells of operations' versions, the answers that it gives, and what it reports of the brick's
--- proposal and synchronisation, each in order.
+-- What a step leaves, the packets that it sends, what it tells of operations, the answers that it gives, and what it reports of the brick's proposal and
+-- synchronisation, each in order.
 pub record NodeStep : Type 0 where
   pub node : Node
   pub packets : List Packet
@@ -115,7 +115,7 @@ no_step node = sending node []
 
 -- what the coordinator's phase sends
 abbrev pub phase_packets : Setting → BrickId → Coordinator → List Packet
-phase_packets setting me c = to_members me c.call (request_of setting.code c) 0 c.group.members
+phase_packets setting me c = to_members me c.call (request_of setting.code c) 0 (asked_group c).members
 
 -- the version that was stored may be collected by all members
 abbrev pub collect_packets : BrickId → Coordinator → Option Stamp → List Packet
@@ -328,12 +328,20 @@ abbrev pub voted_on : BrickId → BrickId → Node → Call → Voted → NodeSt
 voted_on me from node call vote =
     sending (record node { ballots = put node.ballots call.group.0 vote.kept }) (reply_packets me from call (Some vote.reply))
 
--- What a brick does with a request that is not void. It collects in the view that it has learnt, though it accepted a list to follow that; it votes on a
--- ballot; and it handles each other request in the view that it serves.
+-- What a brick answers that is asked for what it keeps in the view of a call: that it has dropped that, or, where it serves the view no more, its newest version
+-- there below a bound. In the view that it still serves it answers nothing.
+abbrev pub old_reply : Node → Call → Option Stamp → Option Reply
+old_reply node call bound =
+    if nat_lt call.view.0 (first_kept (node.learnt call.group.0)) then Some Retired
+    else if is_some (moved_at node call) then Some (Old (newest_of (under bound (replica_at node call).log)))
+    else None
+
+-- What a brick does with a request that is not void. It collects in the view that it has learnt, though it accepted a list to follow that; it tells what it keeps
+-- in a view that it serves no more; it votes on a ballot; and it handles each other request in the view that it serves.
 abbrev pub requested_as : Setting → Group → BrickId → BrickId → Node → Call → Request → NodeStep
 requested_as setting group me from node call (Request.Collect t) =
     requested_at setting group.m me from node call (Request.Collect t) (seat_now me node call group)
-requested_as setting group me from node call (Request.OldRead bound) = no_step node
+requested_as setting group me from node call (Request.OldRead bound) = sending node (reply_packets me from call (old_reply node call bound))
 requested_as setting group me from node call (Request.Prepare ballot) = voted_on me from node call (vote_at node call ballot None)
 requested_as setting group me from node call (Request.Accept ballot members) = voted_on me from node call (vote_at node call ballot (Some members))
 requested_as setting group me from node call request =
@@ -395,6 +403,13 @@ may_teach layout view (Some group) = may_be_taught group.m layout.bricks view
 unfoldable pub node_learnt : Layout → Node → GroupId → View → Node
 node_learnt layout node group view =
     if may_teach layout (Some view) (group_of layout group.0) then node_taught layout.block group.0 node view else node
+
+-- The brick once it hears that all stripes of a group are kept in the view of a number. Where that is the view that it has learnt, it drops what it kept in the
+-- view before.
+unfoldable pub node_synced : Layout → Node → GroupId → ViewNo → Node
+node_synced layout node group number =
+    if is_some (group_of layout group.0) && is_unsynced (node.learnt group.0) number.0
+    then with_learnt layout.block group.0 node (notes_synced (node.learnt group.0) number.0) else node
 
 -- the time that a reply makes known
 abbrev pub known_after : ℕ → Reply → ℕ
@@ -479,14 +494,99 @@ abbrev pub replied_ballot : Layout → BrickId → BrickId → Node → Call →
 replied_ballot layout me from node call reply None = no_step node
 replied_ballot layout me from node call reply (Some p) = carried_ballot layout me node p (voted layout.bricks p from call reply)
 
+-- ---- synchronisation
+
+-- two steps, one after the other
+abbrev pub then_does : NodeStep → NodeStep → NodeStep
+then_does first second =
+    record {
+      node = second.node;
+      packets = first.packets ++ second.packets;
+      told = first.told ++ second.told;
+      answers = first.answers ++ second.answers;
+      reports = first.reports ++ second.reports;
+    }
+
+-- the brick with this synchronisation, or with none
+abbrev pub with_job : Node → Option Job → Node
+with_job node job = record node { job = job }
+
+-- the brick with a new read of its synchronisation: its call is the brick's last, and it is none of the operations of which a brick may have so many open
+abbrev pub reading : Node → Job → Coordinator → Node
+reading node job c =
+    record node {
+      seq = c.call.seq;
+      known = c.stamp.time;
+      calls = put node.calls c.call.seq (Some c);
+      job = Some (record job { seq = c.call.seq });
+    }
+
+-- the read begins
+abbrev pub read_begun_by : Setting → BrickId → Node → Job → Coordinator → NodeStep
+read_begun_by setting me node job c =
+    record { node = reading node job c; packets = phase_packets setting me c; told = Began c.call ∷ []; answers = []; reports = [] }
+
+-- A brick begins to read for its synchronisation, in the view of that. Where it has no later time or no further call number, the synchronisation ends.
+abbrev pub read_begun_in : Setting → BrickId → ℕ → Node → Job → Option Group → NodeStep
+read_begun_in setting me now node job None = no_step node
+read_begun_in setting me now node job (Some group) =
+    if is_spent node then reporting (with_job node None) [] (Report.Sync job.group (spent_answer job.attempt))
+    else read_begun_by setting me node job (coordinator_in group job.view me now node (job_ask job))
+
+abbrev pub read_begun : Setting → BrickId → ℕ → Node → Job → NodeStep
+read_begun setting me now node job = read_begun_in setting me now node job (group_kept setting.layout job.view.members job.group.0)
+
+-- a message that tells each brick of the disk from this number on, so many of them, that all stripes are kept in the view of this number
+abbrev pub synced_packets : BrickId → GroupId → ViewNo → ℕ → ℕ → List Packet
+synced_packets me group view zero brick = []
+synced_packets me group view (suc left) brick =
+    record { from = me; to = record { 0 = brick }; message = Message.Synced group view } ∷ synced_packets me group view left (brick + 1)
+
+-- what a brick does with what its synchronisation does next
+abbrev pub job_goes : Setting → BrickId → ℕ → Node → Job → JobNext → NodeStep
+job_goes setting me now node job (Reads attempt) = read_begun setting me now node (record job { attempt = attempt })
+job_goes setting me now node job Finishes =
+    reporting (with_job node None) (synced_packets me job.group job.view.number setting.layout.bricks 0) (Report.Sync job.group (synced_answer job.view.number))
+job_goes setting me now node job (GivesUp cause) = reporting (with_job node None) [] (Report.Sync job.group (stopped_answer job.attempt cause))
+
+-- a read of a synchronisation ends: it is answered to nobody
+abbrev pub read_closed : BrickId → Node → ℕ → Coordinator → Answer → Option Stamp → Option Stamp → NodeStep
+read_closed me node known c answer seen stored =
+    record {
+      node = with_call node known node.busy c.call.seq None;
+      packets = collect_packets me c stored;
+      told = seen_told c.call.seq seen ++ (Closed c.call.seq (abort_cause answer) ∷ []);
+      answers = [];
+      reports = [];
+    }
+
+-- What a brick does with what the coordinator of its synchronisation's read decided. Once the read has ended, the synchronisation goes on.
+abbrev pub carried_read : Setting → BrickId → ℕ → Node → ℕ → Job → Coordinator → Next → NodeStep
+carried_read setting me now node known job c (Ends answer seen stored) =
+    (let closed : NodeStep = read_closed me node known c answer seen stored in
+    then_does closed (job_goes setting me now closed.node job (job_after c.group.stripes job.attempt (abort_cause answer))))
+carried_read setting me now node known job c next = carried_out setting me node known c next
+
+-- the synchronisation whose read has a call's number, if it has one
+abbrev pub job_reading : Option Job → ℕ → Option Job
+job_reading None seq = None
+job_reading (Some job) seq = if nat_eq job.seq seq then Some job else None
+
+-- what a brick does with what a coordinator decided, that of a read for this synchronisation or of another operation
+abbrev pub carried_for : Setting → BrickId → ℕ → Node → ℕ → Coordinator → Next → Option Job → NodeStep
+carried_for setting me now node known c next None = carried_out setting me node known c next
+carried_for setting me now node known c next (Some job) = carried_read setting me now node known job c next
+
+-- ---- replies
+
 -- a reply to this open operation, if there is one, or else to the proposal; a new round would have a stamp of its view
 abbrev pub replied_at : Setting → BrickId → ℕ → BrickId → Node → Call → Reply → Option Coordinator → NodeStep
 replied_at setting me now from node call reply None =
     replied_ballot setting.layout me from (with_known node (known_after node.known reply)) call reply node.proposal
 replied_at setting me now from node call reply (Some c) =
     let known : ℕ = known_after node.known reply in
-    carried_out setting me node known c
-    (on_reply setting.layout.block setting.code (fresh_stamp me c.call.view now node.boot known) c from call reply)
+    carried_for setting me now node known c
+    (on_reply setting.layout.block setting.code (fresh_stamp me c.stamp.view now node.boot known) c from call reply) (job_reading node.job c.call.seq)
 
 -- a reply counts in this open operation, or else in this proposal
 abbrev pub counts_here : Layout → BrickId → Call → Reply → Option Proposal → Option Coordinator → Bool
@@ -527,10 +627,11 @@ received setting me now node packet = received_as packet.message
     received_as (Message.Request call request) = requested setting me packet.from node call request
     received_as (Message.Reply call reply) = heard setting me now packet.from node call reply
     received_as (Message.Learn group view) = no_step (node_learnt setting.layout node group view)
+    received_as (Message.Synced group number) = no_step (node_synced setting.layout node group number)
     received_as message = no_step node
 
 -- the node after a message whose handling was cut short once it had kept what it keeps: what it kept of a
--- request stays, and its reply is never sent; and so does a view that it learnt
+-- request stays, and its reply is never sent; and so does a view that it learnt, or learnt to be synced
 unfoldable pub absorbed : Setting → BrickId → Node → Packet → Node
 absorbed setting me node packet = absorbed_as packet.message
   where
@@ -541,6 +642,7 @@ absorbed setting me node packet = absorbed_as packet.message
         then node_taught_by setting.layout.block call.group.0 node (view_counted setting.layout packet.from node call reply) else node
         )
     absorbed_as (Message.Learn group view) = node_learnt setting.layout node group view
+    absorbed_as (Message.Synced group number) = node_synced setting.layout node group number
     absorbed_as message = node
 
 -- each of these packets, right after one that teaches its receiver this view
@@ -555,13 +657,13 @@ teaching group view packets = if nat_lt 1 view.number.0 then each_taught group v
 
 -- the view of an open operation
 abbrev pub view_in : Coordinator → View
-view_in c = record { number = c.call.view; members = c.group.members; prior = c.prior }
+view_in c = record { number = c.stamp.view; members = c.group.members; prior = c.prior }
 
 -- the present phase of an open operation again
 abbrev pub resent : Setting → BrickId → Option Coordinator → List Packet
 resent setting me None = []
 resent setting me (Some c) =
-    teaching c.call.group (view_in c) (resent_to me c.call (request_of setting.code c) c.counted 0 c.group.members)
+    teaching c.call.group (view_in c) (resent_to me c.call (request_of setting.code c) c.counted 0 (asked_group c).members)
 
 -- the present phase of a proposal again
 abbrev pub ballot_resent : BrickId → Option Proposal → List Packet
@@ -573,10 +675,22 @@ abbrev pub resent_up_to : Setting → BrickId → (ℕ → Option Coordinator) �
 resent_up_to setting me calls zero = []
 resent_up_to setting me calls (suc k) = resent_up_to setting me calls k ++ resent setting me (calls (suc k))
 
+-- the open operations but for the read of this synchronisation
+abbrev pub calls_but_read : (ℕ → Option Coordinator) → Option Job → ℕ → Option Coordinator
+calls_but_read calls None = calls
+calls_but_read calls (Some job) = put calls job.seq None
+
+-- the read of this synchronisation
+abbrev pub job_call : (ℕ → Option Coordinator) → Option Job → Option Coordinator
+job_call calls None = None
+job_call calls (Some job) = calls job.seq
+
 -- what a brick sends at a tick of its clock: each open operation its present phase again, in the order of
--- beginning, and then its proposal
+-- beginning, then its proposal, and last the read of its synchronisation
 unfoldable pub ticked : Setting → BrickId → Node → List Packet
-ticked setting me node = resent_up_to setting me node.calls node.seq ++ ballot_resent me node.proposal
+ticked setting me node =
+    resent_up_to setting me (calls_but_read node.calls node.job) node.seq
+    ++ (ballot_resent me node.proposal ++ resent setting me (job_call node.calls node.job))
 
 -- why a running brick does not begin to propose a successor of the view that it has learnt of a group, the first reason of these: there is no such group; it
 -- has a proposal; or the next round, the successor or the next call has no number
@@ -613,6 +727,16 @@ proposed_in setting me node group members (Some kept) =
 
 unfoldable pub proposed : Setting → BrickId → Node → GroupId → List BrickId → NodeStep
 proposed setting me node group members = proposed_in setting me node group members (group_of setting.layout group.0)
+
+-- why a running brick does not begin to synchronise the view that it has learnt of a group
+unfoldable pub sync_refusal : Layout → Node → ℕ → Option Refusal
+sync_refusal layout node number = sync_refusal_in node.job (group_of layout number)
+
+-- A brick begins a synchronisation that is not refused, of the view that it has learnt. If all stripes are known to be kept in that, it ends at once.
+unfoldable pub synced_at : Setting → BrickId → ℕ → Node → GroupId → NodeStep
+synced_at setting me now node group =
+    if (node.learnt group.0).synced then reporting node [] (Report.Sync group (synced_answer (node.learnt group.0).view.number))
+    else read_begun setting me now node (begun_job group (node.learnt group.0).view)
 
 -- no operation is open
 abbrev pub no_calls : ℕ → Option Coordinator

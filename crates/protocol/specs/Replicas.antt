@@ -116,6 +116,11 @@ written full replica t block =
 abbrev pub below : Stamp → List Version → List Version
 below bound log = filter (λ version. stamp_below version.stamp bound) log
 
+-- those below a bound, or all where there is none
+abbrev pub under : Option Stamp → List Version → List Version
+under None log = log
+under (Some bound) log = below bound log
+
 -- the version that is looked for in a log: the newest one below a bound, or the one of a stamp
 abbrev pub looked_up : Look → List Version → Option Version
 looked_up (Below bound) log = newest_of (below bound log)

@@ -6,6 +6,7 @@ use Rattle.fab_base.specs.declared.identities.GroupId.{GroupId}
 use Rattle.fab_base.specs.declared.stamps.Stamp.{Stamp}
 use Rattle.fab_base.specs.declared.asks.Ask.{Ask}
 use Rattle.fab_base.specs.declared.asks.Op.{Op}
+use Rattle.fab_base.specs.declared.asks.Op.TheVariants.{ReadStripe}
 use Rattle.fab_base.specs.declared.answers.Answer.{Answer}
 use Rattle.fab_base.specs.declared.answers.Cause.{Cause}
 use Rattle.fab_base.specs.declared.stamps.Ballot.{Ballot}
@@ -25,7 +26,7 @@ use Rattle.protocol.specs.Replicas.{fresh_replica, is_held}
 use Rattle.protocol.specs.Coordinators.{Counted, Coordinator, counts_at}
 use Rattle.protocol.specs.Proposals.{Proposal, seat_voting}
 use Rattle.synod_laws.specs.Synods.{last_of, ballot_same}
-use Rattle.protocol.specs.Nodes.{Node, NodeStep, Report, Told, Made, Seen, Answered, view_at, top_at, put, first_node, refusal_of, proposal_refusal, invoked, proposed, lists_fit, received, absorbed, ticked, stopped, restarted, may_open}
+use Rattle.protocol.specs.Nodes.{Node, NodeStep, Report, Told, Made, Seen, Began, Closed, Answered, view_at, top_at, put, first_node, refusal_of, proposal_refusal, sync_refusal, invoked, proposed, synced_at, lists_fit, received, absorbed, ticked, stopped, restarted, may_open}
 
 -- Which of two a store is found to hold, when its brick starts: what it held before the handling that the brick's stop cut short, or what that
 -- handling would have kept.
@@ -33,13 +34,15 @@ pub data Found : Type 0 where
   Before : Found
   After : Found
 
--- What happens next: a brick is asked for an operation, or to propose a list of members as the successor of the view that it has learnt of a group; the message of a number, counted from 1 in the order of sending, is delivered; a brick's
--- clock reads another time from now on, or ticks; a brick stops, during the handling of the message of a number, which was cut short or failed,
--- or during none; or a stopped brick starts again, its store having been opened so many times since, the last time to run, and found to hold
--- one of the two. A start that was itself cut short or failed is none: it may have counted an opening, and leaves both possible.
+-- What happens next: a brick is asked for an operation, or to propose a list of members as the successor of the view that it has learnt of a group, or to
+-- synchronise that view; the message of a number, counted from 1 in the order of sending, is delivered; a brick's clock reads another time from now on, or
+-- ticks; a brick stops, during the handling of the message of a number, which was cut short or failed, or during none; or a stopped brick starts again, its
+-- store having been opened so many times since, the last time to run, and found to hold one of the two. A start that was itself cut short or failed is none:
+-- it may have counted an opening, and leaves both possible.
 pub data Event : Type 0 where
   Invokes : (brick : BrickId) → (ask : Ask) → Event
   Proposes : (brick : BrickId) → (group : GroupId) → (members : List BrickId) → Event
+  Syncs : (brick : BrickId) → (group : GroupId) → Event
   Delivers : (number : ℕ) → Event
   Sets : (brick : BrickId) → (time : ℕ) → Event
   Ticks : (brick : BrickId) → Event
@@ -147,6 +150,11 @@ abbrev pub may_propose : Setting → World → BrickId → GroupId → Bool
 may_propose setting w brick group =
     is_up setting.layout w brick && not (is_some (proposal_refusal setting.layout (w.nodes brick.0) group.0))
 
+-- the brick begins a synchronisation that is not refused
+abbrev pub may_sync : Setting → World → BrickId → GroupId → Bool
+may_sync setting w brick group =
+    is_up setting.layout w brick && not (is_some (sync_refusal setting.layout (w.nodes brick.0) group.0))
+
 -- the numbers of calls, with that of a brick's last call
 abbrev pub with_number : (ℕ → ℕ → ℕ → ℕ) → ℕ → Node → ℕ → ℕ → ℕ → ℕ → ℕ
 with_number numbers i node n = put numbers i (put (numbers i) node.boot (put (numbers i node.boot) node.seq n))
@@ -236,20 +244,56 @@ with_votes votes i node = put votes i (λ group view ballot. vote_with (votes i 
 abbrev pub number_of : World → ℕ → ℕ → ℕ
 number_of w i seq = w.numbers i (w.nodes i).boot seq
 
--- the world once a brick told this of an operation's version
-abbrev pub world_told : Setting → World → BrickId → Told → World
-world_told setting w brick (Made seq t base) =
+-- a read of a brick's synchronisation, which has this call, as it begins, the bricks being these: an operation without marks
+abbrev pub read_of_call : (ℕ → Node) → World → BrickId → Call → Operation
+read_of_call nodes w brick call =
+    record {
+      brick = brick;
+      boot = call.boot;
+      seq = call.seq;
+      begin = length w.marks;
+      ask = record { group = call.group; stripe = call.stripe; op = ReadStripe };
+      version = None;
+      made = false;
+      base = None;
+      answered = false;
+      mark = 0;
+      closed = None;
+      view = call.view.0;
+      floor = λ i. top_at (nodes i) call.group.0 call.stripe.0;
+    }
+
+-- the numbers of calls, with that of this call of brick i
+abbrev pub with_call_number : (ℕ → ℕ → ℕ → ℕ) → ℕ → Call → ℕ → ℕ → ℕ → ℕ → ℕ
+with_call_number numbers i call n = put numbers i (put (numbers i) call.boot (put (numbers i call.boot) call.seq n))
+
+-- an operation without marks has ended, aborted by this cause or answered
+abbrev pub with_closed : Option Cause → Option Operation → Option Operation
+with_closed cause None = None
+with_closed cause (Some o) = Some (record o { closed = Some cause; answered = not (is_some cause) })
+
+-- The world once a brick told this of an operation, in a step that leaves these bricks: a read that begins in a step begins after all else in it.
+abbrev pub world_told : Setting → (ℕ → Node) → World → BrickId → Told → World
+world_told setting nodes w brick (Made seq t base) =
     record w {
       operations = put w.operations (number_of w brick.0 seq) (with_made t base (w.operations (number_of w brick.0 seq)));
       contents = with_content setting.layout.block w.contents t base (w.operations (number_of w brick.0 seq));
     }
-world_told setting w brick (Seen seq v) =
+world_told setting nodes w brick (Seen seq v) =
     record w { operations = put w.operations (number_of w brick.0 seq) (with_seen v (w.operations (number_of w brick.0 seq))) }
+world_told setting nodes w brick (Began call) =
+    record w {
+      begun = w.begun + 1;
+      operations = put w.operations (w.begun + 1) (Some (read_of_call nodes w brick call));
+      numbers = with_call_number w.numbers brick.0 call (w.begun + 1);
+    }
+world_told setting nodes w brick (Closed seq cause) =
+    record w { operations = put w.operations (number_of w brick.0 seq) (with_closed cause (w.operations (number_of w brick.0 seq))) }
 
 -- the same of several, in order
-abbrev pub world_tells : Setting → World → BrickId → List Told → World
-world_tells setting w brick [] = w
-world_tells setting w brick (told ∷ more) = world_tells setting (world_told setting w brick told) brick more
+abbrev pub world_tells : Setting → (ℕ → Node) → World → BrickId → List Told → World
+world_tells setting nodes w brick [] = w
+world_tells setting nodes w brick (told ∷ more) = world_tells setting nodes (world_told setting nodes w brick told) brick more
 
 -- the number of the marks of operation n
 abbrev pub own_mark : ℕ → Option Operation → ℕ
@@ -286,7 +330,7 @@ choices_after choices brick node reports =
 -- the world after a brick's step
 abbrev pub world_stepped : Setting → World → BrickId → NodeStep → World
 world_stepped setting w brick step =
-    (let told : World = world_answers (world_tells setting w brick step.told) brick step.answers in
+    (let told : World = world_answers (world_tells setting (put w.nodes brick.0 step.node) w brick step.told) brick step.answers in
     record told {
       nodes = put w.nodes brick.0 step.node;
       held = with_held w.held brick.0 step.node;
@@ -432,14 +476,15 @@ may_start layout w brick openings = is_brick layout brick && (not (w.up brick.0)
 abbrev pub known_in : World → ℕ → ℕ → ℕ
 known_in w i boot = if nat_eq boot (w.nodes i).boot then (w.nodes i).known else w.past i boot
 
--- the world after an event; what cannot happen changes nothing: an operation or a proposal that is refused, a number that
--- was not sent, a brick that the layout has not, a stopped brick that is to stop, handle a message or tick,
--- and one that is to start though it is up
+-- the world after an event; what cannot happen changes nothing: an operation, a proposal or a synchronisation that is refused, a number that was not sent,
+-- a brick that the layout has not, a stopped brick that is to stop, handle a message or tick, and one that is to start though it is up
 unfoldable pub happens : Setting → World → Event → World
 happens setting w (Invokes brick ask) =
     if may_begin setting w brick ask then world_began w brick ask (invoked setting brick (w.clocks brick.0) (w.nodes brick.0) ask) else w
 happens setting w (Proposes brick group members) =
     if may_propose setting w brick group then world_stepped setting w brick (proposed setting brick (w.nodes brick.0) group members) else w
+happens setting w (Syncs brick group) =
+    if may_sync setting w brick group then world_stepped setting w brick (synced_at setting brick (w.clocks brick.0) (w.nodes brick.0) group) else w
 happens setting w (Delivers number) = delivered setting w number (packet_of w.packets number)
 happens setting w (Sets brick time) = if is_brick setting.layout brick then record w { clocks = put w.clocks brick.0 time } else w
 happens setting w (Ticks brick) = if is_up setting.layout w brick then world_ticked setting w brick else w

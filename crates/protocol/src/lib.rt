@@ -5,5 +5,5 @@
 pub mod phases;
 pub mod tellings;
 
-pub use phases::{Counted, FullMember, Mover, Phase, Refuser};
+pub use phases::{Counted, Dropper, FullMember, Mover, Phase, Refuser};
 pub use tellings::{Answered, Report, SyncAnswer, Told, ViewAnswer};

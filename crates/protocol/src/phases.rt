@@ -21,6 +21,9 @@ pub enum Phase {
     /// A recovery that found too few blocks of a version has asked each member for its newest version below
     /// this one.
     Descends(Stamp),
+    /// A recovery that found nothing in its view has asked each member of the view before for its newest version
+    /// there, below this one if there is one.
+    LooksBack(Option<Stamp>),
     /// A write of a data block that all members told this base has sent each of them what changes.
     Modifies {
         /// The version that the new one is made on.
@@ -76,4 +79,13 @@ pub struct Mover {
     pub brick: BrickId,
     /// The number of the later view that it has learnt, or of the one that it has accepted a list for.
     pub view: ViewNo,
+}
+
+/// A member of the view before an operation's that has dropped what it kept in it.
+#[derive(Clone, Copy, PartialEq, Eq)]
+pub struct Dropper {
+    /// The member's seat.
+    pub seat: u8,
+    /// The member.
+    pub brick: BrickId,
 }

@@ -3,7 +3,8 @@
 use fab_base::{Answer, Ballot, BrickId, Cause, GroupId, Members, Stamp, StripeNo, ViewNo};
 use messages::Call;
 
-/// What a step tells of the version of an operation of its brick.
+/// What a step tells of an operation of its brick: of its version, and of a read for a synchronisation, which no client asked for, also that it began and how it
+/// ended.
 #[derive(Clone, Copy, PartialEq, Eq)]
 pub enum Told {
     /// The operation makes a version: its first write is sent by this step.
@@ -21,6 +22,18 @@ pub enum Told {
         seq: u64,
         /// The version's stamp.
         stamp: Stamp,
+    },
+    /// A read of a stripe for a synchronisation began.
+    Began {
+        /// The call of its first phase, which names the stripe and the view.
+        call: Call,
+    },
+    /// A read for a synchronisation ended.
+    Closed {
+        /// The number of the call.
+        seq: u64,
+        /// Why it was aborted; none where it was answered.
+        cause: Option<Cause>,
     },
 }
 

@@ -1,4 +1,5 @@
 -- The replies that count at a coordinator: how many seats they are, and what they tell together.
+use Rattle.protocol.specs.declared.phases.Dropper.{Dropper}
 use Rattle.protocol.specs.declared.phases.Mover.{Mover}
 use Rattle.std.proofs.Common.{◌≡◌, ℕ, zero, suc, ◌+◌, ◌<◌, ◌≤◌, nat_lt, ◌⊎◌, inl, inr, Bool, true, false, not, cond, ◌||◌, List, [], ◌∷◌, ◌++◌, length, map, Option, Some, None, refl, sym, ap, ◌∙◌, subst, ⊎_elim, arith}
 use Rattle.std.specs.Prelude.{slice_get, nat_eq, filter}
@@ -20,7 +21,7 @@ use Rattle.protocol.specs.Settings.{Code, Piece, ArePiecesOf}
 use Rattle.protocol.specs.declared.phases.Counted.{Counted}
 use Rattle.protocol.specs.declared.phases.Refuser.{Refuser}
 use Rattle.protocol.specs.declared.phases.FullMember.{FullMember}
-use Rattle.protocol.specs.Coordinators.{has_seat, fast_version, fast_version_at, common_version_at, told_stamp, greater_stamp, greatest_found, tells, all_tell, told_by_all, finds, all_find, found_by_all, common_version, bytes_at, is_behind, some_behind, found_bytes, pieces_of, refuser_of, greater_refuser, greatest_refuser, full_member_of, lower_full, lowest_full, mover_of, lower_mover, lowest_mover}
+use Rattle.protocol.specs.Coordinators.{has_seat, fast_version, fast_version_at, common_version_at, told_stamp, greater_stamp, greatest_found, tells, all_tell, told_by_all, finds, all_find, found_by_all, common_version, bytes_at, is_behind, some_behind, found_bytes, pieces_of, refuser_of, greater_refuser, greatest_refuser, full_member_of, lower_full, lowest_full, mover_of, lower_mover, lowest_mover, lowest_dropper, lower_dropper, dropper_of}
 use Rattle.protocol_laws.specs.Laws.{AtQuorum}
 use Rattle.protocol_laws.proofs.Said.{EachCounted, AreOnce}
 
@@ -240,6 +241,7 @@ pub finds_told : (v : Stamp) (seat : ℕ) (brick : BrickId) (reply : Reply) → 
     → told_stamp reply ≡ Some v
 finds_told v seat brick (Reply.Found order (Some version)) is = ap (λ (t : Stamp). Some t) (stamp_same_true version.stamp v is)
 finds_told v seat brick (Reply.OrderedRead (Some version)) is = ap (λ (t : Stamp). Some t) (stamp_same_true version.stamp v is)
+finds_told v seat brick (Reply.Old (Some version)) is = ap (λ (t : Stamp). Some t) (stamp_same_true version.stamp v is)
 finds_told v seat brick reply is = absurd (false≢true is)
 
 pub told_finds : (v : Stamp) (seat : ℕ) (brick : BrickId) (reply : Reply) → told_stamp reply ≡ Some v
@@ -247,6 +249,8 @@ pub told_finds : (v : Stamp) (seat : ℕ) (brick : BrickId) (reply : Reply) → 
 told_finds v seat brick (Reply.Found order (Some version)) is =
     subst (λ (t : Stamp). stamp_same t v ≡ true) (sym (same_Some version.stamp v is)) (stamp_same_refl v)
 told_finds v seat brick (Reply.OrderedRead (Some version)) is =
+    subst (λ (t : Stamp). stamp_same t v ≡ true) (sym (same_Some version.stamp v is)) (stamp_same_refl v)
+told_finds v seat brick (Reply.Old (Some version)) is =
     subst (λ (t : Stamp). stamp_same t v ≡ true) (sym (same_Some version.stamp v is)) (stamp_same_refl v)
 told_finds v seat brick reply is = cc
 
@@ -484,9 +488,58 @@ mover_counted P (x ∷ counted) m each is =
     (λ (there : lowest_mover counted ≡ Some m). mover_counted P counted m each.1 there)
     (one_mover (mover_of x) (lowest_mover counted) m is)
 
--- no reply tells that its member moved on, or that a store is full
+-- of two members that dropped the view before the lower is one of them
+dropper_one : (a b : Dropper) → (lower_dropper (Some a) (Some b) ≡ Some a) ⊎ (lower_dropper (Some a) (Some b) ≡ Some b)
+dropper_one a b =
+    cond_both (nat_lt b.seat a.seat) (Some b) (Some a) (λ (z : Option Dropper). (z ≡ Some a) ⊎ (z ≡ Some b)) (λ lower. inr refl) (λ isnt. inl refl)
+
+pub no_dropper : (a b : Option Dropper) → lower_dropper a b ≡ None → (a ≡ None) × (b ≡ None)
+no_dropper None b is = (refl, is)
+no_dropper (Some a) None is = cc
+no_dropper (Some a) (Some b) is =
+    ⊎_elim (λ (one : lower_dropper (Some a) (Some b) ≡ Some a). let e : Some a ≡ None = sym one ∙ is in cc)
+    (λ (other : lower_dropper (Some a) (Some b) ≡ Some b). let e : Some b ≡ None = sym other ∙ is in cc)
+    (dropper_one a b)
+
+-- no reply tells that its member dropped the view before where none is the lowest
+pub none_dropped : (counted : List Counted) → lowest_dropper counted ≡ None → EachCounted (λ x. dropper_of x ≡ None) counted
+none_dropped [] is = tt
+none_dropped (x ∷ counted) is =
+    let both = no_dropper (dropper_of x) (lowest_dropper counted) is in
+    (both.0, none_dropped counted both.1)
+
+-- the lowest of the members that dropped the view before is one of them
+one_dropper : (a b : Option Dropper) (d : Dropper) → lower_dropper a b ≡ Some d → (a ≡ Some d) ⊎ (b ≡ Some d)
+one_dropper None b d is = inr is
+one_dropper (Some a) None d is = inl is
+one_dropper (Some a) (Some b) d is =
+    ⊎_elim (λ (one : lower_dropper (Some a) (Some b) ≡ Some a). inl (sym one ∙ is))
+    (λ (other : lower_dropper (Some a) (Some b) ≡ Some b). inr (sym other ∙ is))
+    (dropper_one a b)
+
+-- its reply
+dropper_reply : (x : Counted) (d : Dropper) → dropper_of x ≡ Some d → (x.reply ≡ Reply.Retired) × (x.brick ≡ d.brick)
+dropper_reply x d is = told x.reply refl is
+  where
+    told : (reply : Reply) → x.reply ≡ reply → dropper_of (record { seat = x.seat; brick = x.brick; reply = reply }) ≡ Some d
+        → (x.reply ≡ Reply.Retired) × (x.brick ≡ d.brick)
+    told Reply.Retired e is =
+        let same : record { seat = x.seat; brick = x.brick } ≡ d = cc in
+        (e, ap (λ (z : Dropper). z.brick) same)
+    told reply e is = cc
+
+-- and that is one of those that count
+pub dropper_counted : (P : Counted → Type 0) (counted : List Counted) (d : Dropper) → EachCounted P counted → lowest_dropper counted ≡ Some d
+    → (x : Counted) × P x × (x.reply ≡ Reply.Retired) × (x.brick ≡ d.brick)
+dropper_counted P [] d each is = cc
+dropper_counted P (x ∷ counted) d each is =
+    ⊎_elim (λ (here : dropper_of x ≡ Some d). let told = dropper_reply x d here in (x, each.0, told.0, told.1))
+    (λ (there : lowest_dropper counted ≡ Some d). dropper_counted P counted d each.1 there)
+    (one_dropper (dropper_of x) (lowest_dropper counted) d is)
+
+-- no reply tells that its member moved on, that it dropped the view before, or that a store is full
 abbrev pub NoneStops : List Counted → Type 0
-NoneStops counted = (lowest_mover counted ≡ None) × (lowest_full counted ≡ None)
+NoneStops counted = (lowest_mover counted ≡ None) × (lowest_dropper counted ≡ None) × (lowest_full counted ≡ None)
 
 -- a reply's bytes are its seat's block of the content
 abbrev pub IsPieceOf : Code → ℕ → ℕ → List ℕ → Counted → Type 0

@@ -1,10 +1,11 @@
 -- What the replies that count show of the operation, when they are a quorum.
-use Rattle.protocol.specs.Views.{Views, group_in, view_of}
+use Rattle.protocol.specs.declared.phases.Refuser.{Refuser}
+use Rattle.protocol.specs.Views.{Views, group_in, view_of, floor_of}
 use Rattle.protocol_laws.proofs.Blocking.{blocked_never_stands}
 use Rattle.fab_base.specs.declared.asks.Ask.{Ask}
-use Rattle.protocol_laws.proofs.OwnStamps.{maker_stamp, operation_unique, call_in, m_is}
+use Rattle.protocol_laws.proofs.OwnStamps.{maker_stamp, operation_unique, m_is, asked_is, asked_in, asked_m, back_is}
 use Rattle.std.proofs.Common.{◌≡◌, ℕ, zero, suc, ◌-◌, ◌*◌, ◌/◌, ◌<◌, ◌≤◌, ◌⊎◌, inl, inr, true, false, not, List, [], ◌∷◌, length, replicate, Option, Some, None, refl, sym, ap, ◌∙◌, subst, ⊎_elim, arith, Bool}
-use Rattle.std.specs.Prelude.{nat_eq}
+use Rattle.std.specs.Prelude.{nat_eq, if◌then◌else◌}
 use Rattle.std.specs.Option.{option_map}
 use Rattle.std.proofs.lemmas.Bool.{false≢true, not_from_false, and_parts, eqb-true, eq-eqb, cond-true, cases_Bool}
 use Rattle.std.proofs.lemmas.Option.{same_Some}
@@ -30,18 +31,18 @@ use Rattle.protocol.specs.Settings.{Setting, IsSound, are_bytes}
 use Rattle.protocol.specs.Replicas.{stamp_max, is_wanted}
 use Rattle.protocol.specs.declared.phases.Counted.{Counted}
 use Rattle.protocol.specs.declared.phases.Phase.{Phase}
-use Rattle.protocol.specs.declared.phases.Phase.TheVariants.{Looks, LooksAt, Orders, OrdersAt, Recovers, Descends, Modifies, Bases, Stores}
-use Rattle.protocol.specs.Coordinators.{Coordinator, may_be_found, may_be_base, told_length, answers_phase, told_in, told_stamp, bytes_of, bytes_at, has_seat, is_behind, some_behind, refuser_of, greatest_refuser, full_member_of, mover_of, fast_version, found_bytes, pieces_of}
+use Rattle.protocol.specs.declared.phases.Phase.TheVariants.{Looks, LooksAt, Orders, OrdersAt, Recovers, Descends, Modifies, Bases, Stores, LooksBack}
+use Rattle.protocol.specs.Coordinators.{Coordinator, may_be_found, may_be_base, told_length, answers_phase, told_in, told_stamp, bytes_of, bytes_at, has_seat, is_behind, some_behind, refuser_of, greatest_refuser, full_member_of, mover_of, fast_version, found_bytes, pieces_of, asked_group, looks_back, old_bound, dropper_of, greater_refuser}
 use Rattle.protocol.specs.Worlds.{World, Operation, zero_content, number_of}
 use Rattle.fab_base.specs.Layouts.{brick_at}
 use Rattle.protocol_laws.specs.Laws.{AtQuorum, stamp_stored, IsGuarded, IsBlocked, top_in}
 use Rattle.protocol_laws.proofs.Books.{Books, CallBooks, IsOperation, IsCall, IsMade, MadeInPhase, OperationBooks}
 use Rattle.protocol_laws.proofs.Logs.{IsWithin}
-use Rattle.protocol_laws.proofs.Said.{Stamping, Said, IsBegun, IsMadeOrFirst, FloorsAtMost, IsCalled, OrderedSays, OrderedReadSays, FoundSays, ReplySays, CountedSays, EachCounted, AreOnce, IsBlockOf, RequestSays, look_of, want_of, is_looked, IsPassedOver, CollectSays, Stands, IsStamped, WritesWhole, ReadsBack}
+use Rattle.protocol_laws.proofs.Said.{Stamping, Said, IsBegun, IsMadeOrFirst, FloorsAtMost, IsCalled, OrderedSays, OrderedReadSays, FoundSays, ReplySays, CountedSays, EachCounted, AreOnce, IsBlockOf, RequestSays, look_of, want_of, is_looked, IsPassedOver, CollectSays, Stands, IsStamped, WritesWhole, ReadsBack, OldSays, bound_in, ToldSays}
 use Rattle.fab_base.proofs.Seats.{seat_within, brick_at_seat}
 use Rattle.protocol_laws.proofs.Reactions.{max_right, max_most}
 use Rattle.protocol_laws.proofs.Stampings.{begun_once}
-use Rattle.protocol_laws.proofs.Counting.{each_then, each_both, at_quorum, TellsVersion, fast_each, none_refuses, none_full, IsPieceOf, are_pieces, pieces_length, none_behind, bytes_reply, NoneStops, none_moved}
+use Rattle.protocol_laws.proofs.Counting.{each_then, each_both, at_quorum, TellsVersion, fast_each, none_refuses, none_full, IsPieceOf, are_pieces, pieces_length, none_behind, bytes_reply, NoneStops, none_moved, none_dropped}
 use Rattle.protocol.proofs.Blocks.{IsContent}
 
 -- zeros are bytes
@@ -85,9 +86,9 @@ found_at setting views w stamps j i call o order version is says =
           says.says.block;
     }
 
--- a reply that neither refuses what it was asked, nor tells that a store is full or that its member moved on
+-- a reply that neither refuses what it was asked, nor tells that a store is full, that its member moved on, or that it dropped the view before
 abbrev pub Allows : Counted → Type 0
-Allows x = (refuser_of x ≡ None) × ((full_member_of x ≡ None) × (mover_of x ≡ None))
+Allows x = (refuser_of x ≡ None) × ((full_member_of x ≡ None) × ((mover_of x ≡ None) × (dropper_of x ≡ None)))
 
 -- a reply to an order that allows it
 order_answered : (block : ℕ) (t : Stamp) (x : Counted) → answers_phase block t x.seat Orders x.reply ≡ true → Allows x → x.reply ≡ Reply.Ordered
@@ -96,9 +97,9 @@ order_answered block t x answers allows = told x.reply refl answers allows
     told : (reply : Reply) → x.reply ≡ reply → answers_phase block t x.seat Orders reply ≡ true
         → Allows (record { seat = x.seat; brick = x.brick; reply = reply }) → x.reply ≡ Reply.Ordered
     told Reply.Ordered e answers allows = e
-    told (Reply.Later u) e answers (none, (roomy, stays)) = cc
-    told (Reply.Full live) e answers (none, (roomy, stays)) = cc
-    told (Reply.Moved view lineage) e answers (none, (roomy, stays)) = cc
+    told (Reply.Later u) e answers (none, (roomy, (stays, kept))) = cc
+    told (Reply.Full live) e answers (none, (roomy, (stays, kept))) = cc
+    told (Reply.Moved view lineage) e answers (none, (roomy, (stays, kept))) = cc
     told reply e answers allows = absurd (false≢true answers)
 
 -- a reply to a write that allows it
@@ -108,9 +109,9 @@ write_answered block t x answers allows = told x.reply refl answers allows
     told : (reply : Reply) → x.reply ≡ reply → answers_phase block t x.seat Stores reply ≡ true
         → Allows (record { seat = x.seat; brick = x.brick; reply = reply }) → x.reply ≡ Reply.Stored
     told Reply.Stored e answers allows = e
-    told (Reply.Later u) e answers (none, (roomy, stays)) = cc
-    told (Reply.Full live) e answers (none, (roomy, stays)) = cc
-    told (Reply.Moved view lineage) e answers (none, (roomy, stays)) = cc
+    told (Reply.Later u) e answers (none, (roomy, (stays, kept))) = cc
+    told (Reply.Full live) e answers (none, (roomy, (stays, kept))) = cc
+    told (Reply.Moved view lineage) e answers (none, (roomy, (stays, kept))) = cc
     told reply e answers allows = absurd (false≢true answers)
 
 -- and one to a modification, which is not behind
@@ -122,19 +123,19 @@ modify_answered block j t base x answers allows level = told x.reply refl answer
         → Allows (record { seat = x.seat; brick = x.brick; reply = reply }) → is_behind reply ≡ false → x.reply ≡ Reply.Stored
     told Reply.Stored e answers allows level = e
     told (Reply.Behind newest) e answers allows level = absurd (false≢true (sym level))
-    told (Reply.Later u) e answers (none, (roomy, stays)) level = cc
-    told (Reply.Full live) e answers (none, (roomy, stays)) level = cc
-    told (Reply.Moved view lineage) e answers (none, (roomy, stays)) level = cc
+    told (Reply.Later u) e answers (none, (roomy, (stays, kept))) level = cc
+    told (Reply.Full live) e answers (none, (roomy, (stays, kept))) level = cc
+    told (Reply.Moved view lineage) e answers (none, (roomy, (stays, kept))) level = cc
     told reply e answers allows level = absurd (false≢true answers)
 
--- a reply to a phase that looks for a version, which allows it: what was found is looked for
-pub record FoundBy (look : Look) (x : Counted) : Type 0 where
+-- a reply to a phase that looks for a version, or looks back for one, which allows it: what was found is looked for
+pub record FoundBy (back : Bool) (look : Look) (x : Counted) : Type 0 where
   pub found : Option Version
-  pub reply_is : x.reply ≡ Reply.OrderedRead found
+  pub reply_is : x.reply ≡ (if back then Reply.Old found else Reply.OrderedRead found)
   pub looked : (version : Version) → found ≡ Some version → is_looked look version.stamp ≡ true
 
 found_by : (block : ℕ) (t : Stamp) (phase : Phase) (look : Look) (x : Counted) → look_of phase t ≡ Some look
-    → answers_phase block t x.seat phase x.reply ≡ true → Allows x → FoundBy look x
+    → answers_phase block t x.seat phase x.reply ≡ true → Allows x → FoundBy (looks_back phase) look x
 found_by block t phase look x looks answers allows = told phase x.reply look refl looks answers allows
   where
     under : (long : ℕ) (bound : Stamp) (found : Option Version) → may_be_found long bound found ≡ true
@@ -152,7 +153,7 @@ found_by block t phase look x looks answers allows = told phase x.reply look ref
         subst (λ (z : Version). stamp_same z.stamp base ≡ true) same (and_parts (nat_eq (length v.block) block) (stamp_same v.stamp base) may).1
 
     below : (bound : Stamp) (look : Look) (found : Option Version) → x.reply ≡ Reply.OrderedRead found → Some (Below bound) ≡ Some look
-        → ((version : Version) → found ≡ Some version → stamp_below version.stamp bound ≡ true) → FoundBy look x
+        → ((version : Version) → found ≡ Some version → stamp_below version.stamp bound ≡ true) → FoundBy false look x
     below bound look found e looks h = record {
       found = found;
       reply_is = e;
@@ -160,8 +161,17 @@ found_by block t phase look x looks answers allows = told phase x.reply look ref
           let same : Below bound ≡ look = cc in subst (λ (l : Look). is_looked l version.stamp ≡ true) same (h version is);
     }
 
+    back_below : (bound : Stamp) (look : Look) (found : Option Version) → x.reply ≡ Reply.Old found → Some (Below bound) ≡ Some look
+        → ((version : Version) → found ≡ Some version → stamp_below version.stamp bound ≡ true) → FoundBy true look x
+    back_below bound look found e looks h = record {
+      found = found;
+      reply_is = e;
+      looked = λ version is.
+          let same : Below bound ≡ look = cc in subst (λ (l : Look). is_looked l version.stamp ≡ true) same (h version is);
+    }
+
     at : (base : Stamp) (look : Look) (found : Option Version) → x.reply ≡ Reply.OrderedRead found → Some (At base) ≡ Some look
-        → ((version : Version) → found ≡ Some version → stamp_same version.stamp base ≡ true) → FoundBy look x
+        → ((version : Version) → found ≡ Some version → stamp_same version.stamp base ≡ true) → FoundBy false look x
     at base look found e looks h = record {
       found = found;
       reply_is = e;
@@ -170,23 +180,26 @@ found_by block t phase look x looks answers allows = told phase x.reply look ref
     }
 
     told : (p : Phase) (reply : Reply) (l : Look) → x.reply ≡ reply → look_of p t ≡ Some l → answers_phase block t x.seat p reply ≡ true
-        → Allows (record { seat = x.seat; brick = x.brick; reply = reply }) → FoundBy l x
+        → Allows (record { seat = x.seat; brick = x.brick; reply = reply }) → FoundBy (looks_back p) l x
     told (OrdersAt j) (Reply.OrderedRead found) l e looks answers allows = below t l found e looks (under (told_length block j x.seat) t found answers)
-    told (OrdersAt j) (Reply.Later u) l e looks answers (none, (roomy, stays)) = cc
-    told (OrdersAt j) (Reply.Full live) l e looks answers (none, (roomy, stays)) = cc
-    told (OrdersAt j) (Reply.Moved view lineage) l e looks answers (none, (roomy, stays)) = cc
+    told (OrdersAt j) (Reply.Later u) l e looks answers (none, (roomy, (stays, kept))) = cc
+    told (OrdersAt j) (Reply.Full live) l e looks answers (none, (roomy, (stays, kept))) = cc
+    told (OrdersAt j) (Reply.Moved view lineage) l e looks answers (none, (roomy, (stays, kept))) = cc
     told Recovers (Reply.OrderedRead found) l e looks answers allows = below t l found e looks (under block t found answers)
-    told Recovers (Reply.Later u) l e looks answers (none, (roomy, stays)) = cc
-    told Recovers (Reply.Full live) l e looks answers (none, (roomy, stays)) = cc
-    told Recovers (Reply.Moved view lineage) l e looks answers (none, (roomy, stays)) = cc
+    told Recovers (Reply.Later u) l e looks answers (none, (roomy, (stays, kept))) = cc
+    told Recovers (Reply.Full live) l e looks answers (none, (roomy, (stays, kept))) = cc
+    told Recovers (Reply.Moved view lineage) l e looks answers (none, (roomy, (stays, kept))) = cc
     told (Descends bound) (Reply.OrderedRead found) l e looks answers allows = below bound l found e looks (under block bound found answers)
-    told (Descends bound) (Reply.Later u) l e looks answers (none, (roomy, stays)) = cc
-    told (Descends bound) (Reply.Full live) l e looks answers (none, (roomy, stays)) = cc
-    told (Descends bound) (Reply.Moved view lineage) l e looks answers (none, (roomy, stays)) = cc
+    told (Descends bound) (Reply.Later u) l e looks answers (none, (roomy, (stays, kept))) = cc
+    told (Descends bound) (Reply.Full live) l e looks answers (none, (roomy, (stays, kept))) = cc
+    told (Descends bound) (Reply.Moved view lineage) l e looks answers (none, (roomy, (stays, kept))) = cc
+    told (LooksBack bound) (Reply.Old found) l e looks answers allows =
+        back_below (old_bound t bound) l found e looks (under block (old_bound t bound) found answers)
+    told (LooksBack bound) Reply.Retired l e looks answers (none, (roomy, (stays, kept))) = cc
     told (Bases base) (Reply.OrderedRead found) l e looks answers allows = at base l found e looks (same_base base found answers)
-    told (Bases base) (Reply.Later u) l e looks answers (none, (roomy, stays)) = cc
-    told (Bases base) (Reply.Full live) l e looks answers (none, (roomy, stays)) = cc
-    told (Bases base) (Reply.Moved view lineage) l e looks answers (none, (roomy, stays)) = cc
+    told (Bases base) (Reply.Later u) l e looks answers (none, (roomy, (stays, kept))) = cc
+    told (Bases base) (Reply.Full live) l e looks answers (none, (roomy, (stays, kept))) = cc
+    told (Bases base) (Reply.Moved view lineage) l e looks answers (none, (roomy, (stays, kept))) = cc
     told Looks reply l e looks answers allows = cc
     told (LooksAt j) reply l e looks answers allows = cc
     told Orders reply l e looks answers allows = cc
@@ -194,11 +207,12 @@ found_by block t phase look x looks answers allows = told phase x.reply look ref
     told Stores reply l e looks answers allows = cc
     told p reply l e looks answers allows = absurd (false≢true answers)
 
--- a phase that looks below a bound looks below its own stamp, or descends
-pub bound_cases : (p : Phase) (t bound : Stamp) → look_of p t ≡ Some (Below bound) → (bound ≡ t) ⊎ (p ≡ Descends bound)
+-- a phase that looks below a bound looks below its own stamp, or no quorum will ever hold a version from the bound up to that
+pub bound_cases : (p : Phase) (t bound : Stamp) → look_of p t ≡ Some (Below bound) → (bound ≡ t) ⊎ (bound_in p t ≡ Some bound)
 bound_cases (OrdersAt j) t bound looks = let same : bound ≡ t = cc in inl same
 bound_cases Recovers t bound looks = let same : bound ≡ t = cc in inl same
-bound_cases (Descends b) t bound looks = let same : b ≡ bound = cc in inr (ap Descends same)
+bound_cases (Descends b) t bound looks = let same : b ≡ bound = cc in inr (ap (λ (z : Stamp). Some z) same)
+bound_cases (LooksBack b) t bound looks = let same : old_bound t b ≡ bound = cc in inr (ap (λ (z : Stamp). Some z) same)
 bound_cases p t bound looks = cc
 
 -- a phase that looks for one version reads it back
@@ -228,14 +242,20 @@ wanted_long block t seat (Descends bound) (Reply.OrderedRead (Some v)) version i
     let same : v ≡ version = cc in
     ap (λ (z : Version). length z.block) (sym same)
     ∙ eqb-true (length v.block) block (and_parts (nat_eq (length v.block) block) (stamp_below v.stamp bound) answers).0
+wanted_long block t seat (LooksBack bound) (Reply.Old (Some v)) version is answers wanted =
+    let same : v ≡ version = cc in
+    ap (λ (z : Version). length z.block) (sym same)
+    ∙ eqb-true (length v.block) block (and_parts (nat_eq (length v.block) block) (stamp_below v.stamp (old_bound t bound)) answers).0
 wanted_long block t seat (Bases base) (Reply.OrderedRead (Some v)) version is answers wanted =
     let same : v ≡ version = cc in
     ap (λ (z : Version). length z.block) (sym same)
     ∙ eqb-true (length v.block) block (and_parts (nat_eq (length v.block) block) (stamp_same v.stamp base) answers).0
 wanted_long block t seat phase (Reply.Found order None) version is answers wanted = cc
 wanted_long block t seat phase (Reply.OrderedRead None) version is answers wanted = cc
+wanted_long block t seat phase (Reply.Old None) version is answers wanted = cc
 wanted_long block t seat phase (Reply.Found order (Some v)) version is answers wanted = absurd (false≢true answers)
 wanted_long block t seat phase (Reply.OrderedRead (Some v)) version is answers wanted = absurd (false≢true answers)
+wanted_long block t seat phase (Reply.Old (Some v)) version is answers wanted = absurd (false≢true answers)
 wanted_long block t seat phase reply version is answers wanted = cc
 
 -- which is no empty one
@@ -259,13 +279,13 @@ told_version_is x (Some version) v is told =
 module _ (setting : Setting) (views : Views) (sound : IsSound setting) (w : World) (stamps : Stamping) (me : BrickId) (c : Coordinator)
     (books : Books setting w) (said : Said setting views w stamps) (is : IsCall w me.0 c.call.seq c)
     (counted : List Counted) (each : EachCounted (CountedSays setting views w me.0 c) counted) (once : AreOnce counted)
-    (many : quorum_of c.group ≤ length counted) where
-  -- its group, and its members
+    (many : quorum_of (asked_group c) ≤ length counted) where
+  -- the group as those keep it that are asked
   abbrev group : Group
-  group = c.group
+  group = asked_group c
 
   group_is : group_in setting.layout views c.call.group.0 c.call.view.0 ≡ Some group
-  group_is = (said.calls me.0 c.call.seq c is).group
+  group_is = asked_is setting views w stamps books said me.0 c.call.seq c is
 
   abbrev its : CallBooks setting w me.0 c.call.seq c
   its = books.calls me.0 c.call.seq c is
@@ -276,7 +296,7 @@ module _ (setting : Setting) (views : Views) (sound : IsSound setting) (w : Worl
 
   -- of the view of its call
   its_group : (v : Stamp) → view_of v ≡ c.call.view.0 → group_in setting.layout views its_operation.ask.group.0 (view_of v) ≡ Some group
-  its_group v = call_in setting views w stamps books said me.0 c.call.seq c is its_operation.ask.group.0 v (ap (λ a. a.group.0) (sym its.ask))
+  its_group v = asked_in setting views w stamps books said me.0 c.call.seq c is its_operation.ask.group.0 v (ap (λ a. a.group.0) (sym its.ask))
 
   -- the layout's group, which has as many data blocks
   its_books : OperationBooks setting w (number_of w me.0 c.call.seq) its_operation
@@ -284,6 +304,7 @@ module _ (setting : Setting) (views : Views) (sound : IsSound setting) (w : Worl
 
   m_same : its_books.group.m ≡ group.m
   m_same = m_is setting views w stamps books said me.0 c.call.seq c is its_operation.ask.group.0 its_books.group (ap (λ a. a.group.0) (sym its.ask)) its_books.group_is
+      ∙ sym (asked_m c)
 
   -- its members are within the limits
   pub its_limits : IsWithinLimits group.m (length group.members)
@@ -375,8 +396,27 @@ module _ (setting : Setting) (views : Views) (sound : IsSound setting) (w : Worl
   each_allows : greatest_refuser counted ≡ None → NoneStops counted → EachCounted (λ x. CountedSays setting views w me.0 c x × Allows x) counted
   each_allows none roomy =
       each_both (CountedSays setting views w me.0 c) Allows counted each
-      (each_both (λ x. refuser_of x ≡ None) (λ x. (full_member_of x ≡ None) × (mover_of x ≡ None)) counted (none_refuses counted none)
-      (each_both (λ x. full_member_of x ≡ None) (λ x. mover_of x ≡ None) counted (none_full counted roomy.1) (none_moved counted roomy.0)))
+      (each_both (λ x. refuser_of x ≡ None) (λ x. (full_member_of x ≡ None) × ((mover_of x ≡ None) × (dropper_of x ≡ None))) counted (none_refuses counted none)
+      (each_both (λ x. full_member_of x ≡ None) (λ x. (mover_of x ≡ None) × (dropper_of x ≡ None)) counted (none_full counted roomy.2)
+      (each_both (λ x. mover_of x ≡ None) (λ x. dropper_of x ≡ None) counted (none_moved counted roomy.0) (none_dropped counted roomy.1))))
+
+  -- no reply to a phase that looks back tells of a later stamp
+  pub back_unrefused : looks_back c.phase ≡ true → greatest_refuser counted ≡ None
+  back_unrefused back = none_of counted each
+    where
+      none_at : (x : Counted) → CountedSays setting views w me.0 c x → refuser_of x ≡ None
+      none_at x says =
+          let bound = back_is c.phase back in
+          by bound.0 x.reply (subst (λ (p : Phase). answers_phase setting.layout.block c.stamp x.seat p x.reply ≡ true) bound.1 says.answers)
+        where
+          by : (bound : Option Stamp) (r : Reply) → answers_phase setting.layout.block c.stamp x.seat (LooksBack bound) r ≡ true
+              → refuser_of (record { seat = x.seat; brick = x.brick; reply = r }) ≡ None
+          by bound (Reply.Later t) answers = absurd (false≢true answers)
+          by bound r answers = refl
+
+      none_of : (l : List Counted) → EachCounted (CountedSays setting views w me.0 c) l → greatest_refuser l ≡ None
+      none_of [] all = refl
+      none_of (x ∷ l) all = ap (λ (r : Option Refuser). greater_refuser r (greatest_refuser l)) (none_at x all.0) ∙ none_of l all.1
 
   -- an order that was answered
   ordered_seat : c.phase ≡ Orders → (x : Counted) → CountedSays setting views w me.0 c x → Allows x → PromisesAt x
@@ -453,9 +493,15 @@ module _ (setting : Setting) (views : Views) (sound : IsSound setting) (w : Worl
       (each_both (λ x. CountedSays setting views w me.0 c x × Allows x) (λ x. is_behind x.reply ≡ false) counted (each_allows none roomy)
       (none_behind counted level)))
 
+  -- what a member that answers a phase has come to: the operation's stamp, or, where the phase looks back, the first stamp of its view
+  abbrev pub needed : Stamp
+  needed = if looks_back c.phase then floor_of c.stamp.view.0 else c.stamp
+
   -- what a reply to a phase that looks for a version shows
   pub record ReadsAt (look : Look) (x : Counted) : Type 0 where
-    pub promises : PromisesAt x
+    pub within : x.seat < length group.members
+    pub top : stamp_below (come_to x.seat) needed ≡ false
+    pub promises : looks_back c.phase ≡ false → PromisesAt x
     pub found : Option Version
     pub found_is : told_in x.reply ≡ found
     pub newest : (d : Stamp) → view_of d ≡ c.call.view.0 → held_at x.seat d ≡ true → is_looked look d ≡ true → IsWithin found d
@@ -531,10 +577,10 @@ module _ (setting : Setting) (views : Views) (sound : IsSound setting) (w : Worl
       blocked (Below bound) looks looked unlooked less = ⊎_elim
           (λ (own : bound ≡ c.stamp).
           absurd (false≢true (sym unlooked ∙ subst (λ (t : Stamp). stamp_below passed.at t ≡ true) (sym own) less)))
-          (λ (lower : c.phase ≡ Descends bound).
+          (λ (lower : bound_in c.phase c.stamp ≡ Some bound).
           subst (λ (a : Ask). IsBlocked w a.group.0 a.stripe.0 group passed.at) its.ask
           ((said.calls me.0 c.call.seq c is).covered bound lower passed.at group
-          (call_in setting views w stamps books said me.0 c.call.seq c is c.ask.group.0 passed.at refl passed.of) (unlooked, less)))
+          (asked_in setting views w stamps books said me.0 c.call.seq c is c.ask.group.0 passed.at refl passed.of) (unlooked, less)))
           (bound_cases c.phase c.stamp bound looks)
       blocked (At base) looks looked unlooked less =
           let made : IsMade c its_operation × (c.base ≡ Some base)
@@ -552,38 +598,90 @@ module _ (setting : Setting) (views : Views) (sound : IsSound setting) (w : Worl
               back.blocked passed.at group (its_group passed.at passed.of)
               (subst (λ (t : Stamp). stamp_below t passed.at ≡ true) (sym same) passed.above, less)
 
-  read_seat : (look : Look) → look_of c.phase c.stamp ≡ Some look → (x : Counted) → CountedSays setting views w me.0 c x → Allows x → ReadsAt look x
-  read_seat look looks x says allows =
-      let answer : FoundBy look x = found_by setting.layout.block c.stamp c.phase look x looks says.answers allows in
-      let told : OrderedReadSays setting views w stamps x.brick.0 me.0 c.call answer.found
-      = subst (λ (r : Reply). ReplySays setting views w stamps x.brick (record { 0 = me.0 }) c.call r) answer.reply_is (counted_says x says) in
+  -- what a member told of the version that it found: it is within what it found, where it is looked for
+  within_found : (look : Look) → look_of c.phase c.stamp ≡ Some look → (x : Counted) → CountedSays setting views w me.0 c x → (found : Option Version) (t : Stamp)
+      (other : Look) → t ≡ c.stamp → other ≡ look
+      → ((d : Stamp) → view_of d ≡ c.call.view.0 → w.held x.brick.0 c.call.group.0 c.call.stripe.0 d ≡ true → is_looked other d ≡ true
+      → IsWithin found d ⊎ IsPassedOver w c.call.group.0 c.call.view.0 c.call.stripe.0 other t d)
+      → (d : Stamp) → view_of d ≡ c.call.view.0 → held_at x.seat d ≡ true → is_looked look d ≡ true → IsWithin found d
+  within_found look looks x says found t other stamp same newest =
+      at_seat (λ g s j. (d : Stamp) → view_of d ≡ c.call.view.0 → w.held j g s d ≡ true → is_looked look d ≡ true → IsWithin found d) x says
+      (λ d of held looked. ⊎_elim
+      (λ (within : IsWithin found d). within)
+      (λ (passed : IsPassedOver w c.call.group.0 c.call.view.0 c.call.stripe.0 other t d).
+      absurd (none_passed look looks d looked
+      (subst (λ (l : Look). IsPassedOver w c.call.group.0 c.call.view.0 c.call.stripe.0 l c.stamp d) same
+      (subst (λ (u : Stamp). IsPassedOver w c.call.group.0 c.call.view.0 c.call.stripe.0 other u d) stamp passed))))
+      (newest d of held (subst (λ (l : Look). is_looked l d ≡ true) (sym same) looked)))
+
+  -- its block, where that is wanted
+  told_block : (x : Counted) → CountedSays setting views w me.0 c x → (want : Want) (version : Version) → told_in x.reply ≡ Some version
+      → ToldSays setting views w want c.call.group.0 c.call.view.0 c.call.stripe.0 x.brick.0 version → is_wanted (want_of c.phase) x.seat ≡ true
+      → version.block ≡ setting.code.encode group.m (w.contents its_operation.ask.group.0 its_operation.ask.stripe.0 version.stamp) x.seat
+  told_block x says want version is told wanted =
+      of_stripe (λ g s. version.block ≡ setting.code.encode group.m (w.contents g s version.stamp) x.seat)
+      (whole_block setting.layout.block version.block
+      (setting.code.encode group.m (w.contents c.call.group.0 c.call.stripe.0 version.stamp) x.seat) sound.positive
+      (wanted_long setting.layout.block c.stamp x.seat c.phase x.reply version is says.answers wanted)
+      (⊎_elim (λ (none : version.block ≡ []). inl none)
+      (λ (block : IsBlockOf setting views w c.call.group.0 c.call.view.0 c.call.stripe.0 x.brick.0 version.stamp version.block).
+      inr (block group x.seat group_is says.seat))
+      told.block))
+
+  -- a member of the operation's view
+  ordered_read_seat : (look : Look) → look_of c.phase c.stamp ≡ Some look → (x : Counted) → CountedSays setting views w me.0 c x
+      → looks_back c.phase ≡ false → (found : Option Version) → x.reply ≡ Reply.OrderedRead found
+      → ((version : Version) → found ≡ Some version → is_looked look version.stamp ≡ true) → ReadsAt look x
+  ordered_read_seat look looks x says ahead found reply_is looked =
+      let told : OrderedReadSays setting views w stamps x.brick.0 me.0 c.call found
+      = subst (λ (r : Reply). ReplySays setting views w stamps x.brick (record { 0 = me.0 }) c.call r) reply_is (counted_says x says) in
       let same = look_same told.phase told.stamp look told.look told.begun told.look_is looks in
+      let promises : PromisesAt x = promises_at x says told.operation told.stamp told.called same.0 told.promised told.floor in
       record {
-        promises = promises_at x says told.operation told.stamp told.called same.0 told.promised told.floor;
-        found = answer.found;
-        found_is = ap told_in answer.reply_is;
-        newest = at_seat (λ g s j. (d : Stamp) → view_of d ≡ c.call.view.0 → w.held j g s d ≡ true → is_looked look d ≡ true → IsWithin answer.found d) x says
-            (λ d of held looked. ⊎_elim
-            (λ (within : IsWithin answer.found d). within)
-            (λ (passed : IsPassedOver w c.call.group.0 c.call.view.0 c.call.stripe.0 told.look told.stamp d).
-            absurd (none_passed look looks d looked
-            (subst (λ (l : Look). IsPassedOver w c.call.group.0 c.call.view.0 c.call.stripe.0 l c.stamp d) same.1
-            (subst (λ (t : Stamp). IsPassedOver w c.call.group.0 c.call.view.0 c.call.stripe.0 told.look t d) same.0 passed))))
-            (told.newest d of held (subst (λ (l : Look). is_looked l d ≡ true) (sym same.1) looked)));
-        looked = answer.looked;
+        within = promises.within;
+        top = subst (λ (b : Bool). stamp_below (come_to x.seat) (if b then floor_of c.stamp.view.0 else c.stamp) ≡ false) (sym ahead) promises.top;
+        promises = λ is_ahead. promises;
+        found = found;
+        found_is = ap told_in reply_is;
+        newest = within_found look looks x says found told.stamp told.look same.0 same.1 told.newest;
+        looked = looked;
         of = λ version is. (told.says version is).of;
         held = λ version is. at_seat (λ g s j. w.held j g s version.stamp ≡ true) x says (told.held version is);
         made = λ version is. of_stripe (λ g s. IsMadeOrFirst w g s version.stamp) (told.says version is).made;
-        block = λ version is wanted.
-            of_stripe (λ g s. version.block ≡ setting.code.encode group.m (w.contents g s version.stamp) x.seat)
-            (whole_block setting.layout.block version.block
-            (setting.code.encode group.m (w.contents c.call.group.0 c.call.stripe.0 version.stamp) x.seat) sound.positive
-            (wanted_long setting.layout.block c.stamp x.seat c.phase x.reply version (ap told_in answer.reply_is ∙ is) says.answers wanted)
-            (⊎_elim (λ (none : version.block ≡ []). inl none)
-            (λ (block : IsBlockOf setting views w c.call.group.0 c.call.view.0 c.call.stripe.0 x.brick.0 version.stamp version.block).
-            inr (block group x.seat group_is says.seat))
-            (told.says version is).block));
+        block = λ version is wanted. told_block x says (want_of told.phase) version (ap told_in reply_is ∙ is) (told.says version is) wanted;
       }
+
+  -- a member of the view before
+  old_seat : (look : Look) → look_of c.phase c.stamp ≡ Some look → (x : Counted) → CountedSays setting views w me.0 c x
+      → looks_back c.phase ≡ true → (found : Option Version) → x.reply ≡ Reply.Old found
+      → ((version : Version) → found ≡ Some version → is_looked look version.stamp ≡ true) → ReadsAt look x
+  old_seat look looks x says back found reply_is looked =
+      let told : OldSays setting views w stamps x.brick.0 me.0 c.call found
+      = subst (λ (r : Reply). ReplySays setting views w stamps x.brick (record { 0 = me.0 }) c.call r) reply_is (counted_says x says) in
+      let same = look_same (LooksBack told.bound) told.request.stamp look (Below (old_bound told.request.stamp told.bound)) told.request.begun refl looks in
+      record {
+        within = (seat_fits x says).0;
+        top = subst (λ (b : Bool). stamp_below (come_to x.seat) (if b then floor_of c.stamp.view.0 else c.stamp) ≡ false) (sym back)
+            (subst (λ (t : Stamp). stamp_below (come_to x.seat) (floor_of t.view.0) ≡ false) same.0
+            (at_seat (λ g s j. stamp_below (top_in w g s j) (floor_of told.request.stamp.view.0) ≡ false) x says told.passed));
+        promises = λ is_ahead. absurd (false≢true (sym is_ahead ∙ back));
+        found = found;
+        found_is = ap told_in reply_is;
+        newest = within_found look looks x says found told.request.stamp (Below (old_bound told.request.stamp told.bound)) same.0 same.1 told.newest;
+        looked = looked;
+        of = λ version is. (told.says version is).of;
+        held = λ version is. at_seat (λ g s j. w.held j g s version.stamp ≡ true) x says (told.held version is);
+        made = λ version is. of_stripe (λ g s. IsMadeOrFirst w g s version.stamp) (told.says version is).made;
+        block = λ version is wanted. told_block x says All version (ap told_in reply_is ∙ is) (told.says version is) wanted;
+      }
+
+  read_seat : (look : Look) → look_of c.phase c.stamp ≡ Some look → (x : Counted) → CountedSays setting views w me.0 c x → Allows x → ReadsAt look x
+  read_seat look looks x says allows =
+      by (looks_back c.phase) refl (found_by setting.layout.block c.stamp c.phase look x looks says.answers allows)
+    where
+      by : (b : Bool) → looks_back c.phase ≡ b → FoundBy b look x → ReadsAt look x
+      by false ahead answer = ordered_read_seat look looks x says ahead answer.found answer.reply_is answer.looked
+      by true back answer = old_seat look looks x says back answer.found answer.reply_is answer.looked
 
   -- such a phase that a quorum answered
   pub all_read : (look : Look) → look_of c.phase c.stamp ≡ Some look → greatest_refuser counted ≡ None → NoneStops counted
@@ -766,6 +864,6 @@ module _ (setting : Setting) (views : Views) (sound : IsSound setting) (w : Worl
       (each_then (λ x. ReadsAt look x × (told_stamp x.reply ≡ Some v)) (λ x. (x.seat < length group.members) × (held_at x.seat v ≡ true)) counted
       (λ x h.
       let version = told_version_is x h.0.found v h.0.found_is h.1 in
-      (h.0.promises.within, subst (λ (t : Stamp). held_at x.seat t ≡ true) version.2 (h.0.held version.0 version.1)))
+      (h.0.within, subst (λ (t : Stamp). held_at x.seat t ≡ true) version.2 (h.0.held version.0 version.1)))
       (each_both (ReadsAt look) (λ x. told_stamp x.reply ≡ Some v) counted all told))
       once many

@@ -1,6 +1,9 @@
 -- No event lowers what a brick has promised or stored, or drops a version that it holds.
+use Rattle.view_laws.proofs.SyncReads.{synced_at_each}
+use Rattle.fab_base.specs.declared.identities.ViewNo.{ViewNo}
+use Rattle.view_laws.proofs.Syncing.{synced_of, synced_each, synced_views}
 use Rattle.protocol_laws.proofs.Logs.{LogAscends, IsKept}
-use Rattle.std.proofs.Common.{◌≡◌, ◌≢◌, ℕ, ◌≤◌, ◌<◌, ◌-◌, ◌⊎◌, inl, inr, arith, true, nat_eq, ltb-true, List, [], ◌∷◌, Option, Some, None, refl, ⊎_elim, sym, subst, false, ap}
+use Rattle.std.proofs.Common.{◌≡◌, ◌≢◌, ℕ, ◌≤◌, ◌<◌, ◌-◌, ◌⊎◌, inl, inr, arith, true, nat_eq, ltb-true, List, [], ◌∷◌, Option, Some, None, refl, ⊎_elim, sym, subst, false, ap, nat_lt}
 use Rattle.fab_base.specs.declared.identities.BrickId.{BrickId}
 use Rattle.fab_base.specs.declared.asks.Ask.{Ask}
 use Rattle.messages.specs.declared.calls.Call.{Call}
@@ -11,7 +14,7 @@ use Rattle.messages.specs.declared.replies.Reply.{Reply}
 use Rattle.fab_base.specs.Layouts.{Layout, Group}
 use Rattle.protocol.specs.Settings.{Setting}
 use Rattle.protocol.specs.Replicas.{Replica, first_replica, fresh_replica, handle, is_held}
-use Rattle.protocol.specs.Nodes.{Node, put, began, invoked, replica_at, full_at, requested, stopped, restarted, known_after, group_at, replied_at, heard, received, view_at, top_at, NodeStep, with_known, with_round, with_learnt, node_taught_by, node_learnt, view_counted, lists_fit, vote_at, proposed}
+use Rattle.protocol.specs.Nodes.{Node, put, began, invoked, replica_at, full_at, requested, stopped, restarted, known_after, group_at, replied_at, heard, received, view_at, top_at, NodeStep, with_known, with_round, with_learnt, node_taught_by, node_learnt, view_counted, lists_fit, vote_at, proposed, node_synced, synced_at}
 use Rattle.protocol.specs.Worlds.{World, Found, Before, After, Event, world_ticked, world_stopped, world_found, world_started, world_stepped, happens, first_world, run}
 use Rattle.protocol_laws.specs.Laws.{WasSent}
 use Rattle.protocol_laws.proofs.Reactions.{handle_after}
@@ -27,7 +30,7 @@ use Rattle.protocol_laws.proofs.Left.{IsLeft, kept_of, Leaves, always_leaves, pa
 use Rattle.protocol_laws.proofs.Blocking.{LogsFit, PartsStay, parts_then, first_fits}
 use Rattle.protocol_laws.proofs.Steps.{KeepsParts, keeps_same, keeps_places, parts_by, parts_kept, parts_same}
 use Rattle.protocol.proofs.Events.{EventCases, step_on, world_handled, happens_each, onward}
-use Rattle.protocol_laws.proofs.Tops.{KeepsPlaces, top_by, top_learns, top_accepts, kept_now}
+use Rattle.protocol_laws.proofs.Tops.{KeepsPlaces, top_by, top_learns, top_accepts, kept_now, top_views}
 use Rattle.protocol.specs.Views.{Learnt, first_kept, is_later, view_told}
 use Rattle.fab_base.specs.declared.identities.GroupId.{GroupId}
 use Rattle.fab_base.specs.declared.member_lists.View.{View}
@@ -106,6 +109,53 @@ learning_keeps layout g node view later has = record {
         top_by node next h s (put_other node.learnt g (newly_learnt view) h other) (put_other node.ballots g _ h other)
         (ap (λ (r : ℕ → ℕ → Replica). r (view_at node h) s) (put_other node.replicas g _ h other))
 
+-- a brick that hears that all stripes are kept in its view comes as far, and forgets only what is of the views before
+pub syncing_keeps : (layout : Layout) (g : ℕ) (node : Node) → KeepsParts node (with_learnt layout.block g node (synced_of node g))
+syncing_keeps layout g node = record {
+  views = put_each (λ h (l : Learnt). view_at node h ≤ l.view.number.0) node.learnt g (synced_of node g) (omega arith) (λ h other. omega arith);
+  tops = λ h s. subst (λ (t : Stamp). stamp_below t (top_at node h s) ≡ false) (sym (top_same_at h s)) (stamp_below_irrefl (top_at node h s));
+  firsts = put_each (λ h (l : Learnt). first_kept (node.learnt h) ≤ first_kept l) node.learnt g (synced_of node g) (kept_now (node.learnt g)) (λ h other. omega arith);
+  orders = dropped_each (λ h e s r. first_kept (next.learnt h) ≤ e → (node.replicas h e s).order.time ≤ r.order.time) layout.block g first node
+      (λ h e s within. omega arith) (λ e s before within. absurd (gone e before within));
+  kept = λ h e s t. dropped_each (λ h e s r. first_kept (next.learnt h) ≤ e → IsKept t (node.replicas h e s).log → IsKept t r.log) layout.block g first node
+      (λ h e s within kept. kept) (λ e s before within. absurd (gone e before within)) h e s;
+  newer = λ h e s t. dropped_each (λ h e s r. first_kept (next.learnt h) ≤ e → is_held t r.log ≡ true
+      → (is_held t (node.replicas h e s).log ≡ true) ⊎ (stamp_below t (top_at node h s) ≡ false)) layout.block g first node
+      (λ h e s within held. inl held) (λ e s before within. absurd (gone e before within)) h e s;
+  again = λ h e s t. dropped_each (λ h e s r. e < first_kept (next.learnt h) → is_held t r.log ≡ true
+      → (is_held t (node.replicas h e s).log ≡ true) ⊎ (t ≡ first_stamp)) layout.block g first node
+      (λ h e s before held. inl held) (λ e s before less held. inr (fresh_first layout.block e t held)) h e s;
+  ascends = dropped_each (λ h e s r. LogAscends (node.replicas h e s).log → LogAscends r.log) layout.block g first node
+      (λ h e s ascends. ascends) (λ e s before ascends. fresh_ascends layout.block e);
+}
+  where
+    next : Node
+    next = with_learnt layout.block g node (synced_of node g)
+
+    first : ℕ
+    first = view_at node g
+
+    gone : (e : ℕ) → e < first → first_kept (next.learnt g) ≤ e → ⊥
+    gone e before within =
+        let is : first_kept (next.learnt g) ≡ first = ap (λ (l : Learnt). first_kept l) (put_same node.learnt g (synced_of node g)) in
+        omega (arith, before, within, is)
+
+    same_part : (h s : ℕ) → next.replicas h (view_at node h) s ≡ node.replicas h (view_at node h) s
+    same_part h s =
+        put_each (λ i (t : ℕ → ℕ → Replica). t (view_at node i) s ≡ node.replicas i (view_at node i) s) node.replicas g _
+        (cond_both (nat_lt (view_at node g) (view_at node g)) (fresh_replica layout.block (view_at node g)) (node.replicas g (view_at node g) s)
+        (λ (r : Replica). r ≡ node.replicas g (view_at node g) s)
+        (λ less. absurd (let never = ltb-true (view_at node g) (view_at node g) less in omega (arith, never))) (λ isnt. refl))
+        (λ i other. refl) h
+
+    top_same_at : (h s : ℕ) → top_at next h s ≡ top_at node h s
+    top_same_at h s = let views = synced_views layout node g h in top_views node next h s views.0 views.1 (same_part h s)
+
+pub synced_keeps : (layout : Layout) (node : Node) (group : GroupId) (number : ViewNo) → KeepsParts node (node_synced layout node group number)
+synced_keeps layout node group number =
+    synced_each (λ (n : Node). KeepsParts node n) layout node group number (keeps_same node node (refl, refl, refl))
+    (λ now unsynced. syncing_keeps layout group.0 node)
+
 -- so does one that votes: it keeps its parts
 pub voting_keeps : (node : Node) (call : Call) (ballot : Ballot) (asks : Option (List BrickId))
     → KeepsParts node (with_vote node call (vote_at node call ballot asks))
@@ -173,6 +223,7 @@ module _ (setting : Setting) where
   message_keeps me from to now node (Message.Request call request) rises has is = request_keeps me from node call request rises has is
   message_keeps me from to now node (Message.Reply call reply) rises has is = heard_keeps setting me now from node call reply has
   message_keeps me from to now node (Message.Learn group view) rises has is = learnt_keeps setting.layout node group view has
+  message_keeps me from to now node (Message.Synced group number) rises has is = synced_keeps setting.layout node group number
   message_keeps me from to now node message rises has is = keeps_same node node (refl, refl, refl)
 
   -- what a brick keeps of a message
@@ -184,6 +235,7 @@ module _ (setting : Setting) where
       cond_both (lists_fit setting.layout call reply) (node_taught_by setting.layout.block call.group.0 node (view_told reply)) node
       (λ (n : Node). KeepsParts node n) (λ fit. taught_keeps setting.layout call.group.0 node (view_told reply) has) (λ isnt. keeps_same node node (refl, refl, refl))
   kept_keeps me from to node (Message.Learn group view) rises has is = learnt_keeps setting.layout node group view has
+  kept_keeps me from to node (Message.Synced group number) rises has is = synced_keeps setting.layout node group number
   kept_keeps me from to node message rises has is = keeps_same node node (refl, refl, refl)
 
 -- a brick stops or starts with its places as they are
@@ -229,6 +281,11 @@ module _ (setting : Setting) where
       proposed_each (λ (step : NodeStep). KeepsPlaces node step.node) setting me node group members
       (λ seq round proposal packets reports more are. (refl, refl, refl))
 
+  sync_places : (me : BrickId) (now : ℕ) (node : Node) (group : GroupId) → KeepsPlaces node (synced_at setting me now node group).node
+  sync_places me now node group =
+      synced_at_each (λ (step : NodeStep). KeepsPlaces node step.node) setting me now node group (refl, refl, refl) (λ answer. (refl, refl, refl))
+      (λ answer. (refl, refl, refl)) (λ kept is. (refl, refl, refl))
+
   -- every event leaves the parts as they may become
   stay_cases : (w : World) → Leaves setting w → StampViews setting.layout w → LogsFit w → EventCases setting w (PartsStay w)
   stay_cases w leaves views logged = record {
@@ -239,6 +296,10 @@ module _ (setting : Setting) where
         parts_by w (world_stepped setting w brick (proposed setting brick (w.nodes brick.0) group members)) brick.0
         (proposed setting brick (w.nodes brick.0) group members).node refl refl logged
         (keeps_same (w.nodes brick.0) _ (proposed_places brick (w.nodes brick.0) group members));
+    syncs = λ brick group may.
+        parts_by w (world_stepped setting w brick (synced_at setting brick (w.clocks brick.0) (w.nodes brick.0) group)) brick.0
+        (synced_at setting brick (w.clocks brick.0) (w.nodes brick.0) group).node refl refl logged
+        (keeps_same (w.nodes brick.0) _ (sync_places brick (w.clocks brick.0) (w.nodes brick.0) group));
     handles = λ number packet at up.
         parts_by w (world_handled setting w number packet) packet.to.0 (step_on setting w packet).node refl refl logged
         (message_keeps setting packet.to packet.from packet.to (w.clocks packet.to.0) (w.nodes packet.to.0) packet.message

@@ -1,7 +1,10 @@
 -- What was said stays said: nothing falls, messages and versions stay, and a version's content does not change.
-use Rattle.protocol.specs.Views.{Views}
+use Rattle.messages.specs.declared.requests.Want.TheVariants.{All}
+use Rattle.messages.specs.declared.requests.Look.TheVariants.{Below}
+use Rattle.protocol_laws.proofs.Tops.{before_floor}
+use Rattle.protocol.specs.Views.{Views, floor_of}
 use Rattle.protocol_laws.proofs.Logs.{IsWithin}
-use Rattle.std.proofs.Common.{◌≡◌, ℕ, ◌≤◌, ◌⊎◌, inl, inr, true, false, not, List, length, Option, Some, None, refl, sym, ap, ◌∙◌, subst, ⊎_elim, arith, []}
+use Rattle.std.proofs.Common.{◌≡◌, ℕ, ◌+◌, ◌≤◌, ◌⊎◌, inl, inr, true, false, not, List, length, Option, Some, None, refl, sym, ap, ◌∙◌, subst, ⊎_elim, arith, []}
 use Rattle.std.proofs.lemmas.Bool.{not-true, not_from_false, false≢true}
 use Rattle.fab_base.specs.declared.identities.BrickId.{BrickId}
 use Rattle.fab_base.specs.declared.stamps.Stamp.{Stamp}
@@ -20,21 +23,22 @@ use Rattle.messages.specs.declared.requests.Want.{Want}
 use Rattle.messages.specs.declared.requests.Version.{Version}
 use Rattle.messages.specs.declared.replies.Reply.{Reply}
 use Rattle.quorum.proofs.Counts.{count_monotone}
-use Rattle.fab_base.specs.Layouts.{Group}
+use Rattle.fab_base.specs.Layouts.{Group, brick_at}
 use Rattle.reg_model.specs.Registers.{block_of, with_block, after_op, read_of}
 use Rattle.protocol.specs.Settings.{Setting}
 use Rattle.protocol.specs.Replicas.{stamp_max, modified_block}
 use Rattle.protocol.specs.declared.phases.Phase.{Phase}
-use Rattle.protocol.specs.declared.phases.Phase.TheVariants.{Orders, Stores, Modifies}
+use Rattle.protocol.specs.declared.phases.Phase.TheVariants.{Orders, Stores, Modifies, LooksBack}
 use Rattle.protocol.specs.declared.phases.Counted.{Counted}
-use Rattle.protocol.specs.Coordinators.{Coordinator, request_of}
+use Rattle.protocol.specs.Coordinators.{Coordinator, request_of, old_bound}
+use Rattle.protocol.specs.Jobs.{Job}
 use Rattle.protocol.specs.Worlds.{World, Operation}
 use Rattle.protocol.specs.Happenings.{writes}
 use Rattle.fab_base.specs.Layouts.{brick_at}
-use Rattle.protocol_laws.specs.Laws.{WasSent, AskedAt, IsModified, IsGuarded, NeverFalls, top_in}
+use Rattle.protocol_laws.specs.Laws.{WasSent, AskedAt, IsModified, IsGuarded, NeverFalls, top_in, AtQuorum}
 use Rattle.protocol_laws.proofs.Books.{Books, OperationBooks, IsOperation}
 use Rattle.protocol_laws.proofs.Blocking.{PartsStay, blocked_stays, stands_stays, NewIsLogged}
-use Rattle.protocol_laws.proofs.Said.{Stamping, IsBegun, IsStamped, Stands, AreBlocked, IsMadeOrFirst, IsKnown, IsCalled, IsBlockOf, VersionSays, WriteSays, RequestSays, ReadSays, want_of, OrderedSays, OrderedReadSays, FoundSays, ReplySays, MessageSays, PacketSays, HasVersion, WritesWhole, ReadsBack, OperationSays, CountedSays, CallSays, DataShown, EndShows, FitsPhase, DescendsFrom, ToldSays, MakerSays, ChangesBlock, ModifySays, OrderSays, OrderReadSays, MadeOn, WasCollected, IsPassedOver}
+use Rattle.protocol_laws.proofs.Said.{Stamping, IsBegun, IsStamped, Stands, AreBlocked, IsMadeOrFirst, IsKnown, IsCalled, IsBlockOf, VersionSays, WriteSays, RequestSays, ReadSays, want_of, OrderedSays, OrderedReadSays, FoundSays, ReplySays, MessageSays, PacketSays, HasVersion, WritesWhole, ReadsBack, OperationSays, CountedSays, CallSays, DataShown, EndShows, FitsPhase, DescendsFrom, ToldSays, MakerSays, ChangesBlock, ModifySays, OrderSays, OrderReadSays, MadeOn, WasCollected, IsPassedOver, OldReadSays, OldSays, BackSays, JobSays, ArePassed}
 use Rattle.protocol_laws.proofs.Stampings.{StampsGrow, stays_begun, stays_stamped, stays_known}
 use Rattle.protocol_laws.proofs.Counting.{each_then}
 use Rattle.protocol.proofs.Blocks.{IsContent}
@@ -52,6 +56,7 @@ pub record Continues (o p : Operation) : Type 0 where
   pub made : (v : Stamp) → o.version ≡ Some v → p.made ≡ o.made
   pub base : (v : Stamp) → o.version ≡ Some v → p.base ≡ o.base
   pub answered : o.answered ≡ true → p.answered ≡ true
+  pub mark : p.mark ≡ o.mark
 
 -- an unchanged operation goes on
 pub continues_same : (o : Operation) → Continues o o
@@ -67,6 +72,7 @@ continues_same o = record {
   made = λ v is. refl;
   base = λ v is. refl;
   answered = λ is. is;
+  mark = refl;
 }
 
 -- from one world to the next nothing that was said is lost
@@ -169,6 +175,10 @@ module _ (setting : Setting) (views : Views) (w next : World) (stamps later : St
   -- what is guarded stays guarded
   pub stays_guarded : (g s : ℕ) (group : Group) (t : Stamp) → IsGuarded w g s group t → IsGuarded next g s group t
   stays_guarded g s group t guarded = guarded_stays w next grows.parts.tops g s group t guarded
+
+  -- what was passed stays passed
+  pub stay_passed : (g most : ℕ) → ArePassed setting views w g most → ArePassed setting views next g most
+  stay_passed g most passed e s group least less is = stays_guarded g s group (floor_of (e + 1)) (passed e s group least less is)
 
   -- what is blocked stays blocked
   pub stay_blocked : (g s : ℕ) (Q : Stamp → Type 0) → AreBlocked setting views w g s Q → AreBlocked setting views next g s Q
@@ -298,12 +308,20 @@ module _ (setting : Setting) (views : Views) (w next : World) (stamps later : St
         called = goes.1;
         phase = says.phase;
         begun = stays_phase i call.boot call.seq call.phase says.phase t says.begun;
+        ahead = says.ahead;
         look_is = says.look_is;
         want_is = says.want_is;
         fits = subst (λ (a : Ask). FitsPhase says.phase a.op) (sym goes.2.ask) says.fits;
         from = subst (λ (a : Ask). DescendsFrom says.phase a.op t) (sym goes.2.ask) says.from;
         below = says.below;
       }
+
+  stays_old_read : (i : ℕ) (call : Call) (bound : Option Stamp) → OldReadSays stamps i call bound → OldReadSays later i call bound
+  stays_old_read i call bound says = record {
+    stamp = says.stamp;
+    begun = stays_phase i call.boot call.seq call.phase (LooksBack bound) says.stamp says.begun;
+    view = says.view;
+  }
 
   pub stays_request : (i j : ℕ) (call : Call) (request : Request) → RequestSays setting views w stamps i j call request
       → RequestSays setting views next later i j call request
@@ -321,6 +339,7 @@ module _ (setting : Setting) (views : Views) (w next : World) (stamps later : St
         version = goes.2.version c says.version;
         answered = goes.2.answered says.answered;
       }
+  stays_request i j call (Request.OldRead bound) says = stays_old_read i call bound says
   stays_request i j call request says = tt
 
   pub stays_ordered : (j i : ℕ) (call : Call) → OrderedSays w stamps j i call → OrderedSays next later j i call
@@ -389,6 +408,35 @@ module _ (setting : Setting) (views : Views) (w next : World) (stamps later : St
         says = λ version is. stays_told (want_of says.phase) call.group.0 call.view.0 call.stripe.0 j version (says.says version is);
       }
 
+  -- so does what was found in a view that its member serves no more, since nothing comes to be held below the first stamp of the next
+  stays_old : (j i : ℕ) (call : Call) (found : Option Version) → OldSays setting views w stamps j i call found → OldSays setting views next later j i call found
+  unfolding stays_old_read
+  stays_old j i call found says = record {
+    bound = says.bound;
+    request = stays_old_read i call says.bound says.request;
+    passed = stays_above call.group.0 call.stripe.0 j (floor_of says.request.stamp.view.0) says.passed;
+    newest = λ d of held less. ⊎_elim
+        (λ (was : w.held j call.group.0 call.stripe.0 d ≡ true). ⊎_elim
+        (λ (within : IsWithin found d). inl within)
+        (λ (passed : IsPassedOver w call.group.0 call.view.0 call.stripe.0 (Below (old_bound says.request.stamp says.bound)) says.request.stamp d). inr (record {
+          at = passed.at;
+          of = passed.of;
+          above = passed.above;
+          unlooked = passed.unlooked;
+          most = passed.most;
+          collected = stays_collected w next grows.sent call.group.0 call.stripe.0 passed.at passed.collected;
+        }))
+        (says.newest d of was less))
+        (λ (new : stamp_below d (top_in w call.group.0 call.stripe.0 j) ≡ false).
+        let after = says.request.view in
+        let above : stamp_below d (floor_of says.request.stamp.view.0) ≡ false
+        = stamp_not_below_trans (floor_of says.request.stamp.view.0) (top_in w call.group.0 call.stripe.0 j) d says.passed new in
+        absurd (false≢true (sym above ∙ before_floor d says.request.stamp.view.0 (omega (arith, of, after)))))
+        (grows.parts.newer call.group.0 call.stripe.0 j d held);
+    held = λ version is. grows.parts.held call.group.0 call.stripe.0 j version.stamp (says.held version is);
+    says = λ version is. stays_told All call.group.0 call.view.0 call.stripe.0 j version (says.says version is);
+  }
+
   -- what was asked stays asked
   pub stays_asked : (call : Call) (from to : BrickId) (t : Stamp) → AskedAt w call from to t → AskedAt next call from to t
   stays_asked call from to t asked =
@@ -408,12 +456,15 @@ module _ (setting : Setting) (views : Views) (w next : World) (stamps later : St
   )
   stays_reply from to call (Reply.Later x) says = (says.0, stays_asked call to from says.0 says.1, says.2)
   stays_reply from to call (Reply.Full live) says = says
+  stays_reply from to call (Reply.Old found) says = stays_old from.0 to.0 call found says
   stays_reply from to call reply says = tt
 
   pub stays_message : (from to : BrickId) (message : Message) → MessageSays setting views w stamps from to message
       → MessageSays setting views next later from to message
   stays_message from to (Message.Request call request) says = stays_request from.0 to.0 call request says
   stays_message from to (Message.Reply call reply) says = stays_reply from to call reply says
+  stays_message from to (Message.Synced group number) says = λ s its is within.
+      let had = says s its is within in (had.0, had.1, stays_standing group.0 s had.0 had.2)
   stays_message from to message says = tt
 
   -- what a packet says stays said
@@ -456,6 +507,7 @@ module _ (setting : Setting) (views : Views) (w next : World) (stamps later : St
   stays_operation n o is says = record {
     begin = omega (arith, says.begin, grows.marks);
     view = (says.view.0, (let rises = grows.parts.views o.brick.0 o.ask.group.0 in let was = says.view.1 in omega (arith, rises, was)));
+    passed = stay_passed o.ask.group.0 o.view says.passed;
     floors = λ i. stays_above o.ask.group.0 o.ask.stripe.0 i (o.floor i) (says.floors i);
     floors_known = λ i. ⊎_elim
         (λ (known : IsKnown stamps (o.floor i)). inl (stays_known stamps later grows.grow (o.floor i) known))
@@ -496,12 +548,26 @@ module _ (setting : Setting) (views : Views) (w next : World) (stamps later : St
         ∙ ap (λ (z : List ℕ). after_op setting.layout.block c.ask.op z) (sym (grows.contents c.ask.group.0 c.ask.stripe.0 base on.base_made));
   }
 
+  stays_back : (i : ℕ) (c : Coordinator) (bound : Option Stamp) → BackSays setting views w i c bound → BackSays setting views next i c bound
+  stays_back i c bound says =
+      let goes = stays_called i c.call says.operation says.called in
+      record {
+        view = says.view;
+        bounded = says.bounded;
+        operation = goes.0;
+        called = goes.1;
+        guarded = λ group is. stays_guarded c.call.group.0 c.call.stripe.0 group c.stamp (says.guarded group is);
+        floors = λ group is.
+            subst (λ (f : ℕ → Stamp). AtQuorum group (λ seat. not (stamp_below c.stamp (f (brick_at group seat))))) (sym goes.2.floor) (says.floors group is);
+      }
+
   -- what a coordinator says stays said, where its brick goes on, and its call has no new stamp
   pub stays_call : (i k : ℕ) (c : Coordinator) → (next.nodes i).boot ≡ (w.nodes i).boot
       → ((p : ℕ) → later i (w.nodes i).boot k p ≡ stamps i (w.nodes i).boot k p) → CallSays setting views w stamps i k c
       → CallSays setting views next later i k c
   stays_call i k c boot same says = record {
     group = says.group;
+    prior = says.prior;
     begun = subst (λ (b : ℕ). IsBegun later i b k c.call.phase c.phase c.stamp) (sym boot)
         (stays_phase i (w.nodes i).boot k c.call.phase c.phase c.stamp says.begun);
     last = λ p less. subst (λ (b : ℕ). later i b k p ≡ None) (sym boot) (same p ∙ says.last p less);
@@ -513,6 +579,7 @@ module _ (setting : Setting) (views : Views) (w next : World) (stamps later : St
     given = says.given;
     above = says.above;
     from = says.from;
+    back = λ bound is. stays_back i c bound (says.back bound is);
     covered = λ bound is.
         stay_blocked c.ask.group.0 c.ask.stripe.0 (λ d. (stamp_below d bound ≡ false) × (stamp_below d c.stamp ≡ true)) (says.covered bound is);
     stores = λ is.
@@ -529,12 +596,14 @@ module _ (setting : Setting) (views : Views) (w next : World) (stamps later : St
       → DataShown setting w n bytes
       → DataShown setting next n bytes
   stays_shown said n bytes shown =
-      let goes = grows.operations n shown.operation shown.is in
+      let goes = grows.operations shown.number shown.operation shown.is in
       let made : IsMadeOrFirst w shown.operation.ask.group.0 shown.operation.ask.stripe.0 shown.version
-      = ((said n shown.operation shown.is).version shown.version shown.version_is).made in
+      = ((said shown.number shown.operation shown.is).version shown.version shown.version_is).made in
       record {
         operation = goes.0;
+        number = shown.number;
         is = goes.1;
+        mark = goes.2.mark ∙ shown.mark;
         version = shown.version;
         version_is = goes.2.version shown.version shown.version_is;
         bytes_are = ap (λ (a : Ask). read_of setting.layout.block a.op (next.contents a.group.0 a.stripe.0 shown.version)) goes.2.ask
@@ -548,5 +617,17 @@ module _ (setting : Setting) (views : Views) (w next : World) (stamps later : St
       → EndShows setting w n answer → EndShows setting next n answer
   stays_end said n (Data bytes) shows = stays_shown said n bytes shows
   stays_end said n Done shows =
-      let goes = grows.operations n shows.0 shows.1 in (goes.0, goes.1, ap (λ a. writes a.op) goes.2.ask ∙ shows.2)
-  stays_end said n (Aborted cause) shows = let goes = grows.operations n shows.0 shows.1 in (goes.0, goes.1)
+      let goes = grows.operations shows.0 shows.1 shows.2 in
+      (shows.0, goes.0, goes.1, goes.2.mark ∙ shows.3, ap (λ a. writes a.op) goes.2.ask ∙ shows.4)
+  stays_end said n (Aborted cause) shows =
+      let goes = grows.operations shows.0 shows.1 shows.2 in (shows.0, goes.0, goes.1, goes.2.mark ∙ shows.3)
+
+  -- and the stripes that a synchronisation has read stay read
+  pub stays_job : (i : ℕ) (job : Job) → JobSays setting views w i job → JobSays setting views next i job
+  stays_job i job says = record {
+    known = (says.known.0, (let rises = grows.parts.views i job.group.0 in let was = says.known.1 in omega (arith, rises, was)));
+    members = says.members;
+    prior = says.prior;
+    passed = stay_passed job.group.0 job.view.number.0 says.passed;
+    read = λ s before. let had = says.read s before in (had.0, had.1, stays_standing job.group.0 s had.0 had.2);
+  }

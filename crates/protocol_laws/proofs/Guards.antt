@@ -1,5 +1,7 @@
 -- A request to store a version is sent while a quorum takes nothing below it, and while its operation is open: an event that sends one lowers and raises no
 -- brick, and sends it for a call that is open.
+use Rattle.protocol.specs.Jobs.{Job, job_ask, begun_job}
+use Rattle.view_laws.proofs.SyncReads.{carried_each, synced_at_each, each_tick, each_synced, read_call}
 use Rattle.std.proofs.Common.{◌≡◌, ℕ, Bool, true, false, ⊎_elim, not, List, [], ◌∷◌, ◌++◌, length, Option, Some, None, refl, sym, ap, ◌∙◌, subst, arith}
 use Rattle.std.specs.Prelude.{slice_get, nat_lt, if◌then◌else◌}
 use Rattle.fab_base.specs.declared.identities.BrickId.{BrickId}
@@ -14,7 +16,6 @@ use Rattle.messages.specs.declared.calls.Call.{Call}
 use Rattle.messages.specs.declared.packets.Message.{Message}
 use Rattle.messages.specs.declared.packets.Packet.{Packet}
 use Rattle.messages.specs.declared.replies.Reply.{Reply}
-use Rattle.reg_model.specs.Marks.{Life, life_of, IsOpen}
 use Rattle.protocol.specs.Settings.{Setting, Code, IsSound}
 use Rattle.protocol.specs.Views.{Views, view_told}
 use Rattle.protocol.specs.declared.phases.Counted.{Counted}
@@ -30,15 +31,15 @@ use Rattle.protocol_laws.proofs.Counting.{mover_one}
 use Rattle.protocol_laws.proofs.Proposing.{AreOfViews, of_views_each, resent_of_views, ballot_each, proposed_each}
 use Rattle.protocol_laws.proofs.Teaching.{heard_each, replied_rests}
 use Rattle.protocol.specs.Replicas.{handle}
-use Rattle.protocol.specs.Coordinators.{mover_of, lower_mover, lowest_mover, aborted_moved, decided, Coordinator, Next, Ignores, Waits, Sends, Makes, Ends, with_reply, once_full, counted_at, counts_at, on_reply, request_of}
-use Rattle.protocol.specs.Nodes.{Node, NodeStep, put, top_at, first_phase, phase_packets, new_coordinator, began, invoked, replica_at, full_at, known_after, fresh_stamp, carried_out, group_at, replied_at, heard, received, ticked, with_round, with_known, node_taught, node_taught_by, view_counted, counts_here, vote_at, replied_ballot, proposed, ballot_resent}
+use Rattle.protocol.specs.Coordinators.{mover_of, lower_mover, lowest_mover, aborted_moved, decided, Coordinator, Next, Ignores, Waits, Sends, Makes, Ends, with_reply, once_full, counted_at, counts_at, on_reply, request_of, asked_group}
+use Rattle.protocol.specs.Nodes.{Node, NodeStep, put, top_at, first_phase, phase_packets, new_coordinator, began, invoked, replica_at, full_at, known_after, fresh_stamp, carried_out, group_at, replied_at, heard, received, ticked, with_round, with_known, node_taught, node_taught_by, view_counted, counts_here, vote_at, replied_ballot, proposed, synced_at, carried_for, job_reading, collect_packets, read_closed, synced_packets}
 use Rattle.protocol.specs.Worlds.{World, Event, first_world, world_began, world_stopped, happens, run, world_ticked, world_stepped, world_started, world_found, After}
 use Rattle.protocol.proofs.Events.{EventCases, step_on, world_handled, happens_each, started_each, run-append}
-use Rattle.protocol.proofs.Packets.{OfEach, each_none, each_both, each_member, each_collect, each_reply, each_ticked}
+use Rattle.protocol.proofs.Packets.{OfEach, each_none, each_both, each_member, each_collect, each_reply}
 use Rattle.protocol.proofs.Served.{request_each}
 use Rattle.protocol.proofs.Tables.{put_each}
-use Rattle.protocol_laws.specs.Laws.{top_in, stamp_stored, IsGuarded, RunFollows, WritesWereGuarded}
-use Rattle.protocol_laws.proofs.MarkNumbers.{own_number}
+use Rattle.protocol_laws.specs.Laws.{HasNotEnded, top_in, stamp_stored, IsGuarded, RunFollows, WritesWereGuarded}
+use Rattle.protocol_laws.proofs.TalliesKept.{not_ended}
 use Rattle.protocol_laws.proofs.Books.{Books, CallBooks, IsCall}
 use Rattle.protocol_laws.proofs.BooksEvents.{books}
 use Rattle.protocol_laws.proofs.Outcomes.{NextFits, once_full_fits}
@@ -51,7 +52,7 @@ use Rattle.protocol_laws.proofs.ViewLaws.{writes_guarded}
 abbrev StoresIn : World → World → BrickId → Message → Type 0
 StoresIn w next from (Message.Request call request) =
     (t : Stamp) → stamp_stored request ≡ Some t
-    → ((g s i : ℕ) → top_in next g s i ≡ top_in w g s i) × IsOpen (life_of w.marks (w.numbers from.0 call.boot call.seq))
+    → ((g s i : ℕ) → top_in next g s i ≡ top_in w g s i) × HasNotEnded w (w.numbers from.0 call.boot call.seq)
 StoresIn w next from message = Unit {0}
 
 abbrev StoresOpen : World → World → Packet → Type 0
@@ -64,15 +65,14 @@ tops_put w next me node nodes same g s i =
     ap (λ (f : ℕ → Node). top_at (f i) g s) nodes
     ∙ put_each (λ j x. top_at x g s ≡ top_at (w.nodes j) g s) w.nodes me node (top_same (w.nodes me) node same g s) (λ j other. refl) i
 
--- an open call's operation is open
+-- an open call's operation has not ended
 call_open : (setting : Setting) (w : World) → Books setting w → (i k : ℕ) (c : Coordinator) → IsCall w i k c
-    → IsOpen (life_of w.marks (w.numbers i c.call.boot c.call.seq))
+    → HasNotEnded w (w.numbers i c.call.boot c.call.seq)
 call_open setting w books i k c is =
     let its : CallBooks setting w i k c = books.calls i k c is in
-    let own = books.operations (w.numbers i (w.nodes i).boot k) its.operation its.operation_is in
-    subst (λ (n : ℕ). IsOpen (life_of w.marks n))
+    subst (λ (n : ℕ). HasNotEnded w n)
     (ap (λ (b : ℕ). w.numbers i b k) (sym its.call_boot) ∙ ap (λ (s : ℕ). w.numbers i c.call.boot s) (sym its.call_seq))
-    (subst (λ (z : Option Life). IsOpen z) (sym own.life_is) (its.unended own.life own.life_is))
+    (not_ended setting w i k c books is)
 
 -- the first phase of an operation stores nothing
 first_stores : (code : Code) (c : Coordinator) (op : Op) (seat : ℕ) (t : Stamp)
@@ -128,7 +128,7 @@ moved_ends block code fresh c from view lineage (Some seat) =
     let d : Coordinator = with_reply c seat from (Reply.Moved view lineage) in
     let one : Counted = record { seat = seat; brick = from; reply = Reply.Moved view lineage } in
     let lowest = some_mover c.counted one (record { seat = seat; brick = from; view = view }) refl in
-    cond_both (nat_lt (length d.counted) (quorum_of d.group)) (Waits d) (decided block code fresh d) BeginsNone (λ few. tt)
+    cond_both (nat_lt (length d.counted) (quorum_of (asked_group d))) (Waits d) (decided block code fresh d) BeginsNone (λ few. tt)
     (λ full. subst BeginsNone (sym (decided_moved block code fresh d lowest.0 lowest.1)) tt)
 
 -- what is of views stores nothing
@@ -149,22 +149,22 @@ module _ (setting : Setting) (w next : World) (me : BrickId) (books : Books sett
       in_group None = each_none P
       in_group (Some group) =
           let c : Coordinator = new_coordinator group me now (w.nodes me.0) ask in
-          each_member P me c.call (request_of setting.code c) (λ seat to t stores. absurd (first_stores setting.code c ask.op seat t stores)) 0 group.members
+          each_member P me c.call (request_of setting.code c) (λ seat to t stores. absurd (first_stores setting.code c ask.op seat t stores)) 0 (asked_group c).members
 
   -- a phase of an open call
   phase_stores : (c d : Coordinator) → ((g s i : ℕ) → top_in next g s i ≡ top_in w g s i)
-      → IsOpen (life_of w.marks (w.numbers me.0 c.call.boot c.call.seq)) → (d.call.boot ≡ c.call.boot) × (d.call.seq ≡ c.call.seq)
+      → HasNotEnded w (w.numbers me.0 c.call.boot c.call.seq) → (d.call.boot ≡ c.call.boot) × (d.call.seq ≡ c.call.seq)
       → OfEach P (phase_packets setting me d)
   phase_stores c d tops open' same =
       each_member P me d.call (request_of setting.code d)
       (λ seat to t stores. (
         tops,
-        subst (λ (b : ℕ). IsOpen (life_of w.marks (w.numbers me.0 b d.call.seq))) (sym same.0)
-            (subst (λ (k : ℕ). IsOpen (life_of w.marks (w.numbers me.0 c.call.boot k))) (sym same.1) open'),
-      )) 0 d.group.members
+        subst (λ (b : ℕ). HasNotEnded w (w.numbers me.0 b d.call.seq)) (sym same.0)
+            (subst (λ (k : ℕ). HasNotEnded w (w.numbers me.0 c.call.boot k)) (sym same.1) open'),
+      )) 0 (asked_group d).members
 
   carried_stores : (node : Node) (known : ℕ) (c : Coordinator) (decision : Next) → KeepsPlaces (w.nodes me.0) node → NextIsSame c decision
-      → IsOpen (life_of w.marks (w.numbers me.0 c.call.boot c.call.seq))
+      → HasNotEnded w (w.numbers me.0 c.call.boot c.call.seq)
       → next.nodes ≡ put w.nodes me.0 (carried_out setting me node known c decision).node
       → OfEach P (carried_out setting me node known c decision).packets
   carried_stores node known c Ignores places same open' nodes = each_none P
@@ -184,6 +184,57 @@ module _ (setting : Setting) (w next : World) (me : BrickId) (books : Books sett
   carried_none node known c (Makes d) none = absurd none
   carried_none node known c (Ends answer seen stored) none =
       each_collect P me c stored (λ t to u stores. absurd (let never : None ≡ Some u = stores in cc))
+
+  -- nor does a read of a synchronisation that begins
+  read_stores : (now : ℕ) (node : Node) (job : Job) (group : Group) → OfEach P (phase_packets setting me (read_call group job me now node))
+  read_stores now node job group =
+      let c : Coordinator = read_call group job me now node in
+      each_member P me c.call (request_of setting.code c)
+      (λ seat to t stores. absurd (first_stores setting.code c (job_ask job).op seat t stores)) 0 (asked_group c).members
+
+  -- what the coordinator of an operation, or of such a read, decided
+  carried_for_stores : (now : ℕ) (node : Node) (known : ℕ) (c : Coordinator) (decision : Next) (reading : Option Job) → KeepsPlaces (w.nodes me.0) node
+      → NextIsSame c decision → HasNotEnded w (w.numbers me.0 c.call.boot c.call.seq)
+      → next.nodes ≡ put w.nodes me.0 (carried_for setting me now node known c decision reading).node
+      → OfEach P (carried_for setting me now node known c decision reading).packets
+  carried_for_stores now node known c decision reading places same open' =
+      carried_each (λ (step : NodeStep). next.nodes ≡ put w.nodes me.0 step.node → OfEach P step.packets) setting me now node known c decision reading
+      (carried_stores node known c decision places same open')
+      (λ job is answer seen stored ends.
+      let collects = each_collect P me c stored (λ t to u stores. absurd (let never : None ≡ Some u = stores in cc)) in
+      let closed : NodeStep = read_closed me node known c answer seen stored in
+      record {
+        stays = λ nodes. each_both P (collect_packets me c stored) [] collects (each_none P);
+        ends = λ answered nodes. each_both P (collect_packets me c stored) [] collects (each_none P);
+        finishes = λ nodes. each_both P (collect_packets me c stored) (synced_packets me job.group job.view.number setting.layout.bricks 0) collects
+            (each_synced P me job.group job.view.number (λ to. tt) setting.layout.bricks 0);
+        reads = λ attempt group kept nodes. each_both P (collect_packets me c stored)
+            (phase_packets setting me (read_call group (record job { attempt = attempt }) me now closed.node)) collects
+            (read_stores now closed.node (record job { attempt = attempt }) group);
+      })
+
+  carried_for_none : (now : ℕ) (node : Node) (known : ℕ) (c : Coordinator) (decision : Next) (reading : Option Job) → BeginsNone decision
+      → OfEach P (carried_for setting me now node known c decision reading).packets
+  carried_for_none now node known c decision reading none =
+      carried_each (λ (step : NodeStep). OfEach P step.packets) setting me now node known c decision reading (carried_none node known c decision none)
+      (λ job is answer seen stored ends.
+      let collects = each_collect P me c stored (λ t to u stores. absurd (let never : None ≡ Some u = stores in cc)) in
+      let closed : NodeStep = read_closed me node known c answer seen stored in
+      record {
+        stays = each_both P (collect_packets me c stored) [] collects (each_none P);
+        ends = λ answered. each_both P (collect_packets me c stored) [] collects (each_none P);
+        finishes = each_both P (collect_packets me c stored) (synced_packets me job.group job.view.number setting.layout.bricks 0) collects
+            (each_synced P me job.group job.view.number (λ to. tt) setting.layout.bricks 0);
+        reads = λ attempt group kept. each_both P (collect_packets me c stored)
+            (phase_packets setting me (read_call group (record job { attempt = attempt }) me now closed.node)) collects
+            (read_stores now closed.node (record job { attempt = attempt }) group);
+      })
+
+  -- nor does a synchronisation that begins
+  sync_stores : (now : ℕ) (group : GroupId) → OfEach P (synced_at setting me now (w.nodes me.0) group).packets
+  sync_stores now group =
+      synced_at_each (λ (step : NodeStep). OfEach P step.packets) setting me now (w.nodes me.0) group (each_none P) (λ answer. each_none P)
+      (λ answer. each_none P) (λ kept is. read_stores now (w.nodes me.0) (begun_job group ((w.nodes me.0).learnt group.0).view) kept)
 
   -- nor does a proposal
   voted_stores : (node : Node) (from : BrickId) (call : Call) (reply : Reply) (proposal : Option Proposal)
@@ -205,8 +256,8 @@ module _ (setting : Setting) (w next : World) (me : BrickId) (books : Books sett
   replied_stores node now from call reply None places is nodes = voted_stores (with_known node (known_after node.known reply)) from call reply node.proposal
   replied_stores node now from call reply (Some c) places is nodes =
       let known : ℕ = known_after node.known reply in
-      carried_stores node known c _ places
-      (decides (fresh_stamp me c.call.view now node.boot known) (counts_at setting.layout.block c from.0 call reply))
+      carried_for_stores now node known c _ (job_reading node.job c.call.seq) places
+      (decides (fresh_stamp me c.stamp.view now node.boot known) (counts_at setting.layout.block c from.0 call reply))
       (call_open setting w books me.0 call.seq c is) nodes
     where
       decides : (fresh : Option Stamp) (seat : Option ℕ)
@@ -222,8 +273,8 @@ module _ (setting : Setting) (w next : World) (me : BrickId) (books : Books sett
   unfolding on_reply
   moved_stores node now from call view lineage None = voted_stores (with_known node node.known) from call (Reply.Moved view lineage) node.proposal
   moved_stores node now from call view lineage (Some c) =
-      carried_none node node.known c _
-      (moved_ends setting.layout.block setting.code (fresh_stamp me c.call.view now node.boot node.known) c from view lineage
+      carried_for_none now node node.known c _ (job_reading node.job c.call.seq)
+      (moved_ends setting.layout.block setting.code (fresh_stamp me c.stamp.view now node.boot node.known) c from view lineage
       (counts_at setting.layout.block c from.0 call (Reply.Moved view lineage)))
 
   -- so has one that teaches a view
@@ -292,6 +343,13 @@ stores_cases setting w books = record {
         packets = refl;
         each = proposed_stores setting w (world_stepped setting w brick (proposed setting brick (w.nodes brick.0) group members)) brick books group members;
       };
+  syncs = λ brick group may.
+      record {
+        more = (synced_at setting brick (w.clocks brick.0) (w.nodes brick.0) group).packets;
+        packets = refl;
+        each = sync_stores setting w (world_stepped setting w brick (synced_at setting brick (w.clocks brick.0) (w.nodes brick.0) group)) brick books
+            (w.clocks brick.0) group;
+      };
   handles = λ number packet at up.
       record {
         more = (step_on setting w packet).packets;
@@ -304,9 +362,9 @@ stores_cases setting w books = record {
       record {
         more = ticked setting brick (w.nodes brick.0);
         packets = refl;
-        each = each_both (StoresOpen w (world_ticked setting w brick)) _ (ballot_resent brick (w.nodes brick.0).proposal)
-            (each_ticked (StoresOpen w (world_ticked setting w brick)) setting brick (w.nodes brick.0).calls (w.nodes brick.0).seq
-            (λ k c is seat to t stores. ((λ g s i. refl), call_open setting w books brick.0 k c is)) (λ k c is later from to. tt))
+        each = each_tick (StoresOpen w (world_ticked setting w brick)) setting brick (w.nodes brick.0).calls
+            (λ k c is seat to t stores. ((λ g s i. refl), call_open setting w books brick.0 k c is)) (λ k c is later from to. tt) (w.nodes brick.0).job
+            (w.nodes brick.0).seq (w.nodes brick.0).proposal
             (ballots_store w (world_ticked setting w brick) _ (resent_of_views brick (w.nodes brick.0).proposal));
       };
   stops = λ brick during up. none_sent w (world_stopped setting w brick during) refl;
@@ -342,9 +400,7 @@ writes_were_guarded setting views events sound follows k call from to request t 
           (subst (λ (x : World). IsGuarded x call.group.0 call.stripe.0 group t) next_is
           (guarded_there upto sent.sending.later (sent.events_are ∙ sym (rejoined sent.sending.earlier sent.sending.event sent.sending.later))
           (ap (λ (x : World). slice_get x.packets k) next_is ∙ sent.there))),
-      subst (λ (n : ℕ). IsOpen (life_of moment.marks n))
-          (sym (own_number moment.marked moment.begun moment.operations (books_then sent.sending.earlier moment sent.sending.moment_is).own
-          (moment.numbers from.0 call.boot call.seq))) here.1,
+      here.1,
     )
   where
     adds : (earlier : List Event) (event : Event)
@@ -353,9 +409,6 @@ writes_were_guarded setting views events sound follows k call from to request t 
         let w : World = run setting earlier (first_world setting.layout) in
         happens_each (λ (next : World). Adds (StoresOpen w next) w next) setting w (stores_cases setting w (books setting earlier))
         (adds_none (StoresOpen w w) w w refl) event
-
-    books_then : (earlier : List Event) (x : World) → x ≡ run setting earlier (first_world setting.layout) → Books setting x
-    books_then earlier x is = subst (λ (y : World). Books setting y) (sym is) (books setting earlier)
 
     rejoined : (earlier : List Event) (event : Event) (later : List Event) → (earlier ++ (event ∷ [])) ++ later ≡ earlier ++ (event ∷ later)
     rejoined [] event later = refl

@@ -1,6 +1,8 @@
 -- What the store of a stopped brick may hold when it starts: what it kept when it stopped, or what the handling of a message that was sent to it
 -- makes of that.
-use Rattle.std.proofs.Common.{◌≡◌, ◌≢◌, ℕ, zero, suc, ◌⊎◌, inl, inr, ⊎_elim, Bool, true, false, not, List, [], ◌∷◌, ◌++◌, Option, Some, None, is_some, refl, sym, ap, ◌∙◌, subst}
+use Rattle.fab_base.specs.declared.identities.ViewNo.{ViewNo}
+use Rattle.fab_base.specs.declared.identities.GroupId.{GroupId}
+use Rattle.std.proofs.Common.{◌≡◌, ◌≢◌, ℕ, zero, suc, ◌⊎◌, inl, inr, ⊎_elim, Bool, true, false, not, List, [], ◌∷◌, ◌++◌, Option, Some, None, is_some, refl, sym, ap, ◌∙◌, subst, ◌&&◌}
 use Rattle.std.specs.Prelude.{slice_get, nat_eq, if◌then◌else◌}
 use Rattle.std.proofs.lemmas.Bool.{cond_both, and_parts, cases_eq, eqb-true, both_ways}
 use Rattle.fab_base.specs.declared.identities.BrickId.{BrickId}
@@ -8,23 +10,24 @@ use Rattle.messages.specs.declared.calls.Call.{Call}
 use Rattle.messages.specs.declared.packets.Message.{Message}
 use Rattle.messages.specs.declared.packets.Packet.{Packet}
 use Rattle.messages.specs.declared.requests.Request.{Request}
-use Rattle.fab_base.specs.Layouts.{Group, group_of}
+use Rattle.fab_base.specs.Layouts.{Group, group_of, Layout}
 use Rattle.protocol.specs.Settings.{Setting}
 use Rattle.protocol.specs.declared.phases.Counted.{Counted}
 use Rattle.protocol.specs.declared.tellings.Told.{Told}
-use Rattle.protocol.specs.declared.tellings.Told.TheVariants.{Made, Seen}
+use Rattle.protocol.specs.declared.tellings.Told.TheVariants.{Made, Seen, Began, Closed}
 use Rattle.protocol.specs.declared.tellings.Answered.{Answered}
 use Rattle.messages.specs.declared.replies.Reply.{Reply}
 use Rattle.fab_base.specs.declared.member_lists.View.{View}
-use Rattle.protocol.specs.Views.{learns, is_later, view_told}
-use Rattle.protocol.specs.Nodes.{Node, NodeStep, group_at, put, refusal_of, requested_at, seat_now, is_void, moved_at, served_unless, requested_as, requested_in, requested, lists_fit, counts_here, may_teach, with_learnt, node_taught, node_taught_by, node_learnt, no_step, absorbed, stopped, restarted, proposed, proposal_refusal, invoked}
+use Rattle.protocol.specs.Views.{learns, is_later, view_told, is_unsynced, notes_synced}
+use Rattle.protocol.specs.Nodes.{Node, NodeStep, group_at, put, refusal_of, requested_at, seat_now, is_void, moved_at, served_unless, requested_as, requested_in, requested, lists_fit, counts_here, may_teach, with_learnt, node_taught, node_taught_by, node_learnt, no_step, absorbed, stopped, restarted, proposed, proposal_refusal, invoked, node_synced, synced_at, sync_refusal}
 use Rattle.protocol.specs.Worlds.{World, Choices, Found, Before, After, Event, first_world, is_brick, is_up, world_began, world_told, world_tells, world_answered, world_answers, world_stepped, world_ticked, left_after, packet_during, world_stopped, world_found, world_started, replies_with, voiced, packet_of, run}
 use Rattle.protocol_laws.specs.Laws.{WasSent}
 use Rattle.protocol.proofs.Puts.{put_other}
 use Rattle.protocol.proofs.Tables.{put_same, get_kept}
 use Rattle.protocol.proofs.Events.{EventCases, step_on, started_each, always}
 
--- what the store of a brick may keep of a message: a part that a request changes or a vote on it, and a view that the message teaches, whether it counts or not
+-- what the store of a brick may keep of a message: a part that a request changes or a vote on it, a view that the message teaches, whether it counts or not, and that
+-- a view is synced
 unfoldable pub kept_of : Setting → BrickId → Node → Packet → Node
 kept_of setting me node packet = kept_as packet.message
   where
@@ -34,6 +37,7 @@ kept_of setting me node packet = kept_as packet.message
         if lists_fit setting.layout call reply then node_taught_by setting.layout.block call.group.0 node (view_told reply) else node
         )
     kept_as (Message.Learn group view) = node_learnt setting.layout node group view
+    kept_as (Message.Synced group number) = node_synced setting.layout node group number
     kept_as message = node
 
 -- what is kept of a message whose handling was cut short is that, or nothing
@@ -52,6 +56,7 @@ absorbed_kept setting me from to node (Message.Reply call reply) = by (lists_fit
     by true false = inl refl
     by false counts = inl refl
 absorbed_kept setting me from to node (Message.Learn group view) = inr refl
+absorbed_kept setting me from to node (Message.Synced group number) = inr refl
 absorbed_kept setting me from to node message = inl refl
 
 -- a stopped brick that handles a request keeps what it would have kept by handling it before it stopped
@@ -109,6 +114,14 @@ taught_by_stopped : (block group : ℕ) (node : Node) (view : Option View)
 taught_by_stopped block group node None = refl
 taught_by_stopped block group node (Some view) = taught_stopped block group node view
 
+-- and one that hears that all stripes are kept in a view
+synced_stopped : (layout : Layout) (node : Node) (group : GroupId) (number : ViewNo)
+    → node_synced layout (stopped node) group number ≡ stopped (node_synced layout node group number)
+unfolding node_synced stopped
+synced_stopped layout node group number =
+    stops_either (is_some (group_of layout group.0) && is_unsynced (node.learnt group.0) number.0)
+    (with_learnt layout.block group.0 node (notes_synced (node.learnt group.0) number.0)) node
+
 kept_stopped : (setting : Setting) (me from to : BrickId) (node : Node) (message : Message)
     → kept_of setting me (stopped node) (record { from = from; to = to; message = message })
     ≡ stopped (kept_of setting me node (record { from = from; to = to; message = message }))
@@ -122,6 +135,7 @@ kept_stopped setting me from to node (Message.Learn group view) =
     let may : Bool = may_teach setting.layout (Some view) (group_of setting.layout group.0) in
     ap (λ (n : Node). if may then n else stopped node) (taught_stopped setting.layout.block group.0 node view)
     ∙ stops_either may (node_taught setting.layout.block group.0 node view) node
+kept_stopped setting me from to node (Message.Synced group number) = synced_stopped setting.layout node group number
 kept_stopped setting me from to node message = refl
 
 -- what the store of a brick may hold beside what the brick keeps
@@ -170,11 +184,12 @@ steps_on : (w : World) (b : ℕ) (node : Node) → w.up b ≡ true → (i : ℕ)
 steps_on w b node up i down = (down, put_other w.nodes b node i (apart w i b down up), refl)
 
 -- what the tellings and answers of a step leave as it is
-pub told_same : {A : Type 0} (setting : Setting) (read : World → A) (brick : BrickId)
-    → ((w : World) (told : Told) → read (world_told setting w brick told) ≡ read w) → (told : List Told) (w : World)
-    → read (world_tells setting w brick told) ≡ read w
-told_same setting read brick one [] w = refl
-told_same setting read brick one (told ∷ more) w = told_same setting read brick one more (world_told setting w brick told) ∙ one w told
+pub told_same : {A : Type 0} (setting : Setting) (nodes : ℕ → Node) (read : World → A) (brick : BrickId)
+    → ((w : World) (told : Told) → read (world_told setting nodes w brick told) ≡ read w) → (told : List Told) (w : World)
+    → read (world_tells setting nodes w brick told) ≡ read w
+told_same setting nodes read brick one [] w = refl
+told_same setting nodes read brick one (told ∷ more) w =
+    told_same setting nodes read brick one more (world_told setting nodes w brick told) ∙ one w told
 
 pub answered_same : {A : Type 0} (read : World → A) (brick : BrickId) → ((w : World) (answered : Answered) → read (world_answered w brick answered) ≡ read w)
     → (answers : List Answered) (w : World) → read (world_answers w brick answers) ≡ read w
@@ -182,23 +197,29 @@ answered_same read brick one [] w = refl
 answered_same read brick one (answered ∷ more) w = answered_same read brick one more (world_answered w brick answered) ∙ one w answered
 
 -- which bricks are up, and what the stores of those that are down would have kept, are as before a step
-up_told : (setting : Setting) (brick : BrickId) (w : World) (told : Told) → (world_told setting w brick told).up ≡ w.up
-up_told setting brick w (Made seq t base) = refl
-up_told setting brick w (Seen seq v) = refl
+up_told : (setting : Setting) (nodes : ℕ → Node) (brick : BrickId) (w : World) (told : Told) → (world_told setting nodes w brick told).up ≡ w.up
+up_told setting nodes brick w (Made seq t base) = refl
+up_told setting nodes brick w (Seen seq v) = refl
+up_told setting nodes brick w (Began call) = refl
+up_told setting nodes brick w (Closed seq cause) = refl
 
 up_stepped : (setting : Setting) (w : World) (me : BrickId) (step : NodeStep) → (world_stepped setting w me step).up ≡ w.up
 up_stepped setting w me step =
-    answered_same (λ x. x.up) me (λ x answered. refl) step.answers (world_tells setting w me step.told)
-    ∙ told_same setting (λ x. x.up) me (up_told setting me) step.told w
+    (let nodes : ℕ → Node = put w.nodes me.0 step.node in
+    answered_same (λ x. x.up) me (λ x answered. refl) step.answers (world_tells setting nodes w me step.told)
+    ∙ told_same setting nodes (λ x. x.up) me (up_told setting nodes me) step.told w)
 
-after_told : (setting : Setting) (brick : BrickId) (w : World) (told : Told) → (world_told setting w brick told).after ≡ w.after
-after_told setting brick w (Made seq t base) = refl
-after_told setting brick w (Seen seq v) = refl
+after_told : (setting : Setting) (nodes : ℕ → Node) (brick : BrickId) (w : World) (told : Told) → (world_told setting nodes w brick told).after ≡ w.after
+after_told setting nodes brick w (Made seq t base) = refl
+after_told setting nodes brick w (Seen seq v) = refl
+after_told setting nodes brick w (Began call) = refl
+after_told setting nodes brick w (Closed seq cause) = refl
 
 pub after_stepped : (setting : Setting) (w : World) (me : BrickId) (step : NodeStep) → (world_stepped setting w me step).after ≡ w.after
 after_stepped setting w me step =
-    answered_same (λ x. x.after) me (λ x answered. refl) step.answers (world_tells setting w me step.told)
-    ∙ told_same setting (λ x. x.after) me (after_told setting me) step.told w
+    (let nodes : ℕ → Node = put w.nodes me.0 step.node in
+    answered_same (λ x. x.after) me (λ x answered. refl) step.answers (world_tells setting nodes w me step.told)
+    ∙ told_same setting nodes (λ x. x.after) me (after_told setting nodes me) step.told w)
 
 leaves_stepped : (setting : Setting) (w : World) (replies : ℕ → ℕ → List Counted) (reached : ℕ → Bool) (choices : Choices) (me : BrickId) (step : NodeStep)
     → w.up me.0 ≡ true
@@ -307,6 +328,10 @@ module _ (setting : Setting) (w : World) where
     proposes = λ brick group members may.
         (let up = and_parts (is_up setting.layout w brick) (not (is_some (proposal_refusal setting.layout (w.nodes brick.0) group.0))) may in
         leaves_stepped setting w w.replies w.reached w.choices brick (proposed setting brick (w.nodes brick.0) group members)
+        (and_parts (is_brick setting.layout brick) (w.up brick.0) up.0).1 leaves);
+    syncs = λ brick group may.
+        (let up = and_parts (is_up setting.layout w brick) (not (is_some (sync_refusal setting.layout (w.nodes brick.0) group.0))) may in
+        leaves_stepped setting w w.replies w.reached w.choices brick (synced_at setting brick (w.clocks brick.0) (w.nodes brick.0) group)
         (and_parts (is_brick setting.layout brick) (w.up brick.0) up.0).1 leaves);
     handles = λ number packet at up.
         leaves_stepped setting w (replies_with setting w packet) (put w.reached number true) (voiced setting w packet) packet.to (step_on setting w packet)

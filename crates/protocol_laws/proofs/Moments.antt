@@ -1,5 +1,8 @@
 -- What a member told was true of it when it told it.
-use Rattle.std.proofs.Common.{nat_lt, ◌≡◌, ◌≤◌, ⊎_elim, arith, not, Bool, ℕ, true, List, [], Option, Some, None, refl, sym, ap, ◌∙◌, subst, false}
+use Rattle.protocol.specs.Jobs.{Job, begun_job}
+use Rattle.view_laws.proofs.SyncReads.{carried_each, synced_at_each, each_tick, each_synced, read_call}
+use Rattle.protocol.specs.Views.{first_kept}
+use Rattle.std.proofs.Common.{nat_lt, ◌≡◌, ◌≤◌, ⊎_elim, arith, not, Bool, ℕ, true, List, [], Option, Some, None, refl, sym, ap, ◌∙◌, subst, false, is_some, ltb-true}
 use Rattle.std.specs.Prelude.{nat_eq, if◌then◌else◌}
 use Rattle.std.proofs.lemmas.Bool.{cond_both, cases_Bool, or_parts, ltb-false}
 use Rattle.std.proofs.lemmas.Option.{same_Some}
@@ -18,17 +21,17 @@ use Rattle.fab_base.specs.declared.identities.GroupId.{GroupId}
 use Rattle.protocol.specs.Ballots.{Voted}
 use Rattle.protocol.specs.Settings.{Setting, Code}
 use Rattle.protocol_laws.proofs.Reactions.{modified_each}
-use Rattle.protocol.specs.Replicas.{Replica, Reaction, top_of, is_held, is_wanted, told_version, stays, unless_full, promised, stored, looked_up, handle, ignored}
-use Rattle.protocol.specs.Coordinators.{Coordinator, Next, Ignores, Waits, Sends, Makes, Ends, request_of, on_reply}
-use Rattle.protocol.specs.Nodes.{view_at, Node, replica_at, full_at, reply_packets, ticked, began, invoked, requested, known_after, fresh_stamp, carried_out, group_at, replied_at, heard, received, with_round, node_taught_by, view_counted, moved_at, is_void, requested_in, requested_as, no_step, vote_at, with_known, proposed, ballot_resent, NodeStep, phase_packets, new_coordinator, view_floor}
+use Rattle.protocol.specs.Replicas.{Replica, Reaction, top_of, is_held, is_wanted, told_version, stays, unless_full, promised, stored, looked_up, handle, ignored, newest_of, under}
+use Rattle.protocol.specs.Coordinators.{Coordinator, Next, Ignores, Waits, Sends, Makes, Ends, request_of, on_reply, asked_group}
+use Rattle.protocol.specs.Nodes.{view_at, Node, replica_at, full_at, reply_packets, ticked, began, invoked, requested, known_after, fresh_stamp, carried_out, group_at, replied_at, heard, received, with_round, node_taught_by, view_counted, moved_at, is_void, requested_in, requested_as, no_step, vote_at, with_known, proposed, NodeStep, phase_packets, new_coordinator, view_floor, old_reply, synced_at, carried_for, job_reading, collect_packets, read_closed, synced_packets}
 use Rattle.protocol.specs.Worlds.{World, Event, first_world, world_stopped, happens, run}
 use Rattle.protocol_laws.specs.Laws.{RefusalIsTrue, RefusalsWereTrue, stamp_asked}
-use Rattle.protocol.proofs.Served.{request_each}
+use Rattle.protocol.proofs.Served.{request_each, TellsOld}
 use Rattle.protocol_laws.proofs.Votes.{vote_each, moved_each, outbid_promised}
 use Rattle.protocol_laws.proofs.Proposing.{AreOfViews, of_views_each, resent_of_views, ballot_each, proposed_each}
 use Rattle.protocol_laws.proofs.Teaching.{heard_each}
 use Rattle.protocol.proofs.Events.{EventCases, step_on, happens_each, started_each}
-use Rattle.protocol.proofs.Packets.{OfEach, each_none, each_one, each_both, each_member, each_collect, each_reply, each_ticked}
+use Rattle.protocol.proofs.Packets.{OfEach, each_none, each_one, each_both, each_member, each_collect, each_reply}
 use Rattle.protocol_laws.proofs.Tops.{top_is_part}
 use Rattle.protocol_laws.proofs.StampViews.{StampViews, NodeViews, RequestIsOf, MessageIsOf, asks_above, free_for, always_views}
 use Rattle.protocol_laws.proofs.Left.{packet_was_sent}
@@ -44,7 +47,7 @@ AreTrue w packets = OfEach (IsTrue w) packets
 
 -- a request refuses nothing
 phase_true : (setting : Setting) (w : World) (me : BrickId) (c : Coordinator) → AreTrue w (phase_packets setting me c)
-phase_true setting w me c = each_member (IsTrue w) me c.call (request_of setting.code c) (λ seat to. tt) 0 c.group.members
+phase_true setting w me c = each_member (IsTrue w) me c.call (request_of setting.code c) (λ seat to. tt) 0 (asked_group c).members
 
 -- a reply refuses only what is so: a later stamp is the part's own, and above the one that was asked at; and live records are as many as there may be
 abbrev SaysTrue : Option ℕ → Replica → Request → Option Reply → Type 0
@@ -54,6 +57,7 @@ SaysTrue full replica request (Some (Reply.Full live)) = full ≡ Some live
 SaysTrue full replica request (Some (Reply.Moved view lineage)) = ⊥
 SaysTrue full replica request (Some (Reply.Outbid ballot)) = ⊥
 SaysTrue full replica request (Some Reply.NotSynced) = ⊥
+SaysTrue full replica request (Some Reply.Retired) = ⊥
 SaysTrue full replica request (Some reply) = Unit {0}
 
 unless_full_true : (full whole : Option ℕ) (replica : Replica) (request : Request) (reaction : Reaction) → whole ≡ full → SaysTrue whole replica request reaction.reply
@@ -126,6 +130,7 @@ module _ (setting : Setting) (w : World) where
       said (Reply.Moved number lineage) is = absurd is
       said (Reply.Outbid ballot) is = absurd is
       said Reply.NotSynced is = absurd is
+      said Reply.Retired is = absurd is
       said r is = tt
 
   -- what a member tells that serves the view of a call no more
@@ -134,6 +139,22 @@ module _ (setting : Setting) (w : World) where
   moved_true me from call moved known =
       moved_each (λ (r : Reply). IsTrue w (record { from = me; to = from; message = Message.Reply call r })) (w.nodes me.0) call moved (λ later. (later, refl))
       (λ most has. (refl, omega (arith, most, known), has))
+
+  -- what it keeps in that
+  old_true : (me from : BrickId) (call : Call) (bound : Option Stamp) (told : Reply) → old_reply (w.nodes me.0) call bound ≡ Some told
+      → IsTrue w (record { from = me; to = from; message = Message.Reply call told })
+  old_true me from call bound told =
+      cond_both (nat_lt call.view.0 (first_kept ((w.nodes me.0).learnt call.group.0))) (Some Reply.Retired) _ (λ (z : Option Reply). z ≡ Some told → True told)
+      (λ gone is.
+      subst True (same_Some Reply.Retired told is) (ltb-true call.view.0 (first_kept ((w.nodes me.0).learnt call.group.0)) gone))
+      (λ kept.
+      cond_both (is_some (moved_at (w.nodes me.0) call)) (Some (Reply.Old (newest_of (under bound (replica_at (w.nodes me.0) call).log)))) None
+      (λ (z : Option Reply). z ≡ Some told → True told)
+      (λ moved is. subst True (same_Some (Reply.Old (newest_of (under bound (replica_at (w.nodes me.0) call).log))) told is) tt)
+      (λ serves is. absurd (let never : None ≡ Some told = is in cc)))
+    where
+      True : Reply → Type 0
+      True r = IsTrue w (record { from = me; to = from; message = Message.Reply call r })
 
   -- and one that votes
   vote_true : (me from : BrickId) (call : Call) (ballot : Ballot) (asked : Option (List BrickId)) → call.view.0 ≤ view_at (w.nodes me.0) call.group.0
@@ -157,7 +178,10 @@ module _ (setting : Setting) (w : World) where
       handled : call.view.0 ≤ view_at node call.group.0 → AreTrue w (requested setting me from node call request).packets
       handled known =
           request_each (λ step. AreTrue w step.packets) setting me from node call request (each_none (IsTrue w))
-          (λ moved is. each_one (IsTrue w) _ [] (moved_true me from call moved known is) (each_none (IsTrue w)))
+          (λ told is. each_one (IsTrue w) _ [] (⊎_elim
+          (λ (moved : moved_at node call ≡ Some told). moved_true me from call told known moved)
+          (λ (old : TellsOld node call request told). old_true me from call old.bound told old.says)
+          is) (each_none (IsTrue w)))
           (λ group seat here served. replies_true me from call request
           (handle setting.code group.m (full_at setting.layout.records node.live) seat (replica_at node call) request).reply
           (asks_above setting.layout node call request has asks served.view (free_for node call request served.free)) served.view
@@ -182,6 +206,28 @@ module _ (setting : Setting) (w : World) where
   carried_true me node known c (Makes d) = phase_true setting w me d
   carried_true me node known c (Ends answer seen held) = each_collect (IsTrue w) me c held (λ t to. tt)
 
+  -- nor does what a brick sends for its synchronisation
+  carried_for_true : (me : BrickId) (now : ℕ) (node : Node) (known : ℕ) (c : Coordinator) (next : Next) (reading : Option Job)
+      → AreTrue w (carried_for setting me now node known c next reading).packets
+  carried_for_true me now node known c next reading =
+      carried_each (λ (step : NodeStep). AreTrue w step.packets) setting me now node known c next reading (carried_true me node known c next)
+      (λ job is answer seen held ends.
+      let collects = each_collect (IsTrue w) me c held (λ t to. tt) in
+      record {
+        stays = each_both (IsTrue w) (collect_packets me c held) [] collects (each_none (IsTrue w));
+        ends = λ answered. each_both (IsTrue w) (collect_packets me c held) [] collects (each_none (IsTrue w));
+        finishes = each_both (IsTrue w) (collect_packets me c held) (synced_packets me job.group job.view.number setting.layout.bricks 0) collects
+            (each_synced (IsTrue w) me job.group job.view.number (λ to. tt) setting.layout.bricks 0);
+        reads = λ attempt group kept.
+            let d : Coordinator = read_call group (record job { attempt = attempt }) me now (read_closed me node known c answer seen held).node in
+            each_both (IsTrue w) (collect_packets me c held) (phase_packets setting me d) collects (phase_true setting w me d);
+      })
+
+  sync_true : (me : BrickId) (now : ℕ) (group : GroupId) → AreTrue w (synced_at setting me now (w.nodes me.0) group).packets
+  sync_true me now group =
+      synced_at_each (λ (step : NodeStep). AreTrue w step.packets) setting me now (w.nodes me.0) group (each_none (IsTrue w)) (λ answer. each_none (IsTrue w))
+      (λ answer. each_none (IsTrue w)) (λ kept is. phase_true setting w me (read_call kept (begun_job group ((w.nodes me.0).learnt group.0).view) me now (w.nodes me.0)))
+
   -- what is of views refuses nothing
   ballots_true : (packets : List Packet) → AreOfViews packets → AreTrue w packets
   ballots_true packets =
@@ -193,8 +239,9 @@ module _ (setting : Setting) (w : World) where
       ballot_each (λ (step : NodeStep). AreTrue w step.packets) setting.layout me from (with_known node (known_after node.known reply)) call reply node.proposal
       (λ seq round proposal packets reports more are. ballots_true packets are)
   replied_true me now from node call reply (Some c) =
-      carried_true me node (known_after node.known reply) c
-      (on_reply setting.layout.block setting.code (fresh_stamp me c.call.view now node.boot (known_after node.known reply)) c from call reply)
+      carried_for_true me now node (known_after node.known reply) c
+      (on_reply setting.layout.block setting.code (fresh_stamp me c.stamp.view now node.boot (known_after node.known reply)) c from call reply)
+      (job_reading node.job c.call.seq)
 
   heard_true : (me : BrickId) (now : ℕ) (from : BrickId) (call : Call) (reply : Reply) → AreTrue w (heard setting me now from (w.nodes me.0) call reply).packets
   heard_true me now from call reply =
@@ -244,6 +291,12 @@ adds_cases setting w views = record {
         packets = refl;
         each = proposed_true setting w brick group members;
       };
+  syncs = λ brick group may.
+      record {
+        more = (synced_at setting brick (w.clocks brick.0) (w.nodes brick.0) group).packets;
+        packets = refl;
+        each = sync_true setting w brick (w.clocks brick.0) group;
+      };
   handles = λ number packet at up.
       record {
         more = (step_on setting w packet).packets;
@@ -256,8 +309,8 @@ adds_cases setting w views = record {
       record {
         more = ticked setting brick (w.nodes brick.0);
         packets = refl;
-        each = each_both (IsTrue w) _ (ballot_resent brick (w.nodes brick.0).proposal)
-            (each_ticked (IsTrue w) setting brick (w.nodes brick.0).calls (w.nodes brick.0).seq (λ k c is seat to. tt) (λ k c is later from to. tt))
+        each = each_tick (IsTrue w) setting brick (w.nodes brick.0).calls (λ k c is seat to. tt) (λ k c is later from to. tt) (w.nodes brick.0).job
+            (w.nodes brick.0).seq (w.nodes brick.0).proposal
             (ballots_true setting w _ (resent_of_views brick (w.nodes brick.0).proposal));
       };
   stops = λ brick during up. adds_none (IsTrue w) w (world_stopped setting w brick during) refl;

@@ -6,7 +6,7 @@ use Rattle.reg_model.specs.declared.marks.Mark.{Mark}
 use Rattle.reg_model.specs.declared.marks.Mark.TheVariants.{Begin, End, Crash}
 use Rattle.reg_model.specs.Marks.{begun_numbers}
 use Rattle.protocol.specs.Settings.{Setting}
-use Rattle.protocol.specs.Nodes.{proposed}
+use Rattle.protocol.specs.Nodes.{proposed, synced_at}
 use Rattle.protocol.specs.Worlds.{World, Event, run, first_world}
 use Rattle.reg_model.proofs.AddedMarks.{begun_numbers-append, slice_get_push}
 use Rattle.protocol.proofs.Events.{EventCases, step_on, world_counting, stepped_each, started_each, always}
@@ -51,10 +51,15 @@ numbered_cases setting w numbered = record {
   begins = λ brick ask may. numbered_more w.marks (Begin (length w.marks) (w.marked + 1) brick ask) w.marked refl numbered;
   proposes = λ brick group members may.
       stepped_each IsNumbered setting brick (proposed setting brick (w.nodes brick.0) group members) (λ x seq t base holds. holds)
-      (λ x seq v holds. holds) (λ x one holds. numbered_on x.marks (End (length x.marks) _ one.answer) x.marked refl holds)
+      (λ x seq v holds. holds) (λ x nodes call holds. holds) (λ x seq cause holds. holds) (λ x one holds. numbered_on x.marks (End (length x.marks) _ one.answer) x.marked refl holds)
       (λ x nodes held packets choices holds. holds) w numbered;
+  syncs = λ brick group may.
+      stepped_each IsNumbered setting brick (synced_at setting brick (w.clocks brick.0) (w.nodes brick.0) group) (λ x seq t base holds. holds)
+      (λ x seq v holds. holds) (λ x nodes call holds. holds) (λ x seq cause holds. holds)
+      (λ x one holds. numbered_on x.marks (End (length x.marks) _ one.answer) x.marked refl holds) (λ x nodes held packets choices holds. holds) w numbered;
   handles = λ number packet at up.
       stepped_each IsNumbered setting packet.to (step_on setting w packet) (λ x seq t base holds. holds) (λ x seq v holds. holds)
+      (λ x nodes call holds. holds) (λ x seq cause holds. holds)
       (λ x one holds. numbered_on x.marks (End (length x.marks) _ one.answer) x.marked refl holds) (λ x nodes held packets choices holds. holds)
       (world_counting setting w number packet) numbered;
   sets = λ brick time is. numbered;

@@ -1,10 +1,11 @@
 -- What a coordinator decides once a reply counts, by its phase.
+use Rattle.protocol.specs.declared.phases.Dropper.{Dropper}
 use Rattle.fab_base.specs.declared.identities.ViewNo.{ViewNo}
 use Rattle.protocol.specs.declared.phases.Mover.{Mover}
 use Rattle.protocol_laws.proofs.Counting.{NoneStops}
-use Rattle.std.proofs.Common.{◌≡◌, ℕ, ◌+◌, ◌<◌, ◌≤◌, ◌⊎◌, inl, inr, true, false, List, [], length, Option, Some, None, is_some, refl, arith, subst, ⊎_elim}
+use Rattle.std.proofs.Common.{◌≡◌, ℕ, ◌+◌, ◌<◌, ◌≤◌, ◌⊎◌, inl, inr, true, false, List, [], length, Option, Some, None, is_some, refl, arith, subst, ⊎_elim, sym, not}
 use Rattle.std.specs.Prelude.{nat_lt}
-use Rattle.std.proofs.lemmas.Bool.{cond_both, false≢true, ltb-true, ltb-false}
+use Rattle.std.proofs.lemmas.Bool.{cond_both, false≢true, ltb-true, ltb-false, and_parts, not-true}
 use Rattle.fab_base.specs.declared.asks.Ask.{Ask}
 use Rattle.fab_base.specs.declared.identities.BrickId.{BrickId}
 use Rattle.fab_base.specs.declared.stamps.Stamp.{Stamp}
@@ -17,24 +18,40 @@ use Rattle.quorum.specs.Quorums.{quorum_of}
 use Rattle.reg_model.specs.Registers.{read_of, after_op}
 use Rattle.protocol.specs.Settings.{Code}
 use Rattle.protocol.specs.declared.phases.Phase.{Phase}
-use Rattle.protocol.specs.declared.phases.Phase.TheVariants.{Looks, LooksAt, Orders, OrdersAt, Recovers, Descends, Modifies, Bases, Stores}
+use Rattle.protocol.specs.declared.phases.Phase.TheVariants.{Looks, LooksAt, Orders, OrdersAt, Recovers, Descends, Modifies, Bases, Stores, LooksBack}
 use Rattle.protocol.specs.declared.phases.Counted.{Counted}
 use Rattle.protocol.specs.declared.phases.Refuser.{Refuser}
 use Rattle.protocol.specs.declared.phases.FullMember.{FullMember}
-use Rattle.protocol.specs.Coordinators.{Coordinator, Next, Ignores, Waits, Sends, Makes, Ends, next_phase, in_phase, restoring, reordering, forgetting, most_rounds, aborted_by, unless_told_full, unless_told_moved, lowest_mover, ordered_again, once_ordered, unless_refused, answered_fast, read_back, answer_with, pieces_at, greatest_refuser, lowest_full, greatest_found, fast_version, decided, once_full, answered_fast_at, modified_if, once_modified, rebuilt, some_behind, bytes_at, block_written, fast_version_at, common_version_at}
+use Rattle.protocol.specs.Coordinators.{Coordinator, Next, Ignores, Waits, Sends, Makes, Ends, next_phase, in_phase, restoring, reordering, forgetting, most_rounds, aborted_by, unless_told_full, unless_told_moved, lowest_mover, ordered_again, once_ordered, unless_refused, answered_fast, read_back, answer_with, pieces_at, greatest_refuser, lowest_full, greatest_found, fast_version, decided, once_full, answered_fast_at, modified_if, once_modified, rebuilt, some_behind, bytes_at, block_written, fast_version_at, common_version_at, asked_view, asked_group, looks_back, may_look_back, lower_phase, lowest_dropper, unless_told_gone}
 use Rattle.protocol.specs.Worlds.{is_answer}
+
+-- the call of an operation's next phase
+abbrev pub call_after : Coordinator → Phase → Call
+call_after c phase = record (next_phase c.call) { view = asked_view c.stamp phase }
 
 -- the coordinator of the same operation, under the same call
 pub record SameOperation (c d : Coordinator) : Type 0 where
   pub ask : d.ask ≡ c.ask
   pub members : d.group ≡ c.group
+  pub prior : d.prior ≡ c.prior
   pub boot : d.call.boot ≡ c.call.boot
   pub seq : d.call.seq ≡ c.call.seq
   pub group : d.call.group ≡ c.call.group
-  pub view : d.call.view ≡ c.call.view
   pub stripe : d.call.stripe ≡ c.call.stripe
 
--- it waits in its phase, with the replies that count, or once it forgot them, of which none told a later stamp or a full store
+-- a phase that reads back the base of a change
+abbrev pub IsRebuild : Phase → Type 0
+IsRebuild (Bases base) = Unit {0}
+IsRebuild phase = ⊥
+
+-- it forgot the replies that counted: none refused what it was asked, or told a later stamp in a phase that orders; and none found a version, unless it reads a base back
+pub record Forgets (c d : Coordinator) : Type 0 where
+  pub counted : d.counted ≡ []
+  pub stops : NoneStops c.counted
+  pub refused : looks_back c.phase ≡ false → greatest_refuser c.counted ≡ None
+  pub found : (greatest_found c.counted ≡ None) ⊎ IsRebuild c.phase
+
+-- it waits in its phase, with the replies that count, or once it forgot them
 pub record WaitsFits (c d : Coordinator) : Type 0 where
   pub same : SameOperation c d
   pub stamp : d.stamp ≡ c.stamp
@@ -42,7 +59,7 @@ pub record WaitsFits (c d : Coordinator) : Type 0 where
   pub base : d.base ≡ c.base
   pub call : d.call ≡ c.call
   pub phase : d.phase ≡ c.phase
-  pub counted : (d.counted ≡ c.counted) ⊎ ((d.counted ≡ []) × (greatest_refuser c.counted ≡ None) × (NoneStops c.counted))
+  pub counted : (d.counted ≡ c.counted) ⊎ Forgets c d
 
 -- a phase that is a round of ordering
 abbrev pub IsRound : Phase → Type 0
@@ -52,6 +69,7 @@ IsRound Orders = Unit {0}
 IsRound (OrdersAt j) = Unit {0}
 IsRound Recovers = Unit {0}
 IsRound (Descends bound) = ⊥
+IsRound (LooksBack bound) = ⊥
 IsRound (Modifies base j) = ⊥
 IsRound (Bases base) = ⊥
 IsRound Stores = ⊥
@@ -89,13 +107,19 @@ pub record ReordersFits (fresh : Option Stamp) (c d : Coordinator) : Type 0 wher
   pub round : d.round ≡ c.round + 1
   pub refused : is_some (greatest_refuser c.counted) ≡ true
 
--- the operation, under its stamp, begins to recover, or looks further down
+-- an operation that found nothing in its view begins to look back, or looks further down in the view before
+abbrev pub BackFits : Coordinator → Coordinator → Type 0
+BackFits c d =
+    ((d.phase ≡ LooksBack None) × (looks_back c.phase ≡ false) × (greatest_found c.counted ≡ None) × (IsRebuild c.phase → ⊥))
+    ⊎ ((bound : Option Stamp) × (v : Stamp) × (c.phase ≡ LooksBack bound) × (d.phase ≡ LooksBack (Some v)))
+
+-- the operation, under its stamp, begins to recover, or looks further down, or looks back
 pub record RecoversFits (c d : Coordinator) : Type 0 where
   pub unmade : IsMaking c.phase → ⊥
   pub base : d.base ≡ c.base
   pub stamp : d.stamp ≡ c.stamp
   pub round : d.round ≡ c.round
-  pub phase : (IsLook c.phase × (d.phase ≡ Recovers)) ⊎ ((bound : Stamp) × (d.phase ≡ Descends bound))
+  pub phase : (IsLook c.phase × (d.phase ≡ Recovers)) ⊎ (((bound : Stamp) × (d.phase ≡ Descends bound)) ⊎ BackFits c d)
 
 -- the operation, which made its version by a change, reads the base of that back, or stores what it made of it
 abbrev pub RebuildsIn : Coordinator → Coordinator → Type 0
@@ -111,7 +135,7 @@ pub record RebuildsFits (c d : Coordinator) : Type 0 where
 -- it is in its next phase, and makes no version by that
 pub record SendsFits (fresh : Option Stamp) (c d : Coordinator) : Type 0 where
   pub same : SameOperation c d
-  pub call : d.call ≡ next_phase c.call
+  pub call : d.call ≡ call_after c d.phase
   pub counted : d.counted ≡ []
   pub how : ReordersFits fresh c d ⊎ (RecoversFits c d ⊎ RebuildsFits c d)
 
@@ -125,8 +149,13 @@ pub record MakesFits (c d : Coordinator) : Type 0 where
   pub phase : MakesIn d
   pub stamp : d.stamp ≡ c.stamp
   pub round : d.round ≡ c.round
-  pub call : d.call ≡ next_phase c.call
+  pub call : d.call ≡ call_after c d.phase
   pub counted : d.counted ≡ []
+
+-- an operation that looks back does so in its next phase
+pub back_phase : (c d : Coordinator) → BackFits c d → (bound : Option Stamp) × (d.phase ≡ LooksBack bound)
+back_phase c d (inl first) = (None, first.0)
+back_phase c d (inr lower) = (Some lower.1, lower.3)
 
 -- the next phase of an operation that has made nothing is none of those of a version that was made
 pub unmade_again : (fresh : Option Stamp) (c d : Coordinator) → ReordersFits fresh c d → IsMaking d.phase → ⊥
@@ -135,7 +164,10 @@ unmade_again fresh c d again is = again.unmade (subst (λ (p : Phase). IsMaking 
 pub unmade_recovers : (c d : Coordinator) → RecoversFits c d → IsMaking d.phase → ⊥
 unmade_recovers c d goes is = ⊎_elim
     (λ (look : IsLook c.phase × (d.phase ≡ Recovers)). subst (λ (p : Phase). IsMaking p) look.1 is)
-    (λ (down : (bound : Stamp) × (d.phase ≡ Descends bound)). subst (λ (p : Phase). IsMaking p) down.1 is)
+    (λ (down : ((bound : Stamp) × (d.phase ≡ Descends bound)) ⊎ BackFits c d). ⊎_elim
+    (λ (lower : (bound : Stamp) × (d.phase ≡ Descends bound)). subst (λ (p : Phase). IsMaking p) lower.1 is)
+    (λ (back : BackFits c d). subst (λ (p : Phase). IsMaking p) (back_phase c d back).1 is)
+    down)
     goes.phase
 
 -- how each phase ends: a read that looks tells a version, where it is answered, and all but what stores or modifies ends only by an abort
@@ -165,6 +197,7 @@ LastFits fresh c (LooksAt j) = ⊥
 LastFits fresh c Orders = NoRoundFits fresh c
 LastFits fresh c (OrdersAt j) = NoRoundFits fresh c
 LastFits fresh c Recovers = NoRoundFits fresh c
+LastFits fresh c (LooksBack bound) = ⊥
 LastFits fresh c phase = Unit {0}
 
 -- the abort tells of the member that told the greatest later stamp
@@ -183,6 +216,12 @@ pub record MovedFits (c : Coordinator) (brick : BrickId) (view : ViewNo) : Type 
   pub seat : ℕ
   pub told : lowest_mover c.counted ≡ Some (record { seat = seat; brick = brick; view = view })
 
+-- the abort tells of the member of the lowest seat that told that it has dropped the versions of the view before
+pub record GoneFits (c : Coordinator) (brick : BrickId) : Type 0 where
+  pub seat : ℕ
+  pub told : lowest_dropper c.counted ≡ Some (record { seat = seat; brick = brick })
+  pub stays : lowest_mover c.counted ≡ None
+
 -- what an answer tells is so
 abbrev pub AnswerFits : Option Stamp → Coordinator → Answer → Type 0
 AnswerFits fresh c (Data bytes) = Unit {0}
@@ -190,7 +229,7 @@ AnswerFits fresh c Done = Unit {0}
 AnswerFits fresh c (Aborted (Cause.Later brick x)) = AbortFits fresh c brick x
 AnswerFits fresh c (Aborted (Cause.Full brick live)) = FullFits c brick live
 AnswerFits fresh c (Aborted (Cause.Moved brick view)) = MovedFits c brick view
-AnswerFits fresh c (Aborted cause) = ⊥
+AnswerFits fresh c (Aborted (Cause.Gone brick)) = GoneFits c brick
 
 -- what is decided fits the coordinator
 abbrev pub NextFits : Option Stamp → Coordinator → Next → Type 0
@@ -212,7 +251,7 @@ module _ (group : Group) (prior : List BrickId) (ask : Ask) (stamp : Stamp) (rou
 
   waits_fits : (phase : Phase) → WaitsFits (within phase) (within phase)
   waits_fits phase = record {
-    same = record { ask = refl; members = refl; boot = refl; seq = refl; group = refl; view = refl; stripe = refl };
+    same = record { ask = refl; members = refl; prior = refl; boot = refl; seq = refl; group = refl; stripe = refl };
     stamp = refl;
     round = refl;
     base = refl;
@@ -221,21 +260,21 @@ module _ (group : Group) (prior : List BrickId) (ask : Ask) (stamp : Stamp) (rou
     counted = inl refl;
   }
 
-  forgets_fits : (phase : Phase) → greatest_refuser counted ≡ None → NoneStops counted
-      → WaitsFits (within phase) (forgetting (within phase))
-  forgets_fits phase none roomy = record {
-    same = record { ask = refl; members = refl; boot = refl; seq = refl; group = refl; view = refl; stripe = refl };
+  forgets_fits : (phase : Phase) → (looks_back phase ≡ false → greatest_refuser counted ≡ None) → NoneStops counted
+      → (greatest_found counted ≡ None) ⊎ IsRebuild phase → WaitsFits (within phase) (forgetting (within phase))
+  forgets_fits phase none roomy nothing = record {
+    same = record { ask = refl; members = refl; prior = refl; boot = refl; seq = refl; group = refl; stripe = refl };
     stamp = refl;
     round = refl;
     base = refl;
     call = refl;
     phase = refl;
-    counted = inr (refl, none, roomy);
+    counted = inr (record { counted = refl; stops = roomy; refused = none; found = nothing });
   }
 
   same_next : (phase next : Phase) (base_of : Option Stamp) (bytes : List ℕ) → SameOperation (within phase)
       (record (in_phase (within phase) next) { base = base_of; content = bytes })
-  same_next phase next base_of bytes = record { ask = refl; members = refl; boot = refl; seq = refl; group = refl; view = refl; stripe = refl }
+  same_next phase next base_of bytes = record { ask = refl; members = refl; prior = refl; boot = refl; seq = refl; group = refl; stripe = refl }
 
   makes_fits : (phase : Phase) → (IsMaking phase → ⊥) → MakesFits (within phase) (in_phase (within phase) Stores)
   makes_fits phase unmade = record {
@@ -266,8 +305,29 @@ module _ (group : Group) (prior : List BrickId) (ask : Ask) (stamp : Stamp) (rou
     same = same_next phase (Descends v) base content;
     call = refl;
     counted = refl;
-    how = inr (inl (record { unmade = unmade; base = refl; stamp = refl; round = refl; phase = inr (v, refl) }));
+    how = inr (inl (record { unmade = unmade; base = refl; stamp = refl; round = refl; phase = inr (inl (v, refl)) }));
   }
+
+  -- an operation that found nothing in its view looks back
+  looks_back_fits : (fresh : Option Stamp) (phase : Phase) → (IsMaking phase → ⊥) → (IsRebuild phase → ⊥) → looks_back phase ≡ false
+      → greatest_found counted ≡ None → SendsFits fresh (within phase) (in_phase (within phase) (LooksBack None))
+  looks_back_fits fresh phase unmade other ahead nothing = record {
+    same = same_next phase (LooksBack None) base content;
+    call = refl;
+    counted = refl;
+    how = inr (inl (record { unmade = unmade; base = refl; stamp = refl; round = refl; phase = inr (inr (inl (refl, ahead, nothing, other))) }));
+  }
+
+  -- and further down
+  lower_fits : (fresh : Option Stamp) (phase : Phase) (v : Stamp) → (IsMaking phase → ⊥)
+      → SendsFits fresh (within phase) (in_phase (within phase) (lower_phase phase v))
+  lower_fits fresh (LooksBack bound) v unmade = record {
+    same = same_next (LooksBack bound) (LooksBack (Some v)) base content;
+    call = refl;
+    counted = refl;
+    how = inr (inl (record { unmade = unmade; base = refl; stamp = refl; round = refl; phase = inr (inr (inr (bound, v, refl, refl))) }));
+  }
+  lower_fits fresh phase v unmade = descends_fits fresh phase v unmade
 
   -- a read that looked begins to recover
   recovers_fits : (fresh : Option Stamp) (phase : Phase) → (IsMaking phase → ⊥) → IsLook phase
@@ -320,7 +380,7 @@ module _ (group : Group) (prior : List BrickId) (ask : Ask) (stamp : Stamp) (rou
       cond_both (nat_lt (length (pieces_at v counted)) group.m) (Waits (forgetting (within (Bases v))))
       (Sends (restoring block (within (Bases v)) v (code.decode group.m (pieces_at v counted))))
       (λ (next : Next). NextFits fresh (within (Bases v)) next)
-      (λ few. forgets_fits (Bases v) none roomy)
+      (λ few. forgets_fits (Bases v) (λ ahead. none) roomy (inr tt))
       (λ enough. record {
         same = same_next (Bases v) Stores (Some v) (after_op block ask.op (code.decode group.m (pieces_at v counted)));
         call = refl;
@@ -328,14 +388,19 @@ module _ (group : Group) (prior : List BrickId) (ask : Ask) (stamp : Stamp) (rou
         how = inr (inr (record { stamp = refl; round = refl; how = inr (v, refl, refl, refl) }));
       })
 
-  read_back_fits : (block : ℕ) (code : Code) (fresh : Option Stamp) (phase : Phase) (v : Option Stamp) → (IsMaking phase → ⊥)
-      → greatest_refuser counted ≡ None → NoneStops counted → NextFits fresh (within phase) (read_back block code (within phase) v)
-  read_back_fits block code fresh phase None unmade none roomy = forgets_fits phase none roomy
-  read_back_fits block code fresh phase (Some v) unmade none roomy =
-      cond_both (nat_lt (length (pieces_at v counted)) group.m) (Sends (in_phase (within phase) (Descends v)))
+  read_back_fits : (block : ℕ) (code : Code) (fresh : Option Stamp) (phase : Phase) (v : Option Stamp) → greatest_found counted ≡ v → (IsMaking phase → ⊥)
+      → (IsRebuild phase → ⊥) → (looks_back phase ≡ false → greatest_refuser counted ≡ None) → NoneStops counted
+      → NextFits fresh (within phase) (read_back block code (within phase) v)
+  read_back_fits block code fresh phase None nothing unmade other none roomy =
+      cond_both (may_look_back (within phase)) (Sends (in_phase (within phase) (LooksBack None))) (Waits (forgetting (within phase)))
+      (λ (next : Next). NextFits fresh (within phase) next)
+      (λ may. looks_back_fits fresh phase unmade other (not-true (looks_back phase) (and_parts (nat_lt 1 stamp.view.0) (not (looks_back phase)) may).1) nothing)
+      (λ isnt. forgets_fits phase none roomy (inl nothing))
+  read_back_fits block code fresh phase (Some v) found unmade other none roomy =
+      cond_both (nat_lt (length (pieces_at v counted)) group.m) (Sends (in_phase (within phase) (lower_phase phase v)))
       (Makes (restoring block (within phase) v (code.decode group.m (pieces_at v counted))))
       (λ (next : Next). NextFits fresh (within phase) next)
-      (λ few. descends_fits fresh phase v unmade)
+      (λ few. lower_fits fresh phase v unmade)
       (λ enough. restores_fits block phase v (code.decode group.m (pieces_at v counted)) unmade)
 
   -- an abort in a phase that is no round of ordering, or in the last one
@@ -344,13 +409,14 @@ module _ (group : Group) (prior : List BrickId) (ask : Ask) (stamp : Stamp) (rou
   aborts_fits fresh phase r refused last =
       (abort_ends phase (Cause.Later r.brick r.stamp), record { seat = r.seat; refused = refused; last = last })
 
-  -- a member that moved on aborts any phase, and so does one whose store is full
-  unless_told_fits : (fresh : Option Stamp) (phase : Phase) (next : Next) (m : Option Mover) (f : Option FullMember) → lowest_mover counted ≡ m
-      → lowest_full counted ≡ f → (NoneStops counted → NextFits fresh (within phase) next)
-      → NextFits fresh (within phase) (unless_told_moved m (unless_told_full f next))
-  unless_told_fits fresh phase next None None stays roomy fits = fits (stays, roomy)
-  unless_told_fits fresh phase next None (Some f) stays told fits = (abort_ends phase (Cause.Full f.brick f.live), record { seat = f.seat; told = told })
-  unless_told_fits fresh phase next (Some m) f told roomy fits = (abort_ends phase (Cause.Moved m.brick m.view), record { seat = m.seat; told = told })
+  -- a member that moved on aborts any phase, and so does one that dropped the view before, or one whose store is full
+  unless_told_fits : (fresh : Option Stamp) (phase : Phase) (next : Next) (m : Option Mover) (g : Option Dropper) (f : Option FullMember)
+      → lowest_mover counted ≡ m → lowest_dropper counted ≡ g → lowest_full counted ≡ f → (NoneStops counted → NextFits fresh (within phase) next)
+      → NextFits fresh (within phase) (unless_told_moved m (unless_told_gone g (unless_told_full f next)))
+  unless_told_fits fresh phase next None None None stays kept roomy fits = fits (stays, kept, roomy)
+  unless_told_fits fresh phase next None None (Some f) stays kept told fits = (abort_ends phase (Cause.Full f.brick f.live), record { seat = f.seat; told = told })
+  unless_told_fits fresh phase next None (Some g) f stays told roomy fits = (abort_ends phase (Cause.Gone g.brick), record { seat = g.seat; told = told; stays = stays })
+  unless_told_fits fresh phase next (Some m) g f told kept roomy fits = (abort_ends phase (Cause.Moved m.brick m.view), record { seat = m.seat; told = told })
 
   again_fits : (fresh : Option Stamp) (phase : Phase) (r : Refuser) → IsRound phase
       → ((f : Option Stamp) → NoRoundFits f (within phase) → LastFits f (within phase) phase)
@@ -360,7 +426,7 @@ module _ (group : Group) (prior : List BrickId) (ask : Ask) (stamp : Stamp) (rou
       cond_both (nat_lt round most_rounds) (Sends (reordering (within phase) t)) (aborted_by r)
       (λ (next : Next). NextFits (Some t) (within phase) next)
       (λ few. record {
-        same = record { ask = refl; members = refl; boot = refl; seq = refl; group = refl; view = refl; stripe = refl };
+        same = record { ask = refl; members = refl; prior = refl; boot = refl; seq = refl; group = refl; stripe = refl };
         call = refl;
         counted = refl;
         how = inl (record {
@@ -388,14 +454,14 @@ module _ (group : Group) (prior : List BrickId) (ask : Ask) (stamp : Stamp) (rou
 
   recovered_fits : (block : ℕ) (code : Code) (fresh : Option Stamp) (r : Option Refuser) → greatest_refuser counted ≡ r → NoneStops counted
       → NextFits fresh (within Recovers) (once_ordered fresh (within Recovers) r (read_back block code (within Recovers) (greatest_found counted)))
-  recovered_fits block code fresh None refused roomy = read_back_fits block code fresh Recovers (greatest_found counted) (λ is. is) refused roomy
+  recovered_fits block code fresh None refused roomy = read_back_fits block code fresh Recovers (greatest_found counted) refl (λ is. is) (λ is. is) (λ ahead. refused) roomy
   recovered_fits block code fresh (Some r) refused roomy = again_fits fresh Recovers r tt (λ f none. none) (λ is. is) refused
 
   descended_fits : (block : ℕ) (code : Code) (fresh : Option Stamp) (bound : Stamp) (r : Option Refuser) → greatest_refuser counted ≡ r
       → NoneStops counted
       → NextFits fresh (within (Descends bound)) (unless_refused r (read_back block code (within (Descends bound)) (greatest_found counted)))
   descended_fits block code fresh bound None refused roomy =
-      read_back_fits block code fresh (Descends bound) (greatest_found counted) (λ is. is) refused roomy
+      read_back_fits block code fresh (Descends bound) (greatest_found counted) refl (λ is. is) (λ is. is) (λ ahead. refused) roomy
   descended_fits block code fresh bound (Some r) refused roomy = aborts_fits fresh (Descends bound) r refused tt
 
   modifies_fits : (fresh : Option Stamp) (v : Stamp) (j : ℕ) (r : Option Refuser) → greatest_refuser counted ≡ r
@@ -419,26 +485,29 @@ module _ (group : Group) (prior : List BrickId) (ask : Ask) (stamp : Stamp) (rou
 
   decided_fits : (block : ℕ) (code : Code) (fresh : Option Stamp) (phase : Phase) → NextFits fresh (within phase) (decided block code fresh (within phase))
   unfolding decided
-  decided_fits block code fresh Looks = unless_told_fits fresh Looks _ (lowest_mover counted) (lowest_full counted) refl refl (λ roomy. answered_fast_fits code fresh (fast_version counted))
-  decided_fits block code fresh Orders = unless_told_fits fresh Orders _ (lowest_mover counted) (lowest_full counted) refl refl (λ roomy. ordered_fits fresh (greatest_refuser counted) refl)
+  decided_fits block code fresh Looks = unless_told_fits fresh Looks _ (lowest_mover counted) (lowest_dropper counted) (lowest_full counted) refl refl refl (λ roomy. answered_fast_fits code fresh (fast_version counted))
+  decided_fits block code fresh Orders = unless_told_fits fresh Orders _ (lowest_mover counted) (lowest_dropper counted) (lowest_full counted) refl refl refl (λ roomy. ordered_fits fresh (greatest_refuser counted) refl)
   decided_fits block code fresh (LooksAt j) =
-      unless_told_fits fresh (LooksAt j) _ (lowest_mover counted) (lowest_full counted) refl refl (λ roomy. answered_fast_at_fits fresh j (fast_version_at j counted))
+      unless_told_fits fresh (LooksAt j) _ (lowest_mover counted) (lowest_dropper counted) (lowest_full counted) refl refl refl (λ roomy. answered_fast_at_fits fresh j (fast_version_at j counted))
   decided_fits block code fresh (OrdersAt j) =
-      unless_told_fits fresh (OrdersAt j) _ (lowest_mover counted) (lowest_full counted) refl refl (λ roomy. ordered_at_fits code fresh j (greatest_refuser counted) refl)
+      unless_told_fits fresh (OrdersAt j) _ (lowest_mover counted) (lowest_dropper counted) (lowest_full counted) refl refl refl (λ roomy. ordered_at_fits code fresh j (greatest_refuser counted) refl)
   decided_fits block code fresh Recovers =
-      unless_told_fits fresh Recovers _ (lowest_mover counted) (lowest_full counted) refl refl (recovered_fits block code fresh (greatest_refuser counted) refl)
+      unless_told_fits fresh Recovers _ (lowest_mover counted) (lowest_dropper counted) (lowest_full counted) refl refl refl (recovered_fits block code fresh (greatest_refuser counted) refl)
   decided_fits block code fresh (Descends bound) =
-      unless_told_fits fresh (Descends bound) _ (lowest_mover counted) (lowest_full counted) refl refl (descended_fits block code fresh bound (greatest_refuser counted) refl)
+      unless_told_fits fresh (Descends bound) _ (lowest_mover counted) (lowest_dropper counted) (lowest_full counted) refl refl refl (descended_fits block code fresh bound (greatest_refuser counted) refl)
+  decided_fits block code fresh (LooksBack bound) =
+      unless_told_fits fresh (LooksBack bound) _ (lowest_mover counted) (lowest_dropper counted) (lowest_full counted) refl refl refl
+      (read_back_fits block code fresh (LooksBack bound) (greatest_found counted) refl (λ is. is) (λ is. is) (λ ahead. absurd (false≢true (sym ahead))))
   decided_fits block code fresh (Modifies u j) =
-      unless_told_fits fresh (Modifies u j) _ (lowest_mover counted) (lowest_full counted) refl refl (λ roomy. modifies_fits fresh u j (greatest_refuser counted) refl)
+      unless_told_fits fresh (Modifies u j) _ (lowest_mover counted) (lowest_dropper counted) (lowest_full counted) refl refl refl (λ roomy. modifies_fits fresh u j (greatest_refuser counted) refl)
   decided_fits block code fresh (Bases u) =
-      unless_told_fits fresh (Bases u) _ (lowest_mover counted) (lowest_full counted) refl refl (bases_fits block code fresh u (greatest_refuser counted) refl)
+      unless_told_fits fresh (Bases u) _ (lowest_mover counted) (lowest_dropper counted) (lowest_full counted) refl refl refl (bases_fits block code fresh u (greatest_refuser counted) refl)
   decided_fits block code fresh Stores =
-      unless_told_fits fresh Stores _ (lowest_mover counted) (lowest_full counted) refl refl (λ roomy. stored_fits fresh (Some stamp) (read_of block ask.op content) (greatest_refuser counted) refl)
+      unless_told_fits fresh Stores _ (lowest_mover counted) (lowest_dropper counted) (lowest_full counted) refl refl refl (λ roomy. stored_fits fresh (Some stamp) (read_of block ask.op content) (greatest_refuser counted) refl)
 
 -- what a coordinator decides, with a quorum of replies or without, fits it
 pub once_full_fits : (block : ℕ) (code : Code) (fresh : Option Stamp) (c : Coordinator) → NextFits fresh c (once_full block code fresh c)
 once_full_fits block code fresh c =
-    cond_both (nat_lt (length c.counted) (quorum_of c.group)) _ _ (λ (next : Next). NextFits fresh c next)
+    cond_both (nat_lt (length c.counted) (quorum_of (asked_group c))) _ _ (λ (next : Next). NextFits fresh c next)
     (λ few. waits_fits c.group c.prior c.ask c.stamp c.round c.base c.content c.call c.counted c.phase)
     (λ enough. decided_fits c.group c.prior c.ask c.stamp c.round c.base c.content c.call c.counted block code fresh c.phase)

@@ -1,8 +1,10 @@
 -- Each call has stamps of its own.
+use Rattle.std.specs.Prelude.{if◌then◌else◌, ◌-◌}
+use Rattle.fab_base.specs.declared.identities.ViewNo.{ViewNo}
 use Rattle.std.specs.Option.{option_map}
 use Rattle.fab_base.specs.Layouts.{Group, group_of}
-use Rattle.std.proofs.Common.{◌≡◌, ℕ, inl, inr, true, false, Some, refl, sym, ap, ◌∙◌, subst, arith}
-use Rattle.std.proofs.lemmas.Bool.{false≢true}
+use Rattle.std.proofs.Common.{◌≡◌, ℕ, inl, inr, true, false, Some, refl, sym, ap, ◌∙◌, subst, arith, Bool, List, Option, None, ◌≤◌}
+use Rattle.std.proofs.lemmas.Bool.{false≢true, cond_both}
 use Rattle.std.proofs.lemmas.Option.{same_Some}
 use Rattle.fab_base.specs.declared.identities.BrickId.{BrickId}
 use Rattle.fab_base.specs.declared.stamps.Stamp.{Stamp}
@@ -20,13 +22,13 @@ use Rattle.messages.specs.declared.requests.Request.{Request}
 use Rattle.protocol.specs.Settings.{Setting}
 use Rattle.protocol.specs.Views.{Views, view_of, group_in, kept_by}
 use Rattle.protocol.specs.declared.phases.Phase.{Phase}
-use Rattle.protocol.specs.declared.phases.Phase.TheVariants.{LooksAt, Orders, OrdersAt, Recovers, Descends, Modifies, Stores}
-use Rattle.protocol.specs.Coordinators.{Coordinator}
+use Rattle.protocol.specs.declared.phases.Phase.TheVariants.{LooksAt, Orders, OrdersAt, Recovers, Descends, Modifies, Stores, LooksBack}
+use Rattle.protocol.specs.Coordinators.{Coordinator, asked_group, looks_back}
 use Rattle.protocol.specs.Worlds.{World, Operation, number_of}
 use Rattle.protocol.specs.Happenings.{writes}
 use Rattle.protocol_laws.specs.Laws.{WasSent, RequestSent, IsCallOf, stamp_asked, order_of}
 use Rattle.protocol_laws.proofs.Books.{Books, OperationBooks, IsOperation, IsCall, CallBooks}
-use Rattle.protocol_laws.proofs.Said.{Stamping, Said, IsMadeOrFirst, IsBegun, IsStamped, IsCalled, FitsPhase, DescendsFrom, RequestSays, OrderSays, OrderReadSays, look_of, want_of}
+use Rattle.protocol_laws.proofs.Said.{Stamping, Said, IsMadeOrFirst, IsBegun, IsStamped, IsCalled, FitsPhase, DescendsFrom, RequestSays, OrderSays, OrderReadSays, look_of, want_of, CallSays}
 use Rattle.protocol_laws.proofs.Outcomes.{IsRound}
 use Rattle.protocol_laws.proofs.Stampings.{not_first, begun_once}
 
@@ -46,6 +48,25 @@ is_round (WriteStripe bytes) = tt
 -- it is none in which a version is stored
 ordering_only : (op : Op) (p : Phase) → p ≡ ordering op → IsRound p
 ordering_only op p is = subst (λ (q : Phase). IsRound q) (sym is) (is_round op)
+
+-- a phase that looks back does so below some bound
+pub back_is : (p : Phase) → looks_back p ≡ true → (bound : Option Stamp) × (p ≡ LooksBack bound)
+back_is (LooksBack bound) is = (bound, refl)
+back_is p is = absurd (false≢true is)
+
+-- a group that is kept by some members, as others keep it
+regrouped : (one other : List BrickId) (z : Option Group) (group : Group) → option_map (kept_by one) z ≡ Some group
+    → option_map (kept_by other) z ≡ Some (kept_by other group)
+regrouped one other None group is = absurd (let never : None ≡ Some group = is in cc)
+regrouped one other (Some base) group is = ap (λ (z : Group). Some (kept_by other z)) (same_Some (kept_by one base) group is)
+
+-- what a group asks of its blocks does not depend on who keeps it
+pub asked_m : (c : Coordinator) → (asked_group c).m ≡ c.group.m
+asked_m c = cond_both (looks_back c.phase) (kept_by c.prior c.group) c.group (λ (z : Group). z.m ≡ c.group.m) (λ back. refl) (λ ahead. refl)
+
+-- an operation's own members are asked where it does not look back
+pub ahead_group : (c : Coordinator) → looks_back c.phase ≡ false → asked_group c ≡ c.group
+ahead_group c ahead = ap (λ (b : Bool). if b then kept_by c.prior c.group else c.group) ahead
 
 module _ (setting : Setting) (views : Views) (w : World) (stamps : Stamping) (books : Books setting w) (said : Said setting views w stamps) where
   -- two phases with one stamp are of the same call
@@ -94,23 +115,60 @@ module _ (setting : Setting) (views : Views) (w : World) (stamps : Stamping) (bo
       let bad : true ≡ false = sym made.5 ∙ ap (λ (z : Operation). z.made) same ∙ unmade in
       cc
 
-  -- an open operation's stamp is of its call's view
-  pub own_in : (i k : ℕ) (c : Coordinator) → IsCall w i k c → view_of c.stamp ≡ c.call.view.0
-  own_in i k c is =
-      let of = (books.calls i k c is).stamp_view in
+  -- an open operation's stamp is of a view
+  pub own_view : (i k : ℕ) (c : Coordinator) → IsCall w i k c → 1 ≤ c.stamp.view.0
+  own_view i k c is =
       let its = books.calls i k c is in
-      let view = its.call_view in
+      let of = its.stamp_view in
       let some = (said.operations (number_of w i k) its.operation its.operation_is).view.0 in
-      omega (arith, of, view, some)
+      omega (arith, of, some)
 
-  -- its members keep its group in that view
-  pub call_in : (i k : ℕ) (c : Coordinator) → IsCall w i k c → (g : ℕ) (v : Stamp) → g ≡ c.ask.group.0 → view_of v ≡ c.call.view.0
+  pub own_in : (i k : ℕ) (c : Coordinator) → IsCall w i k c → view_of c.stamp ≡ c.stamp.view.0
+  own_in i k c is = let some = own_view i k c is in omega (arith, some)
+
+  -- a phase that does not look back asks the members of that view, under a call of it
+  pub ahead_call : (i k : ℕ) (c : Coordinator) → IsCall w i k c → looks_back c.phase ≡ false → c.call.view.0 ≡ c.stamp.view.0
+  ahead_call i k c is ahead =
+      ap (λ (v : ViewNo). v.0) ((books.calls i k c is).call_view ∙ ap (λ (b : Bool). if b then record { 0 = c.stamp.view.0 - 1 } else c.stamp.view) ahead)
+
+  -- one that looks back asks those of the view before
+  pub back_call : (i k : ℕ) (c : Coordinator) → IsCall w i k c → looks_back c.phase ≡ true → c.call.view.0 ≡ c.stamp.view.0 - 1
+  back_call i k c is back =
+      ap (λ (v : ViewNo). v.0) ((books.calls i k c is).call_view ∙ ap (λ (b : Bool). if b then record { 0 = c.stamp.view.0 - 1 } else c.stamp.view) back)
+
+  -- the members that a phase asks keep the group in the call's view
+  pub asked_is : (i k : ℕ) (c : Coordinator) → IsCall w i k c → group_in setting.layout views c.call.group.0 c.call.view.0 ≡ Some (asked_group c)
+  asked_is i k c is = by (looks_back c.phase) refl
+    where
+      says : CallSays setting views w stamps i k c
+      says = said.calls i k c is
+
+      by : (b : Bool) → looks_back c.phase ≡ b → group_in setting.layout views c.call.group.0 c.call.view.0 ≡ Some (asked_group c)
+      by false ahead =
+          ap (λ (e : ℕ). group_in setting.layout views c.call.group.0 e) (ahead_call i k c is ahead) ∙ says.group
+          ∙ sym (ap (λ (b : Bool). Some (if b then kept_by c.prior c.group else c.group)) ahead)
+      by true back =
+          let bound = back_is c.phase back in
+          ap (λ (e : ℕ). group_in setting.layout views c.call.group.0 e) (back_call i k c is back)
+          ∙ regrouped (views c.call.group.0 c.stamp.view.0) (views c.call.group.0 (c.stamp.view.0 - 1)) (group_of setting.layout c.call.group.0) c.group says.group
+          ∙ sym (ap (λ (l : List BrickId). Some (kept_by l c.group)) (says.prior (says.back bound.0 bound.1).view))
+          ∙ sym (ap (λ (b : Bool). Some (if b then kept_by c.prior c.group else c.group)) back)
+
+  -- in a version's view, where it is that of the call
+  pub asked_in : (i k : ℕ) (c : Coordinator) → IsCall w i k c → (g : ℕ) (v : Stamp) → g ≡ c.ask.group.0 → view_of v ≡ c.call.view.0
+      → group_in setting.layout views g (view_of v) ≡ Some (asked_group c)
+  asked_in i k c is g v at of =
+      ap (λ (h : ℕ). group_in setting.layout views h (view_of v)) (at ∙ ap (λ h. h.0) (sym (books.calls i k c is).call_group))
+      ∙ ap (λ (e : ℕ). group_in setting.layout views c.call.group.0 e) of ∙ asked_is i k c is
+
+  -- its members keep its group in its view
+  pub call_in : (i k : ℕ) (c : Coordinator) → IsCall w i k c → (g : ℕ) (v : Stamp) → g ≡ c.ask.group.0 → view_of v ≡ c.stamp.view.0
       → group_in setting.layout views g (view_of v) ≡ Some c.group
   call_in i k c is g v at of =
       ap (λ (h : ℕ). group_in setting.layout views h (view_of v)) (at ∙ ap (λ h. h.0) (sym (books.calls i k c is).call_group))
       ∙ ap (λ (e : ℕ). group_in setting.layout views c.call.group.0 e) of ∙ (said.calls i k c is).group
 
-  pub call_by : (i k : ℕ) (c : Coordinator) → IsCall w i k c → (g : ℕ) (v : Stamp) → g ≡ c.ask.group.0 → view_of v ≡ c.call.view.0
+  pub call_by : (i k : ℕ) (c : Coordinator) → IsCall w i k c → (g : ℕ) (v : Stamp) → g ≡ c.ask.group.0 → view_of v ≡ c.stamp.view.0
       → (other : Group) → group_in setting.layout views g (view_of v) ≡ Some other → c.group ≡ other
   call_by i k c is g v at of other other_is = same_Some c.group other (sym (call_in i k c is g v at of) ∙ other_is)
 
@@ -118,9 +176,9 @@ module _ (setting : Setting) (views : Views) (w : World) (stamps : Stamping) (bo
   pub m_is : (i k : ℕ) (c : Coordinator) → IsCall w i k c → (g : ℕ) (other : Group) → g ≡ c.ask.group.0 → group_of setting.layout g ≡ Some other
       → other.m ≡ c.group.m
   m_is i k c is g other at other_is =
-      ap (λ (z : Group). z.m) (same_Some (kept_by (views g c.call.view.0) other) c.group
-      (sym (ap (option_map (kept_by (views g c.call.view.0))) other_is)
-      ∙ ap (λ (h : ℕ). group_in setting.layout views h c.call.view.0) (at ∙ ap (λ h. h.0) (sym (books.calls i k c is).call_group))
+      ap (λ (z : Group). z.m) (same_Some (kept_by (views g c.stamp.view.0) other) c.group
+      (sym (ap (option_map (kept_by (views g c.stamp.view.0))) other_is)
+      ∙ ap (λ (h : ℕ). group_in setting.layout views h c.stamp.view.0) (at ∙ ap (λ h. h.0) (sym (books.calls i k c is).call_group))
       ∙ (said.calls i k c is).group))
 
   -- what a request that was sent says
@@ -140,14 +198,15 @@ module _ (setting : Setting) (views : Views) (w : World) (stamps : Stamping) (bo
   order_at p t j looks wants = cc
 
   -- and one of a read is its recovery's first
-  order_read : (op : Op) (p : Phase) (t : Stamp) → writes op ≡ false → look_of p t ≡ Some (Below t) → FitsPhase p op → DescendsFrom p op t
-      → p ≡ Recovers
-  order_read op Recovers t reads looks fits from = refl
-  order_read op (OrdersAt k) t reads looks fits from = absurd (false≢true (sym reads ∙ ap writes fits.1))
-  order_read op (Descends bound) t reads looks fits from =
+  order_read : (op : Op) (p : Phase) (t : Stamp) → writes op ≡ false → looks_back p ≡ false → look_of p t ≡ Some (Below t) → FitsPhase p op
+      → DescendsFrom p op t → p ≡ Recovers
+  order_read op Recovers t reads ahead looks fits from = refl
+  order_read op (OrdersAt k) t reads ahead looks fits from = absurd (false≢true (sym reads ∙ ap writes fits.1))
+  order_read op (LooksBack bound) t reads ahead looks fits from = absurd (false≢true (sym ahead))
+  order_read op (Descends bound) t reads ahead looks fits from =
       let same : bound ≡ t = cc in
       absurd (false≢true (sym (stamp_below_irrefl t) ∙ subst (λ (z : Stamp). stamp_below z t ≡ true) same (from.lower bound refl reads)))
-  order_read op p t reads looks fits from = cc
+  order_read op p t reads ahead looks fits from = cc
 
   -- the phase in which a read orders
   read_begun : (call : Call) (from to : BrickId) (o : Operation) (op : Op) (t : Stamp) → IsCalled w from.0 call o → o.ask.op ≡ op → writes op ≡ false
@@ -156,7 +215,7 @@ module _ (setting : Setting) (views : Views) (w : World) (stamps : Stamping) (bo
       let says : OrderReadSays w stamps from.0 call t (Below t) All = sent_says call from to (Request.OrderRead t (Below t) All) sent in
       let same : says.operation.ask.op ≡ op = ap (λ (z : Operation). z.ask.op) (called_once from.0 call says.operation o says.called called) ∙ is in
       subst (λ (p : Phase). IsBegun stamps from.0 call.boot call.seq call.phase p t)
-      (order_read says.operation.ask.op says.phase t (ap writes same ∙ reads) says.look_is says.fits says.from) says.begun
+      (order_read says.operation.ask.op says.phase t (ap writes same ∙ reads) says.ahead says.look_is says.fits says.from) says.begun
 
   -- the phase in which an operation orders
   order_begun : (call : Call) (from to : BrickId) (o : Operation) (op : Op) (t : Stamp) → IsCalled w from.0 call o → o.ask.op ≡ op

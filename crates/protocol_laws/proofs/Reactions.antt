@@ -265,6 +265,7 @@ ReactionSays seat full replica request next (OrderedRead found) = (t : Stamp) ×
 ReactionSays seat full replica request next Stored = (t : Stamp) × (stamp_stored request ≡ Some t) × (is_held t next.log ≡ true)
 ReactionSays seat full replica request next (Later x) = (t : Stamp) × (stamp_asked request ≡ Some t) × (stamp_below t x ≡ true)
 ReactionSays seat full replica request next (Full live) = full ≡ Some live
+ReactionSays seat full replica request next (Reply.Old found) = ⊥
 ReactionSays seat full replica request next reply = Unit {0}
 
 -- of a reply, if there is one

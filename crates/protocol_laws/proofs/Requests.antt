@@ -35,7 +35,7 @@ use Rattle.protocol_laws.proofs.Stampings.{ages_within, stamps_same}
 use Rattle.protocol_laws.proofs.Growth.{Grows, Continues, stays_version, stays_told, stays_called, stays_found, stays_collected}
 use Rattle.protocol_laws.proofs.Steps.{KeepsParts, quiet, quiet_grows, said_quiet, stamps_stay_by}
 use Rattle.protocol_laws.proofs.Tops.{top_rises, top_most, top_above, view_above, time_rises, kept_now}
-use Rattle.protocol_laws.proofs.StampViews.{StampViews, NodeViews, RequestIsOf, asks_above, asked_view, IsFreeFor, free_for}
+use Rattle.protocol_laws.proofs.StampViews.{StampViews, NodeViews, RequestIsOf, asks_above, asks_view, IsFreeFor, free_for}
 use Rattle.protocol.specs.Views.{Views, view_of, group_in, first_kept}
 
 -- A request to the part in the view that a brick has learnt, which asks for nothing below that, lowers no brick, adds nothing below what it had come
@@ -92,7 +92,7 @@ part_now node call reaction =
     ∙ put_same (node.replicas call.group.0 call.view.0) call.stripe.0 reaction.replica
 
 -- what was found is at least what is below it
-within_lower : (found : Option Version) (d c : Stamp) → stamp_below d c ≡ true → IsWithin found c → IsWithin found d
+pub within_lower : (found : Option Version) (d c : Stamp) → stamp_below d c ≡ true → IsWithin found c → IsWithin found d
 within_lower None d c less within = within
 within_lower (Some version) d c less within = stamp_not_below_trans d c version.stamp (stamp_below_asym d c less) within
 
@@ -162,7 +162,7 @@ module _ (setting : Setting) (views : Views) (w : World) (stamps : Stamping) (me
   asked_as = stamped.packets sent.0 (record { from = from; to = me; message = Message.Request call request }) sent.1
 
   asked_in : (t : Stamp) → stamp_asked request ≡ Some t → view_of t ≡ call.view.0
-  asked_in = asked_view setting.layout (w.nodes me.0) call request (stamped.nodes me.0) asked_as view
+  asked_in = asks_view setting.layout (w.nodes me.0) call request (stamped.nodes me.0) asked_as view
 
   asked_known : (t : Stamp) → stamp_asked request ≡ Some t → IsKnown stamps t
   asked_known t is = inr (from.0, call.boot, call.seq, call.phase, asked_stamped t is)
@@ -510,6 +510,7 @@ module _ (setting : Setting) (views : Views) (w : World) (stamps : Stamping) (me
     )
     reply_says (Reply.Later x) told = (told.0, later_asked told.0 told.1, told.2)
     reply_says (Reply.Full live) told = full_live live told
+    reply_says (Reply.Old found) told = absurd told
     reply_says r told = tt
 
     -- its reply says what it should
@@ -535,5 +536,6 @@ module _ (setting : Setting) (views : Views) (w : World) (stamps : Stamping) (me
           logs = logs;
           lowest = lowest;
           calls = λ k c is. inl (is, λ p. refl);
+          jobs = λ job is. inl is;
           packets = packets_say;
         })

@@ -2,7 +2,7 @@
 -- brick's calls is remembered beside the world.
 use Rattle.quorum.specs.Quorums.{IsWithinLimits}
 use Rattle.std.specs.List.{IsDistinct}
-use Rattle.std.proofs.Common.{◌≡◌, ℕ, ◌<◌, ◌≤◌, ◌⊎◌, Bool, true, false, not, List, [], ◌∷◌, length, Option, Some, None, ◌+◌}
+use Rattle.std.proofs.Common.{◌≡◌, ℕ, ◌<◌, ◌≤◌, ◌⊎◌, Bool, true, false, not, List, [], ◌∷◌, length, Option, Some, None, ◌+◌, ◌-◌}
 use Rattle.std.specs.Prelude.{slice_get, nat_eq, map}
 use Rattle.fab_base.specs.declared.identities.BrickId.{BrickId}
 use Rattle.fab_base.specs.declared.stamps.Stamp.{Stamp}
@@ -30,15 +30,16 @@ use Rattle.protocol.specs.Views.{Views, group_in, view_of, floor_of}
 use Rattle.protocol.specs.Settings.{Setting}
 use Rattle.protocol.specs.Replicas.{top_of, stamp_max, modified_block, is_wanted}
 use Rattle.protocol.specs.declared.phases.Phase.{Phase}
-use Rattle.protocol.specs.declared.phases.Phase.TheVariants.{Looks, LooksAt, Orders, OrdersAt, Recovers, Descends, Modifies, Bases, Stores}
+use Rattle.protocol.specs.declared.phases.Phase.TheVariants.{Looks, LooksAt, Orders, OrdersAt, Recovers, Descends, Modifies, Bases, Stores, LooksBack}
 use Rattle.protocol.specs.declared.phases.Counted.{Counted}
-use Rattle.protocol.specs.Coordinators.{Coordinator, answers_phase, has_seat, request_of, delta_at}
+use Rattle.protocol.specs.Coordinators.{Coordinator, answers_phase, has_seat, request_of, delta_at, old_bound, asked_group, looks_back}
+use Rattle.protocol.specs.Jobs.{Job}
 use Rattle.protocol.specs.Nodes.{Node, given_content, view_at}
 use Rattle.protocol.specs.Worlds.{World, Operation, zero_content}
 use Rattle.protocol.specs.Happenings.{writes}
 use Rattle.fab_base.specs.Layouts.{brick_at}
 use Rattle.protocol_laws.specs.Laws.{WasSent, RequestSent, AskedAt, AtQuorum, IsModified, stamp_stored, IsGuarded, IsBlocked, top_in, part_in, first_kept_in}
-use Rattle.protocol_laws.proofs.Books.{IsOperation, IsCall}
+use Rattle.protocol_laws.proofs.Books.{IsOperation, IsCall, IsReadable}
 use Rattle.protocol_laws.proofs.Blocking.{LogsFit}
 use Rattle.protocol_laws.proofs.Logs.{IsWithin}
 use Rattle.protocol.proofs.Blocks.{IsContent}
@@ -60,11 +61,12 @@ IsBegun stamps i b k p phase t = stamps i b k p ≡ Some (record { stamp = t; ph
 abbrev pub IsStamped : Stamping → ℕ → ℕ → ℕ → ℕ → Stamp → Type 0
 IsStamped stamps i b k p t = (phase : Phase) × IsBegun stamps i b k p phase t
 
--- the version that a phase of stamp t looks for at each member as it orders, if it looks for one
+-- the version that a phase of stamp t looks for at each member as it orders, or in the view before, if it looks for one
 abbrev pub look_of : Phase → Stamp → Option Look
 look_of (OrdersAt j) t = Some (Below t)
 look_of Recovers t = Some (Below t)
 look_of (Descends bound) t = Some (Below bound)
+look_of (LooksBack bound) t = Some (Below (old_bound t bound))
 look_of (Bases base) t = Some (At base)
 look_of phase t = None
 
@@ -152,6 +154,7 @@ FitsPhase Orders op = (bytes : List ℕ) × (op ≡ WriteStripe bytes)
 FitsPhase (OrdersAt j) op = (bytes : List ℕ) × (op ≡ WriteBlock j bytes)
 FitsPhase Recovers op = writes op ≡ false
 FitsPhase (Descends bound) op = (bytes : List ℕ) → op ≡ WriteStripe bytes → ⊥
+FitsPhase (LooksBack bound) op = (bytes : List ℕ) → op ≡ WriteStripe bytes → ⊥
 FitsPhase (Modifies base j) op = (bytes : List ℕ) × (op ≡ WriteBlock j bytes)
 FitsPhase (Bases base) op = (j : ℕ) × (bytes : List ℕ) × (op ≡ WriteBlock j bytes)
 FitsPhase Stores op = Unit {0}
@@ -220,6 +223,7 @@ pub record OrderReadSays (w : World) (stamps : Stamping) (i : ℕ) (call : Call)
   pub called : IsCalled w i call operation
   pub phase : Phase
   pub begun : IsBegun stamps i call.boot call.seq call.phase phase t
+  pub ahead : looks_back phase ≡ false
   pub look_is : look_of phase t ≡ Some look
   pub want_is : want_of phase ≡ want
   pub fits : FitsPhase phase operation.ask.op
@@ -232,6 +236,12 @@ pub record OrderSays (w : World) (stamps : Stamping) (i : ℕ) (call : Call) (t 
   pub called : IsCalled w i call operation
   pub begun : IsBegun stamps i call.boot call.seq call.phase Orders t
   pub fits : FitsPhase Orders operation.ask.op
+
+-- a request for what a member keeps in the view before that of the operation
+pub record OldReadSays (stamps : Stamping) (i : ℕ) (call : Call) (bound : Option Stamp) : Type 0 where
+  pub stamp : Stamp
+  pub begun : IsBegun stamps i call.boot call.seq call.phase (LooksBack bound) stamp
+  pub view : stamp.view.0 ≡ call.view.0 + 1
 
 -- a request to drop what is below version c: its operation made that, and was answered
 pub record CollectSays (w : World) (i : ℕ) (call : Call) (c : Stamp) : Type 0 where
@@ -267,6 +277,7 @@ RequestSays setting views w stamps i j call (Request.OrderRead t look want) = Or
 RequestSays setting views w stamps i j call (Request.Write t block) = WriteSays setting views w stamps i j call t block
 RequestSays setting views w stamps i j call (Request.Modify t base d delta) = ModifySays setting views w stamps i j call t base d delta
 RequestSays setting views w stamps i j call (Request.Collect c) = CollectSays w i call c
+RequestSays setting views w stamps i j call (Request.OldRead bound) = OldReadSays stamps i call bound
 RequestSays setting views w stamps i j call request = Unit {0}
 
 -- an order that brick j answered
@@ -298,6 +309,17 @@ module _ (setting : Setting) (views : Views) (w : World) where
     pub held : (version : Version) → found ≡ Some version → w.held j call.group.0 call.stripe.0 version.stamp ≡ true
     pub says : (version : Version) → found ≡ Some version → ToldSays setting views w (want_of phase) call.group.0 call.view.0 call.stripe.0 j version
 
+  -- What brick j found in the call's view, which it serves no more: it takes nothing below the first stamp of the next view; each version of the call's view
+  -- that is looked for, and that it has held, is at most what it found, or is passed over.
+  pub record OldSays (stamps : Stamping) (j i : ℕ) (call : Call) (found : Option Version) : Type 0 where
+    pub bound : Option Stamp
+    pub request : OldReadSays stamps i call bound
+    pub passed : stamp_below (top_in w call.group.0 call.stripe.0 j) (floor_of request.stamp.view.0) ≡ false
+    pub newest : (d : Stamp) → view_of d ≡ call.view.0 → w.held j call.group.0 call.stripe.0 d ≡ true → stamp_below d (old_bound request.stamp bound) ≡ true
+        → IsWithin found d ⊎ IsPassedOver w call.group.0 call.view.0 call.stripe.0 (Below (old_bound request.stamp bound)) request.stamp d
+    pub held : (version : Version) → found ≡ Some version → w.held j call.group.0 call.stripe.0 version.stamp ≡ true
+    pub says : (version : Version) → found ≡ Some version → ToldSays setting views w All call.group.0 call.view.0 call.stripe.0 j version
+
   -- what brick j found
   pub record FoundSays (stamps : Stamping) (j i : ℕ) (call : Call) (order : Stamp) (version : Version) : Type 0 where
     pub operation : Operation
@@ -320,11 +342,18 @@ module _ (setting : Setting) (views : Views) (w : World) where
       × (w.held from.0 call.group.0 call.stripe.0 t ≡ true)
   ReplySays stamps from to call (Reply.Later x) = (t : Stamp) × AskedAt w call to from t × (stamp_below t x ≡ true)
   ReplySays stamps from to call (Reply.Full live) = live ≡ setting.layout.records
+  ReplySays stamps from to call (Reply.Old found) = OldSays stamps from.0 to.0 call found
   ReplySays stamps from to call reply = Unit {0}
+
+  -- each stripe of the group, and stripe 0, has a version of the view that stands
+  abbrev pub SyncedSays : ℕ → ℕ → Type 0
+  SyncedSays g e = (s : ℕ) (group : Group) → group_of setting.layout g ≡ Some group → IsReadable group s
+      → (v : Stamp) × (view_of v ≡ e) × Stands setting views w g s v
 
   abbrev pub MessageSays : Stamping → BrickId → BrickId → Message → Type 0
   MessageSays stamps from to (Message.Request call request) = RequestSays setting views w stamps from.0 to.0 call request
   MessageSays stamps from to (Message.Reply call reply) = ReplySays stamps from to call reply
+  MessageSays stamps from to (Message.Synced group number) = SyncedSays group.0 number.0
   MessageSays stamps from to message = Unit {0}
 
   abbrev pub PacketSays : Stamping → Packet → Type 0
@@ -352,10 +381,16 @@ module _ (setting : Setting) (views : Views) (w : World) where
 abbrev pub WritesWhole : World → Operation → Stamp → Type 0
 WritesWhole w o v = (o.base ≡ None) × (o.ask.op ≡ WriteStripe (w.contents o.ask.group.0 o.ask.stripe.0 v))
 
+-- a quorum of each view of a group before this one takes nothing below the first stamp of the next
+abbrev pub ArePassed : Setting → Views → World → ℕ → ℕ → Type 0
+ArePassed setting views w g most =
+    (e s : ℕ) (group : Group) → 1 ≤ e → e < most → group_in setting.layout views g e ≡ Some group → IsGuarded w g s group (floor_of (e + 1))
+
 -- operation n
 pub record OperationSays (setting : Setting) (views : Views) (w : World) (stamps : Stamping) (n : ℕ) (o : Operation) : Type 0 where
   pub begin : o.begin ≤ length w.marks
   pub view : (1 ≤ o.view) × (o.view ≤ view_at (w.nodes o.brick.0) o.ask.group.0)
+  pub passed : ArePassed setting views w o.ask.group.0 o.view
   pub floors : (i : ℕ) → stamp_below (top_in w o.ask.group.0 o.ask.stripe.0 i) (o.floor i) ≡ false
   pub floors_known : (i : ℕ) → IsKnown stamps (o.floor i) ⊎ ((o.floor i).time ≡ 0)
   pub fresh : (i p : ℕ) → IsStamped stamps o.brick.0 o.boot o.seq p (o.floor i) → ⊥
@@ -371,7 +406,7 @@ pub record OperationSays (setting : Setting) (views : Views) (w : World) (stamps
 pub record CountedSays (setting : Setting) (views : Views) (w : World) (i : ℕ) (c : Coordinator) (x : Counted) : Type 0 where
   pub sent : WasSent w (record { from = x.brick; to = record { 0 = i }; message = Message.Reply c.call x.reply })
   pub answers : answers_phase setting.layout.block c.stamp x.seat c.phase x.reply ≡ true
-  pub seat : seat_in c.group.members x.brick.0 ≡ Some x.seat
+  pub seat : seat_in (asked_group c).members x.brick.0 ≡ Some x.seat
 
 -- each reply that counts
 abbrev pub EachCounted : (Counted → Type 0) → List Counted → Type 0
@@ -383,10 +418,10 @@ abbrev pub AreOnce : List Counted → Type 0
 AreOnce [] = Unit {0}
 AreOnce (x ∷ counted) = (has_seat x.seat counted ≡ false) × AreOnce counted
 
--- Where an operation has made its version on a base: that is of its call's view, a quorum has held it, and the version's content is what it makes of the base's.
+-- Where an operation has made its version on a base: that is of its view, a quorum has held it, and the version's content is what it makes of the base's.
 pub record MadeOn (setting : Setting) (views : Views) (w : World) (c : Coordinator) (base : Stamp) : Type 0 where
   pub base_is : c.base ≡ Some base
-  pub of : view_of base ≡ c.call.view.0
+  pub of : view_of base ≡ c.stamp.view.0
   pub below : stamp_below base c.stamp ≡ true
   pub base_made : IsMadeOrFirst w c.ask.group.0 c.ask.stripe.0 base
   pub stands : Stands setting views w c.ask.group.0 c.ask.stripe.0 base
@@ -400,21 +435,40 @@ base_in (Modifies base j) = Some base
 base_in (Bases base) = Some base
 base_in phase = None
 
--- the open operation of brick i's call k. Its group is as its view's members keep it; its present phase is the last that was begun, and each member was sent its request; where it looks
--- below a bound, which is above the first stamp, no quorum will ever hold a version from there up to its stamp; and where it stores, it stores
--- the content of its version; and a stripe write orders with what it was given.
+-- the bound below which a phase of stamp t looks for a version, where no quorum will ever hold one from there up to the stamp
+abbrev pub bound_in : Phase → Stamp → Option Stamp
+bound_in (Descends bound) t = Some bound
+bound_in (LooksBack bound) t = Some (old_bound t bound)
+bound_in phase t = None
+
+-- An operation of brick i that looks back, below this bound: it has a view before its own, of which the bound is; and a quorum of its own view's members has promised its
+-- stamp, which is at or above how far they had come when it began.
+pub record BackSays (setting : Setting) (views : Views) (w : World) (i : ℕ) (c : Coordinator) (bound : Option Stamp) : Type 0 where
+  pub view : 1 < c.stamp.view.0
+  pub bounded : (b : Stamp) → bound ≡ Some b → view_of b + 1 ≡ c.stamp.view.0
+  pub operation : Operation
+  pub called : IsCalled w i c.call operation
+  pub guarded : (group : Group) → group_in setting.layout views c.call.group.0 (view_of c.stamp) ≡ Some group
+      → IsGuarded w c.call.group.0 c.call.stripe.0 group c.stamp
+  pub floors : (group : Group) → group_in setting.layout views c.call.group.0 (view_of c.stamp) ≡ Some group → FloorsAtMost operation group c.stamp
+
+-- the open operation of brick i's call k. Its group is as its view's members keep it, and those before them are of the view before; its present phase is the last that
+-- was begun, and each member that it asks was sent its request; where it looks below a bound, no quorum will ever hold a version from there up to its stamp, and in its own
+-- view the bound is above the first stamp; and where it stores, it stores the content of its version; and a stripe write orders with what it was given.
 pub record CallSays (setting : Setting) (views : Views) (w : World) (stamps : Stamping) (i k : ℕ) (c : Coordinator) : Type 0 where
-  pub group : group_in setting.layout views c.call.group.0 c.call.view.0 ≡ Some c.group
+  pub group : group_in setting.layout views c.call.group.0 c.stamp.view.0 ≡ Some c.group
+  pub prior : 1 < c.stamp.view.0 → c.prior ≡ views c.call.group.0 (c.stamp.view.0 - 1)
   pub begun : IsBegun stamps i (w.nodes i).boot k c.call.phase c.phase c.stamp
   pub last : (p : ℕ) → c.call.phase < p → stamps i (w.nodes i).boot k p ≡ None
-  pub asked : (seat : ℕ) (member : BrickId) → slice_get c.group.members seat ≡ Some member
+  pub asked : (seat : ℕ) (member : BrickId) → slice_get (asked_group c).members seat ≡ Some member
       → WasSent w (record { from = record { 0 = i }; to = member; message = Message.Request c.call (request_of setting.code c seat) })
   pub fits : FitsPhase c.phase c.ask.op
   pub unbased : c.phase ≡ Orders → c.base ≡ None
   pub given : c.phase ≡ Orders → c.content ≡ given_content c.ask.op
   pub above : (bound : Stamp) → c.phase ≡ Descends bound → stamp_below first_stamp bound ≡ true
   pub from : DescendsFrom c.phase c.ask.op c.stamp
-  pub covered : (bound : Stamp) → c.phase ≡ Descends bound
+  pub back : (bound : Option Stamp) → c.phase ≡ LooksBack bound → BackSays setting views w i c bound
+  pub covered : (bound : Stamp) → bound_in c.phase c.stamp ≡ Some bound
       → AreBlocked setting views w c.ask.group.0 c.ask.stripe.0 (λ d. (stamp_below d bound ≡ false) × (stamp_below d c.stamp ≡ true))
   pub stores : c.phase ≡ Stores
       → IsMadeOrFirst w c.ask.group.0 c.ask.stripe.0 c.stamp × (c.content ≡ w.contents c.ask.group.0 c.ask.stripe.0 c.stamp)
@@ -422,30 +476,41 @@ pub record CallSays (setting : Setting) (views : Views) (w : World) (stamps : St
   pub counted : EachCounted (CountedSays setting views w i c) c.counted
   pub once : AreOnce c.counted
 
--- operation n reads, and the data that it was answered are what it reads of its version
+-- the operation whose marks have number n reads, and the data that it was answered are what it reads of its version
 pub record DataShown (setting : Setting) (w : World) (n : ℕ) (bytes : List ℕ) : Type 0 where
   pub operation : Operation
-  pub is : IsOperation w n operation
+  pub number : ℕ
+  pub is : IsOperation w number operation
+  pub mark : operation.mark ≡ n
   pub version : Stamp
   pub version_is : operation.version ≡ Some version
   pub bytes_are : read_of setting.layout.block operation.ask.op (w.contents operation.ask.group.0 operation.ask.stripe.0 version) ≡ Some bytes
 
--- the end of operation n by this answer
+-- the end, by this answer, of the operation whose marks have number n
 abbrev pub EndShows : Setting → World → ℕ → Answer → Type 0
 EndShows setting w n (Data bytes) = DataShown setting w n bytes
-EndShows setting w n Done = (o : Operation) × IsOperation w n o × (writes o.ask.op ≡ true)
-EndShows setting w n (Aborted cause) = (o : Operation) × IsOperation w n o
+EndShows setting w n Done = (a : ℕ) × (o : Operation) × IsOperation w a o × (o.mark ≡ n) × (writes o.ask.op ≡ true)
+EndShows setting w n (Aborted cause) = (a : ℕ) × (o : Operation) × IsOperation w a o × (o.mark ≡ n)
 
--- where one operation has a version, the bricks had come as far when another of its stripe began, or that began no later than the first may end
+-- where one operation with marks has a version, the bricks had come as far when another of its stripe began, or that began no later than the first may end
 abbrev pub IsInOrder : Setting → Views → World → Type 0
 IsInOrder setting views w =
     (a b : ℕ) (earlier later : Operation) (u : Stamp) → IsOperation w a earlier → IsOperation w b later
-    → earlier.ask.group.0 ≡ later.ask.group.0 → earlier.ask.stripe.0 ≡ later.ask.stripe.0 → earlier.version ≡ Some u
-    → FloorsAbove setting views later u ⊎ (later.begin ≤ last_of (life_of w.marks a))
+    → earlier.ask.group.0 ≡ later.ask.group.0 → earlier.ask.stripe.0 ≡ later.ask.stripe.0 → 1 ≤ earlier.mark → earlier.version ≡ Some u
+    → FloorsAbove setting views later u ⊎ (later.begin ≤ last_of (life_of w.marks earlier.mark))
 
 -- nothing of view e that is below t was ever held
 abbrev pub IsBottom : World → ℕ → ℕ → ℕ → ℕ → Stamp → Type 0
 IsBottom w g e s i t = (d : Stamp) → view_of d ≡ e → stamp_below d t ≡ true → w.held i g s d ≡ true → ⊥
+
+-- The synchronisation of brick i is of a view that the brick has learnt, whose members and those before them are as they are assigned; and it has read each stripe
+-- before that of its present try: of each of these a version of its view stands.
+pub record JobSays (setting : Setting) (views : Views) (w : World) (i : ℕ) (job : Job) : Type 0 where
+  pub known : (1 ≤ job.view.number.0) × (job.view.number.0 ≤ view_at (w.nodes i) job.group.0)
+  pub members : job.view.members ≡ views job.group.0 job.view.number.0
+  pub prior : 1 < job.view.number.0 → job.view.prior ≡ views job.group.0 (job.view.number.0 - 1)
+  pub passed : ArePassed setting views w job.group.0 job.view.number.0
+  pub read : (s : ℕ) → s < job.attempt.stripe → (v : Stamp) × (view_of v ≡ job.view.number.0) × Stands setting views w job.group.0 s v
 
 -- The invariant.
 pub record Said (setting : Setting) (views : Views) (w : World) (stamps : Stamping) : Type 0 where
@@ -461,6 +526,7 @@ pub record Said (setting : Setting) (views : Views) (w : World) (stamps : Stampi
   pub packets : (k : ℕ) (packet : Packet) → slice_get w.packets k ≡ Some packet → PacketSays setting views w stamps packet
   pub operations : (n : ℕ) (o : Operation) → IsOperation w n o → OperationSays setting views w stamps n o
   pub calls : (i k : ℕ) (c : Coordinator) → IsCall w i k c → CallSays setting views w stamps i k c
+  pub jobs : (i : ℕ) (job : Job) → (w.nodes i).job ≡ Some job → JobSays setting views w i job
   pub ends : (k p n : ℕ) (answer : Answer) → slice_get w.marks k ≡ Some (End p n answer) → EndShows setting w n answer
   pub order : IsInOrder setting views w
   pub logged : LogsFit w

@@ -1,7 +1,9 @@
 -- What is said stays said where a brick learns a view, votes on a ballot, or has a proposal: none of these is of an operation.
+use Rattle.fab_base.specs.declared.identities.ViewNo.{ViewNo}
+use Rattle.view_laws.proofs.Syncing.{synced_of, synced_each}
 use Rattle.std.specs.Option.{option_map}
 use Rattle.std.proofs.lemmas.List.{append-nil}
-use Rattle.std.proofs.Common.{◌≡◌, ℕ, ◌<◌, ◌≤◌, ◌-◌, ◌⊎◌, inl, inr, true, false, List, [], ◌∷◌, replicate, length, Option, Some, None, refl, sym, ap, ◌∙◌, subst, arith, nat_eq}
+use Rattle.std.proofs.Common.{◌≡◌, ℕ, ◌<◌, ◌≤◌, ◌⊎◌, inl, inr, true, false, List, [], ◌∷◌, replicate, length, Option, Some, None, refl, sym, ap, ◌∙◌, subst, arith, nat_eq}
 use Rattle.std.specs.Prelude.{slice_get}
 use Rattle.std.proofs.lemmas.Bool.{cond_both, cond-false}
 use Rattle.fab_base.specs.declared.identities.BrickId.{BrickId}
@@ -18,14 +20,14 @@ use Rattle.protocol.specs.Settings.{Setting, IsSound}
 use Rattle.protocol.specs.Views.{Views, Learnt, first_kept, is_later, kept_by}
 use Rattle.protocol.specs.Replicas.{Replica, first_replica, fresh_replica, top_of}
 use Rattle.protocol.specs.declared.tellings.Report.{Report}
-use Rattle.protocol.specs.Nodes.{Node, put, with_learnt, node_taught_by, node_learnt, vote_at}
+use Rattle.protocol.specs.Nodes.{Node, put, with_learnt, node_taught_by, node_learnt, vote_at, node_synced}
 use Rattle.protocol.specs.Worlds.{World, zero_content, world_stepped, choices_after, with_held}
 use Rattle.protocol.proofs.Packets.{OfEach, each_none}
 use Rattle.protocol.proofs.Tables.{put_same, get_one}
 use Rattle.protocol_laws.proofs.Books.{Books}
 use Rattle.protocol_laws.proofs.BooksKept.{KeepsCalls, keeps_itself}
 use Rattle.protocol_laws.proofs.BooksEvents.{books_silent}
-use Rattle.protocol_laws.proofs.Falls.{learning_keeps, voting_keeps}
+use Rattle.protocol_laws.proofs.Falls.{learning_keeps, voting_keeps, syncing_keeps}
 use Rattle.protocol_laws.proofs.Hearing.{kept_world}
 use Rattle.protocol_laws.proofs.Reactions.{top_is, top_is_order}
 use Rattle.protocol_laws.proofs.Said.{Stamping, Said, IsKnown, VersionSays, PacketSays, WasCollected}
@@ -73,6 +75,7 @@ module _ (setting : Setting) (views : Views) (w : World) (stamps : Stamping) (me
         logs = logs;
         lowest = lowest;
         calls = λ k c is. inl (sym (calls.1 k) ∙ is, λ p. refl);
+        jobs = λ job is. inl (sym calls.2 ∙ is);
         packets = packets;
       })
 
@@ -96,7 +99,7 @@ module _ (setting : Setting) (views : Views) (w : World) (stamps : Stamping) (me
       OfEach (PacketSays setting views (quiet w me node more) stamps) more → Said setting views (quiet w me node more) stamps)
   said_voted call ballot asks more =
       said_moved (with_vote (w.nodes me.0) call (vote_at (w.nodes me.0) call ballot asks)) more (voting_keeps (w.nodes me.0) call ballot asks)
-      (record { boot = refl; seq = omega arith; known = omega arith }, λ l. refl) refl
+      (record { boot = refl; seq = omega arith; known = omega arith }, λ l. refl, refl) refl
 
   -- what it reports changes nothing of what is said
   pub said_reports : (node : Node) (more : List Packet) (reports : List Report) → KeepsCalls (w.nodes me.0) node
@@ -117,15 +120,13 @@ module _ (setting : Setting) (views : Views) (w : World) (stamps : Stamping) (me
       }) stamps) (append-nil w.packets)
 
   module _ (sound : IsSound setting) (viewed : NodeViews setting.layout (w.nodes me.0)) where
-    -- one that learns a later view, and knows of this round
-    said_learns : (g round : ℕ) (view : View) → is_later ((w.nodes me.0).learnt g) view ≡ true
-        → (let node : Node = with_learnt setting.layout.block g (record (w.nodes me.0) { round = round }) (newly_learnt view) in
-        Said setting views (quiet w me node []) stamps)
-    said_learns g round view later =
-        said_silent node []
-        (keeps_places (w.nodes me.0) (with_learnt setting.layout.block g (w.nodes me.0) (newly_learnt view)) node
-        (learning_keeps setting.layout g (w.nodes me.0) view later viewed) (refl, refl, refl))
-        (record { boot = refl; seq = omega arith; known = omega arith }, λ l. refl)
+    -- one that has learnt this, forgets what is of the views before those that it keeps, and knows of this round
+    said_drops : (g round : ℕ) (learnt : Learnt)
+        → (let node : Node = with_learnt setting.layout.block g (record (w.nodes me.0) { round = round }) learnt in
+        KeepsParts (w.nodes me.0) node → Said setting views (quiet w me node []) stamps)
+    said_drops g round learnt keeps =
+        said_silent node [] keeps
+        (record { boot = refl; seq = omega arith; known = omega arith }, λ l. refl, refl)
         (dropped_each (λ h e s r. (top_of r ≡ top_of ((w.nodes me.0).replicas h e s)) ⊎ IsKnown stamps (top_of r)) setting.layout.block g first (w.nodes me.0)
         (λ h e s. inl refl) (λ e s before. inr (inl (fresh_top setting.layout.block e))))
         (λ h e s k version. dropped_each (λ h e s r. slice_get r.log k ≡ Some version
@@ -138,17 +139,17 @@ module _ (setting : Setting) (views : Views) (w : World) (stamps : Stamping) (me
         (each_none (PacketSays setting views next stamps))
       where
         node : Node
-        node = with_learnt setting.layout.block g (record (w.nodes me.0) { round = round }) (newly_learnt view)
+        node = with_learnt setting.layout.block g (record (w.nodes me.0) { round = round }) learnt
 
         next : World
         next = quiet w me node []
 
         first : ℕ
-        first = view.number.0 - 1
+        first = first_kept learnt
 
         gone : (e : ℕ) → e < first → first_kept (node.learnt g) ≤ e → ⊥
         gone e before within =
-            let is : first_kept (node.learnt g) ≡ first = ap (λ (l : Learnt). first_kept l) (put_same (w.nodes me.0).learnt g (newly_learnt view)) in
+            let is : first_kept (node.learnt g) ≡ first = ap (λ (l : Learnt). first_kept l) (put_same (w.nodes me.0).learnt g learnt) in
             omega (arith, before, within, is)
 
         fresh_says : (e s k : ℕ) (version : Version) → slice_get (fresh_replica setting.layout.block e).log k ≡ Some version
@@ -169,12 +170,28 @@ module _ (setting : Setting) (views : Views) (w : World) (stamps : Stamping) (me
             }))
             (λ other is. absurd (let never : None ≡ Some version = is in cc))
 
+    -- one that learns a later view
+    said_learns : (g round : ℕ) (view : View) → is_later ((w.nodes me.0).learnt g) view ≡ true
+        → (let node : Node = with_learnt setting.layout.block g (record (w.nodes me.0) { round = round }) (newly_learnt view) in
+        Said setting views (quiet w me node []) stamps)
+    said_learns g round view later =
+        said_drops g round (newly_learnt view)
+        (keeps_places (w.nodes me.0) (with_learnt setting.layout.block g (w.nodes me.0) (newly_learnt view)) _
+        (learning_keeps setting.layout g (w.nodes me.0) view later viewed) (refl, refl, refl))
+
+    -- one that hears that all stripes are kept in a view
+    pub said_synced : (group : GroupId) (number : ViewNo) → Said setting views (quiet w me (node_synced setting.layout (w.nodes me.0) group number) []) stamps
+    said_synced group number =
+        synced_each (λ (n : Node). Said setting views (quiet w me n []) stamps) setting.layout (w.nodes me.0) group number
+        (said_placed (w.nodes me.0) [] (refl, refl, refl) (keeps_itself (w.nodes me.0)) (each_none (PacketSays setting views _ stamps)))
+        (λ now unsynced. said_drops group.0 (w.nodes me.0).round (synced_of (w.nodes me.0) group.0) (syncing_keeps setting.layout group.0 (w.nodes me.0)))
+
     -- one that is taught a view, if it is, and knows of this round
     pub said_taught : (g round : ℕ) (view : Option View)
         → Said setting views (quiet w me (node_taught_by setting.layout.block g (record (w.nodes me.0) { round = round }) view) []) stamps
     said_taught g round view =
         told_each (λ (n : Node). Said setting views (quiet w me n []) stamps) setting.layout.block g (record (w.nodes me.0) { round = round }) view
-        (said_placed (record (w.nodes me.0) { round = round }) [] (refl, refl, refl) (record { boot = refl; seq = omega arith; known = omega arith }, λ l. refl)
+        (said_placed (record (w.nodes me.0) { round = round }) [] (refl, refl, refl) (record { boot = refl; seq = omega arith; known = omega arith }, λ l. refl, refl)
         (each_none (PacketSays setting views _ stamps)))
         (λ v later. said_learns g round v later)
 

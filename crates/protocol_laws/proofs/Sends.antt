@@ -1,7 +1,11 @@
 -- A coordinator begins its next phase, which makes no version yet: a recovery, a look below a lower bound, or another round of ordering.
 -- And an open operation may send its present phase again.
-use Rattle.std.proofs.Common.{◌≡◌, ℕ, ◌+◌, ◌≤◌, max, ◌⊎◌, inl, inr, true, false, List, [], ◌∷◌, zero, suc, Option, Some, None, refl, sym, ap, ◌∙◌, subst, arith}
-use Rattle.std.specs.Prelude.{slice_get}
+use Rattle.protocol.specs.Jobs.{Job}
+use Rattle.view_laws.proofs.SyncReads.{but_read_is}
+use Rattle.fab_base.specs.declared.identities.ViewNo.{ViewNo}
+use Rattle.protocol_laws.proofs.Outcomes.{call_after}
+use Rattle.std.proofs.Common.{◌≡◌, ℕ, ◌+◌, ◌≤◌, max, ◌⊎◌, inl, inr, true, false, List, [], ◌∷◌, zero, suc, Option, Some, None, refl, sym, ap, ◌∙◌, subst, arith, Bool, ◌<◌, ◌++◌}
+use Rattle.std.specs.Prelude.{slice_get, if◌then◌else◌, ◌-◌}
 use Rattle.std.proofs.lemmas.Bool.{cond_both}
 use Rattle.fab_base.specs.declared.identities.BrickId.{BrickId}
 use Rattle.fab_base.specs.declared.stamps.Stamp.{Stamp}
@@ -20,13 +24,13 @@ use Rattle.protocol.specs.Views.{Views, group_in, view_of}
 use Rattle.protocol.specs.Settings.{Setting, IsSound}
 use Rattle.protocol.specs.declared.phases.Counted.{Counted}
 use Rattle.protocol.specs.declared.phases.Phase.{Phase}
-use Rattle.protocol.specs.declared.phases.Phase.TheVariants.{Looks, LooksAt, Orders, OrdersAt, Recovers, Descends, Modifies, Bases, Stores}
-use Rattle.protocol.specs.Coordinators.{Coordinator, next_phase, has_seat, request_of}
-use Rattle.protocol.specs.Nodes.{Node, with_known, with_call, phase_packets, given_content, resent_to, resent, resent_up_to, view_in, ballot_resent, ticked}
+use Rattle.protocol.specs.declared.phases.Phase.TheVariants.{Looks, LooksAt, Orders, OrdersAt, Recovers, Descends, Modifies, Bases, Stores, LooksBack}
+use Rattle.protocol.specs.Coordinators.{Coordinator, has_seat, request_of, asked_group, asked_view, looks_back, old_bound}
+use Rattle.protocol.specs.Nodes.{Node, with_known, with_call, phase_packets, given_content, resent_to, resent, resent_up_to, view_in, ballot_resent, ticked, calls_but_read, job_call}
 use Rattle.protocol.specs.Worlds.{World, Operation, number_of}
 use Rattle.protocol_laws.specs.Laws.{WasSent, IsGuarded}
 use Rattle.protocol_laws.proofs.Books.{Books, CallBooks, IsOperation, IsCall}
-use Rattle.protocol_laws.proofs.Said.{Begun, Stamping, Said, IsSaid, IsBegun, AreBlocked, IsStampOf, IsCalled, FitsPhase, RequestSays, PacketSays, CallSays, OrderReadSays, DescendsFrom, base_in, look_of, want_of, is_looked, IsMadeOrFirst, MadeOn, WriteSays}
+use Rattle.protocol_laws.proofs.Said.{Begun, Stamping, Said, IsSaid, IsBegun, AreBlocked, IsStampOf, IsCalled, FitsPhase, RequestSays, PacketSays, CallSays, OrderReadSays, DescendsFrom, base_in, look_of, want_of, is_looked, IsMadeOrFirst, MadeOn, WriteSays, bound_in, FloorsAtMost}
 use Rattle.protocol_laws.proofs.Proposing.{of_views_each, resent_of_views}
 use Rattle.protocol_laws.proofs.Logs.{below_above}
 use Rattle.protocol.proofs.Tables.{put_each, put_same, sent_to_member}
@@ -47,14 +51,24 @@ pub record StoresAgain (setting : Setting) (w : World) (c : Coordinator) (o : Op
   pub is_made : IsMadeOrFirst w c.ask.group.0 c.ask.stripe.0 t
   pub content_is : content ≡ w.contents c.ask.group.0 c.ask.stripe.0 t
 
+-- An operation looks back below a bound, under the same stamp: it has a view before its own, of which the bound is; a quorum of its own view's members has promised its
+-- stamp, which is at or above how far they had come when it began; and no quorum holds anything from the bound up to the stamp.
+pub record MayLookBack (setting : Setting) (views : Views) (w : World) (c : Coordinator) (o : Operation) (t : Stamp) (bound : Option Stamp) : Type 0 where
+  pub view : 1 < t.view.0
+  pub bounded : (b : Stamp) → bound ≡ Some b → view_of b + 1 ≡ t.view.0
+  pub guarded : (group : Group) → group_in setting.layout views c.ask.group.0 (view_of t) ≡ Some group → IsGuarded w c.ask.group.0 c.ask.stripe.0 group t
+  pub floors : (group : Group) → group_in setting.layout views c.ask.group.0 (view_of t) ≡ Some group → FloorsAtMost o group t
+  pub blocked : AreBlocked setting views w c.ask.group.0 c.ask.stripe.0 (IsCovered (old_bound t bound) t)
+
 -- What a phase of stamp t needs that makes no version: one that looks below a bound above the first stamp, that no quorum holds anything from there up
--- to t; one that reads its base back, that the version was made on it; and one that stores, that the version was made.
+-- to t; one that looks back, that it may; one that reads its base back, that the version was made on it; and one that stores, that the version was made.
 abbrev pub MayBegin : Setting → Views → World → Coordinator → Operation → Stamp → Option Stamp → List ℕ → Phase → Type 0
 MayBegin setting views w c o t base content Orders = (base ≡ None) × (content ≡ given_content c.ask.op)
 MayBegin setting views w c o t base content (OrdersAt j) = Unit {0}
 MayBegin setting views w c o t base content Recovers = Unit {0}
 MayBegin setting views w c o t base content (Descends bound) =
     (stamp_below first_stamp bound ≡ true) × AreBlocked setting views w c.ask.group.0 c.ask.stripe.0 (IsCovered bound t)
+MayBegin setting views w c o t base content (LooksBack bound) = MayLookBack setting views w c o t bound
 MayBegin setting views w c o t base content (Bases u) = (t ≡ c.stamp) × (base ≡ c.base) × MadeOn setting views w c u
 MayBegin setting views w c o t base content Stores = StoresAgain setting w c o t content
 MayBegin setting views w c o t base content phase = ⊥
@@ -63,7 +77,7 @@ module _ (setting : Setting) (views : Views) (sound : IsSound setting) (w : Worl
     (said : Said setting views w stamps) (is : IsCall w me.0 c.call.seq c)
     (more_known : (w.nodes me.0).known ≤ known) (t : Stamp) (round : ℕ) (base : Option Stamp) (content : List ℕ) (phase : Phase)
     (of : IsStampOf (with_known (w.nodes me.0) (max known t.time)) me.0 (w.nodes me.0).boot t)
-    (from : ComesFrom stamps me.0 (w.nodes me.0).boot c.call.seq t) (fits : FitsPhase phase c.ask.op)
+    (from : ComesFrom stamps me.0 (w.nodes me.0).boot c.call.seq t) (same_view : t.view ≡ c.stamp.view) (fits : FitsPhase phase c.ask.op)
     (asks : MayBegin setting views w c (books.calls me.0 c.call.seq c is).operation t base content phase)
     (down : DescendsFrom phase c.ask.op t) where
   abbrev its : CallBooks setting w me.0 c.call.seq c
@@ -82,7 +96,7 @@ module _ (setting : Setting) (views : Views) (sound : IsSound setting) (w : Worl
   -- the coordinator in its next phase
   abbrev d_in : Phase → Coordinator
   d_in p =
-      record { group = c.group; prior = c.prior; ask = c.ask; stamp = t; round = round; base = base; content = content; call = next_phase c.call; phase = p; counted = [] }
+      record { group = c.group; prior = c.prior; ask = c.ask; stamp = t; round = round; base = base; content = content; call = call_after c p; phase = p; counted = [] }
 
   abbrev d : Coordinator
   d = d_in phase
@@ -135,12 +149,13 @@ module _ (setting : Setting) (views : Views) (sound : IsSound setting) (w : Worl
 
   -- an order that tells a version
   order_read_says : (p : Phase) (look : Look) → phase ≡ p → look_of p t ≡ Some look → ((e : Stamp) → is_looked look e ≡ true → stamp_below e t ≡ true)
-      → OrderReadSays next later me.0 (next_phase c.call) t look (want_of p)
-  order_read_says p look same looks under = record {
+      → looks_back p ≡ false → OrderReadSays next later me.0 d.call t look (want_of p)
+  order_read_says p look same looks under ahead = record {
     operation = o;
     called = called;
     phase = p;
     begun = subst (λ (z : Phase). IsBegun later me.0 c.call.boot c.call.seq (c.call.phase + 1) z t) same begun_call;
+    ahead = ahead;
     look_is = looks;
     want_is = refl;
     fits = subst (λ (z : Phase). FitsPhase z o.ask.op) same (subst (λ a. FitsPhase phase a.op) its.ask fits);
@@ -150,11 +165,15 @@ module _ (setting : Setting) (views : Views) (sound : IsSound setting) (w : Worl
 
   -- a member's seat
   seat_of : (k : ℕ) (member : BrickId) → slice_get c.group.members k ≡ Some member → seat_in c.group.members member.0 ≡ Some k
-  seat_of k member at = seat_of_member c.group.members k member (said.distinct c.call.group.0 c.call.view.0 c.group says.group) at
+  seat_of k member at = seat_of_member c.group.members k member (said.distinct c.call.group.0 c.stamp.view.0 c.group says.group) at
 
-  -- a group of the call is the operation's
-  group_same : (other : Group) → group_in setting.layout views c.call.group.0 c.call.view.0 ≡ Some other → c.group ≡ other
-  group_same other other_is = same_Some c.group other (sym says.group ∙ other_is)
+  -- a phase that does not look back asks the operation's members
+  ahead_view : looks_back phase ≡ false → d.call.view.0 ≡ c.stamp.view.0
+  ahead_view ahead = ap (λ (b : Bool). (if b then record { 0 = c.stamp.view.0 - 1 } else c.stamp.view).0) ahead
+
+  group_same : looks_back phase ≡ false → (other : Group) → group_in setting.layout views c.call.group.0 d.call.view.0 ≡ Some other → c.group ≡ other
+  group_same ahead other other_is =
+      same_Some c.group other (sym says.group ∙ sym (ap (λ (e : ℕ). group_in setting.layout views c.call.group.0 e) (ahead_view ahead)) ∙ other_is)
 
   -- what concerns the stripe that is asked concerns the call's
   of_call : (P : ℕ → ℕ → Type 0) → P c.ask.group.0 c.ask.stripe.0 → P c.call.group.0 c.call.stripe.0
@@ -162,7 +181,7 @@ module _ (setting : Setting) (views : Views) (sound : IsSound setting) (w : Worl
 
   -- a write of a version that was made
   write_says : (again : StoresAgain setting w c o t content) (k : ℕ) (member : BrickId) → slice_get c.group.members k ≡ Some member → phase ≡ Stores
-      → WriteSays setting views next later me.0 member.0 (next_phase c.call) t (setting.code.encode c.group.m content (0 + k))
+      → WriteSays setting views next later me.0 member.0 d.call t (setting.code.encode c.group.m content (0 + k))
   write_says again k member at same = record {
     maker = record {
       operation = o;
@@ -170,7 +189,7 @@ module _ (setting : Setting) (views : Views) (sound : IsSound setting) (w : Worl
       begun = subst (λ (z : Phase). IsBegun later me.0 c.call.boot c.call.seq (c.call.phase + 1) z t) same begun_call;
       made = again.made;
       version = again.version;
-      member = λ other other_is. (k, subst (λ (z : Group). seat_in z.members member.0 ≡ Some k) (group_same other other_is) (seat_of k member at));
+      member = λ other other_is. (k, subst (λ (z : Group). seat_in z.members member.0 ≡ Some k) (group_same (ap looks_back same) other other_is) (seat_of k member at));
       guarded = λ other other_is.
           of_call (λ g s. IsGuarded next g s other t)
           (stays_guarded setting views w next stamps later books grows c.ask.group.0 c.ask.stripe.0 other t
@@ -180,17 +199,17 @@ module _ (setting : Setting) (views : Views) (sound : IsSound setting) (w : Worl
           ∙ ap (λ g. group_in setting.layout views g.0 (view_of t)) (sym its.call_group) ∙ other_is))));
     };
     is_block = λ other j other_is at_j.
-        let place : k ≡ j = same_Some k j (sym (seat_of k member at) ∙ (ap (λ (z : Group). seat_in z.members member.0) (group_same other other_is) ∙ at_j)) in
+        let place : k ≡ j = same_Some k j (sym (seat_of k member at) ∙ (ap (λ (z : Group). seat_in z.members member.0) (group_same (ap looks_back same) other other_is) ∙ at_j)) in
         let zero : 0 + k ≡ j = omega arith in
         let told : content ≡ w.contents c.call.group.0 c.call.stripe.0 t = of_call (λ g s. content ≡ w.contents g s t) again.content_is in
-        ap (λ (z : Group). setting.code.encode z.m content (0 + k)) (group_same other other_is)
+        ap (λ (z : Group). setting.code.encode z.m content (0 + k)) (group_same (ap looks_back same) other other_is)
         ∙ ap (λ (z : List ℕ). setting.code.encode other.m z (0 + k)) told
         ∙ ap (setting.code.encode other.m (w.contents c.call.group.0 c.call.stripe.0 t)) zero;
   }
 
   request_says : (p : Phase) → phase ≡ p → MayBegin setting views w c o t base content p → (k : ℕ) (member : BrickId)
-      → slice_get c.group.members k ≡ Some member
-      → RequestSays setting views next later me.0 member.0 (next_phase c.call) (request_of setting.code (d_in p) (0 + k))
+      → slice_get (asked_group (d_in p)).members k ≡ Some member
+      → RequestSays setting views next later me.0 member.0 d.call (request_of setting.code (d_in p) (0 + k))
   unfolding request_of
   request_says Orders same ok k member at = record {
     operation = o;
@@ -198,15 +217,24 @@ module _ (setting : Setting) (views : Views) (sound : IsSound setting) (w : Worl
     begun = subst (λ (z : Phase). IsBegun later me.0 c.call.boot c.call.seq (c.call.phase + 1) z t) same begun_call;
     fits = subst (λ (z : Phase). FitsPhase z o.ask.op) same (subst (λ a. FitsPhase phase a.op) its.ask fits);
   }
-  request_says (OrdersAt e) same ok k member at = order_read_says (OrdersAt e) (Below t) same refl (λ u less. less)
-  request_says Recovers same ok k member at = order_read_says Recovers (Below t) same refl (λ u less. less)
+  request_says (OrdersAt e) same ok k member at = order_read_says (OrdersAt e) (Below t) same refl (λ u less. less) refl
+  request_says Recovers same ok k member at = order_read_says Recovers (Below t) same refl (λ u less. less) refl
   request_says (Descends bound) same ok k member at =
-      order_read_says (Descends bound) (Below bound) same refl (λ u less. below_above u bound t less (down.most bound same))
+      order_read_says (Descends bound) (Below bound) same refl (λ u less. below_above u bound t less (down.most bound same)) refl
+  request_says (LooksBack bound) same ok k member at = record {
+    stamp = t;
+    begun = subst (λ (z : Phase). IsBegun later me.0 c.call.boot c.call.seq (c.call.phase + 1) z t) same begun_call;
+    view = (
+        let before : d.call.view.0 ≡ c.stamp.view.0 - 1 = ap (λ (z : Phase). (asked_view c.stamp z).0) same in
+        let own : t.view.0 ≡ c.stamp.view.0 = ap (λ (v : ViewNo). v.0) same_view in
+        let later_view : 1 < t.view.0 = ok.view in omega (arith, before, own, later_view)
+        );
+  }
   request_says (Bases u) same ok k member at =
       order_read_says (Bases u) (At u) same refl
       (λ e is_base.
       subst (λ (z : Stamp). stamp_below z t ≡ true) (sym (stamp_same_true e u is_base))
-      (subst (λ (z : Stamp). stamp_below u z ≡ true) (sym ok.0) ok.2.below))
+      (subst (λ (z : Stamp). stamp_below u z ≡ true) (sym ok.0) ok.2.below)) refl
   request_says Stores same ok k member at = write_says ok k member at same
   request_says Looks same bad k member at = absurd bad
   request_says (LooksAt e) same bad k member at = absurd bad
@@ -214,7 +242,7 @@ module _ (setting : Setting) (views : Views) (sound : IsSound setting) (w : Worl
 
   packets : (k : ℕ) (packet : Packet) → slice_get more k ≡ Some packet → PacketSays setting views next later packet
   packets k packet at =
-      let sent = sent_to_member me d.call (request_of setting.code d) 0 c.group.members k packet at in
+      let sent = sent_to_member me d.call (request_of setting.code d) 0 (asked_group d).members k packet at in
       subst (λ (z : Packet). PacketSays setting views next later z) (sym sent.2) (request_says phase refl asks k sent.0 sent.1)
 
   asks_as : (p : Phase) → phase ≡ p → MayBegin setting views w c o t base content p
@@ -228,7 +256,7 @@ module _ (setting : Setting) (views : Views) (sound : IsSound setting) (w : Worl
       let on : MadeOn setting views next c b = stays_made_on setting views w next stamps later books grows c b ok.2 in
       subst (λ (z : Stamp). MadeOn setting views next d z) at (record {
         base_is = ok.1 ∙ on.base_is;
-        of = on.of;
+        of = on.of ∙ ap (λ (z : Stamp). z.view.0) (sym ok.0);
         below = subst (λ (z : Stamp). stamp_below b z ≡ true) (sym ok.0) on.below;
         base_made = on.base_made;
         stands = on.stands;
@@ -238,9 +266,25 @@ module _ (setting : Setting) (views : Views) (sound : IsSound setting) (w : Worl
   made_on (Modifies b e) u same has = absurd (asks_as (Modifies b e) same)
   made_on p u same has = cc
 
+  -- a group of the call is one of what is asked
+  in_ask : (u : Stamp) (group : Group) → group_in setting.layout views c.call.group.0 (view_of u) ≡ Some group
+      → group_in setting.layout views c.ask.group.0 (view_of u) ≡ Some group
+  in_ask u group group_is = ap (λ g. group_in setting.layout views g.0 (view_of u)) (sym its.call_group) ∙ group_is
+
+  covers : (p : Phase) → phase ≡ p → (bound : Stamp) → bound_in p t ≡ Some bound → AreBlocked setting views w c.ask.group.0 c.ask.stripe.0 (IsCovered bound t)
+  covers (Descends b) same bound has =
+      subst (λ (z : Stamp). AreBlocked setting views w c.ask.group.0 c.ask.stripe.0 (IsCovered z t)) (same_Some b bound has) (asks_as (Descends b) same).1
+  covers (LooksBack b) same bound has =
+      subst (λ (z : Stamp). AreBlocked setting views w c.ask.group.0 c.ask.stripe.0 (IsCovered z t)) (same_Some (old_bound t b) bound has)
+      (asks_as (LooksBack b) same).blocked
+  covers p same bound has = cc
+
   d_says : CallSays setting views next later me.0 c.call.seq d
   d_says = record {
-    group = says.group;
+    group = ap (λ (v : ViewNo). group_in setting.layout views c.call.group.0 v.0) same_view ∙ says.group;
+    prior = λ later_view.
+        says.prior (subst (λ (v : ViewNo). 1 < v.0) same_view later_view)
+        ∙ sym (ap (λ (v : ViewNo). views c.call.group.0 (v.0 - 1)) same_view);
     begun = subst (λ (b : ℕ). IsBegun later me.0 b c.call.seq (c.call.phase + 1) phase t) (sym boot_now) begun_now;
     last = λ p less.
         subst (λ (b : ℕ). later me.0 b c.call.seq p ≡ None) (sym boot_now)
@@ -251,8 +295,20 @@ module _ (setting : Setting) (views : Views) (sound : IsSound setting) (w : Worl
     given = λ orders. (asks_as Orders orders).1;
     above = λ bound descends. (asks_as (Descends bound) descends).0;
     from = down;
-    covered = λ bound descends.
-        stay_blocked setting views w next stamps later books grows c.ask.group.0 c.ask.stripe.0 (IsCovered bound t) (asks_as (Descends bound) descends).1;
+    back = λ bound looks.
+        (let may = asks_as (LooksBack bound) looks in
+        record {
+          view = may.view;
+          bounded = may.bounded;
+          operation = o;
+          called = called;
+          guarded = λ group group_is.
+              of_call (λ g s. IsGuarded next g s group t)
+              (stays_guarded setting views w next stamps later books grows c.ask.group.0 c.ask.stripe.0 group t (may.guarded group (in_ask t group group_is)));
+          floors = λ group group_is. may.floors group (in_ask t group group_is);
+        });
+    covered = λ bound has.
+        stay_blocked setting views w next stamps later books grows c.ask.group.0 c.ask.stripe.0 (IsCovered bound t) (covers phase refl bound has);
     stores = λ stores.
         let again : StoresAgain setting w c o t content = asks_as Stores stores in
         (stays_made setting views w next stamps later books grows c.ask.group.0 c.ask.stripe.0 t again.is_made, again.content_is);
@@ -293,6 +349,7 @@ module _ (setting : Setting) (views : Views) (sound : IsSound setting) (w : Worl
           logs = λ g e s k version at. inl (k, at);
           lowest = λ g e s x log within at. inl (log, at);
           calls = calls;
+          jobs = λ job is. inl is;
           packets = packets;
         }),
       )
@@ -348,9 +405,9 @@ module _ (setting : Setting) (views : Views) (w next : World) (stamps : Stamping
 
   -- what an open operation sends again was sent
   resent_was_sent : (k : ℕ) (c : Coordinator) → (w.nodes me.0).calls k ≡ Some c
-      → OfEach (WasSent w) (resent_to me c.call (request_of setting.code c) c.counted 0 c.group.members)
+      → OfEach (WasSent w) (resent_to me c.call (request_of setting.code c) c.counted 0 (asked_group c).members)
   resent_was_sent k c is j packet at =
-      let found = resent_to_member me c.call (request_of setting.code c) c.counted 0 c.group.members j packet at in
+      let found = resent_to_member me c.call (request_of setting.code c) c.counted 0 (asked_group c).members j packet at in
       let place : 0 + found.0 ≡ found.0 = omega arith in
       subst (λ (z : Packet). WasSent w z) (sym found.3)
       (subst (λ (i : ℕ). WasSent w (record { from = me; to = found.1; message = Message.Request c.call (request_of setting.code c i) }))
@@ -361,19 +418,32 @@ module _ (setting : Setting) (views : Views) (w next : World) (stamps : Stamping
   call_resent k None none = each_none SentOrSays
   call_resent k (Some c) is =
       each_teaching SentOrSays c.call.group (view_in c) (λ later from to. inr tt)
-      (resent_to me c.call (request_of setting.code c) c.counted 0 c.group.members) (λ j packet at. inl (resent_was_sent k c is j packet at))
+      (resent_to me c.call (request_of setting.code c) c.counted 0 (asked_group c).members) (λ j packet at. inl (resent_was_sent k c is j packet at))
 
-  calls_resent : (k : ℕ) → OfEach SentOrSays (resent_up_to setting me (w.nodes me.0).calls k)
-  calls_resent zero = each_none SentOrSays
-  calls_resent (suc k) =
-      each_both SentOrSays (resent_up_to setting me (w.nodes me.0).calls k) (resent setting me ((w.nodes me.0).calls (suc k))) (calls_resent k)
-      (call_resent (suc k) ((w.nodes me.0).calls (suc k)) refl)
+  but_resent : (job : Option Job) (k : ℕ) (z : Option Coordinator) → calls_but_read (w.nodes me.0).calls job k ≡ z → OfEach SentOrSays (resent setting me z)
+  but_resent job k None is = each_none SentOrSays
+  but_resent job k (Some c) is = call_resent k (Some c) (but_read_is (w.nodes me.0).calls job k c is)
+
+  calls_resent : (job : Option Job) (k : ℕ) → OfEach SentOrSays (resent_up_to setting me (calls_but_read (w.nodes me.0).calls job) k)
+  calls_resent job zero = each_none SentOrSays
+  calls_resent job (suc k) =
+      each_both SentOrSays (resent_up_to setting me (calls_but_read (w.nodes me.0).calls job) k)
+      (resent setting me (calls_but_read (w.nodes me.0).calls job (suc k))) (calls_resent job k)
+      (but_resent job (suc k) (calls_but_read (w.nodes me.0).calls job (suc k)) refl)
+
+  -- so is the read of a synchronisation
+  job_resent : (job : Option Job) → OfEach SentOrSays (resent setting me (job_call (w.nodes me.0).calls job))
+  job_resent None = each_none SentOrSays
+  job_resent (Some job) = call_resent job.seq ((w.nodes me.0).calls job.seq) refl
 
   -- so is all that a tick of its clock sends, but for what is of views and of proposals
   pub ticked_was_sent : OfEach SentOrSays (ticked setting me (w.nodes me.0))
   unfolding ticked
   ticked_was_sent =
-      each_both SentOrSays (resent_up_to setting me (w.nodes me.0).calls (w.nodes me.0).seq) (ballot_resent me (w.nodes me.0).proposal)
-      (calls_resent (w.nodes me.0).seq)
+      each_both SentOrSays (resent_up_to setting me (calls_but_read (w.nodes me.0).calls (w.nodes me.0).job) (w.nodes me.0).seq)
+      (ballot_resent me (w.nodes me.0).proposal ++ resent setting me (job_call (w.nodes me.0).calls (w.nodes me.0).job))
+      (calls_resent (w.nodes me.0).job (w.nodes me.0).seq)
+      (each_both SentOrSays (ballot_resent me (w.nodes me.0).proposal) (resent setting me (job_call (w.nodes me.0).calls (w.nodes me.0).job))
       (of_views_each SentOrSays (λ from to group view. inr tt) (λ from to call ballot. inr tt) (λ from to call ballot members. inr tt)
       (ballot_resent me (w.nodes me.0).proposal) (resent_of_views me (w.nodes me.0).proposal))
+      (job_resent (w.nodes me.0).job))

@@ -1,8 +1,13 @@
 -- The stamps of a part, of a call and of a request are of its own view, and what a brick keeps of views that it has not learnt is fresh: so it is in every
 -- run, whatever members the views have.
-use Rattle.std.proofs.Common.{◌≡◌, ℕ, ◌+◌, ◌≤◌, ◌<◌, ◌⊎◌, inl, inr, ⊎_elim, true, false, ◌-◌, nat_eq, List, Option, ltb-true, ltb-false, nat_lt, Some, None, refl, sym, ap, ◌∙◌, subst, arith}
-use Rattle.std.specs.Prelude.{slice_get}
-use Rattle.std.proofs.lemmas.Bool.{cond_both}
+use Rattle.protocol.specs.Jobs.{Job, begun_job, job_ask}
+use Rattle.view_laws.proofs.SyncReads.{carried_each, synced_at_each, each_tick, each_synced, read_call}
+use Rattle.fab_base.specs.declared.asks.Op.TheVariants.{ReadBlock, WriteBlock, ReadStripe, WriteStripe}
+use Rattle.fab_base.specs.declared.asks.Op.{Op}
+use Rattle.view_laws.proofs.Syncing.{synced_each, synced_of}
+use Rattle.std.proofs.Common.{◌≡◌, ℕ, ◌+◌, ◌≤◌, ◌<◌, ◌⊎◌, inl, inr, ⊎_elim, true, false, ◌-◌, nat_eq, List, [], Option, ltb-true, ltb-false, nat_lt, Some, None, refl, sym, ap, ◌∙◌, subst, arith, Bool}
+use Rattle.std.specs.Prelude.{slice_get, if◌then◌else◌}
+use Rattle.std.proofs.lemmas.Bool.{cond_both, false≢true}
 use Rattle.std.proofs.lemmas.Bool.Decides.{nat_tests}
 use Rattle.std.proofs.lemmas.Option.{same_Some}
 use Rattle.fab_base.specs.declared.identities.BrickId.{BrickId}
@@ -25,17 +30,17 @@ use Rattle.fab_base.specs.declared.identities.GroupId.{GroupId}
 use Rattle.fab_base.specs.declared.member_lists.View.{View}
 use Rattle.protocol.specs.Replicas.{Replica, Reaction, first_replica, fresh_replica, handle, top_of, newest_of}
 use Rattle.protocol.specs.declared.phases.Phase.{Phase}
-use Rattle.protocol.specs.declared.phases.Phase.TheVariants.{Looks, LooksAt, Orders, OrdersAt, Recovers, Descends, Modifies, Bases, Stores}
-use Rattle.protocol.specs.Coordinators.{Coordinator, Next, Ignores, Waits, Sends, Makes, Ends, with_reply, once_full, counted_at, counts_at, on_reply, request_of}
-use Rattle.protocol.specs.Nodes.{Node, NodeStep, view_at, view_floor, put, first_node, no_step, phase_packets, new_coordinator, began, invoked, replica_at, full_at, requested, known_after, with_call, carried_out, has_later_time, new_stamp, fresh_stamp, group_at, replied_at, heard, received, absorbed, vote_at, with_learnt, node_taught_by, node_learnt, lists_fit, view_counted, with_known, with_round, proposed, ballot_resent, ticked, stopped, restarted, has_accepted}
+use Rattle.protocol.specs.declared.phases.Phase.TheVariants.{Looks, LooksAt, Orders, OrdersAt, Recovers, Descends, Modifies, Bases, Stores, LooksBack}
+use Rattle.protocol.specs.Coordinators.{Coordinator, Next, Ignores, Waits, Sends, Makes, Ends, with_reply, once_full, counted_at, counts_at, on_reply, request_of, asked_view, asked_group, looks_back}
+use Rattle.protocol.specs.Nodes.{Node, NodeStep, view_at, view_floor, put, first_node, no_step, phase_packets, new_coordinator, began, invoked, replica_at, full_at, requested, known_after, with_call, carried_out, has_later_time, new_stamp, fresh_stamp, group_at, replied_at, heard, received, absorbed, vote_at, with_learnt, node_taught_by, node_learnt, lists_fit, view_counted, with_known, with_round, proposed, ticked, stopped, restarted, has_accepted, node_synced, first_phase, synced_at, carried_for, job_reading, collect_packets, coordinator_in, reading, with_job, read_closed, synced_packets}
 use Rattle.protocol.specs.Worlds.{World, Event, After, first_world, packet_during, left_after, world_found, world_started, run}
 use Rattle.protocol.proofs.Events.{EventCases, step_on, started_each, always, world_counting}
-use Rattle.protocol.proofs.Packets.{OfEach, each_none, each_both, each_member, each_collect, each_reply, each_ticked}
+use Rattle.protocol.proofs.Packets.{OfEach, each_none, each_both, each_member, each_collect, each_reply}
 use Rattle.protocol_laws.specs.Laws.{stamp_asked}
 use Rattle.protocol_laws.proofs.Left.{after_stepped, packet_was_sent, during_was_sent, kept_of, absorbed_kept}
 use Rattle.protocol_laws.proofs.Proposing.{AreOfViews, of_views_each, resent_of_views, ballot_each, proposed_each}
 use Rattle.protocol_laws.proofs.Teaching.{newly_learnt, told_each, learnt_each, dropped_each, heard_each}
-use Rattle.protocol_laws.proofs.Outcomes.{ReordersFits, RecoversFits, RebuildsFits, NextFits, once_full_fits}
+use Rattle.protocol_laws.proofs.Outcomes.{ReordersFits, RecoversFits, RebuildsFits, NextFits, once_full_fits, call_after}
 use Rattle.protocol_laws.proofs.Reactions.{IsAfter, StoresBlock, handle_after, after_log, after_order, store_asked, top_is, top_is_order}
 use Rattle.protocol_laws.proofs.Logs.{newest_stands}
 use Rattle.protocol.proofs.Served.{request_each, parts_each, IsCollect}
@@ -47,9 +52,9 @@ pub record PartIsOf (e : ℕ) (part : Replica) : Type 0 where
   pub order : (part.order ≡ first_stamp) ⊎ (part.order.view.0 ≡ e)
   pub log : (k : ℕ) (version : Version) → slice_get part.log k ≡ Some version → view_of version.stamp ≡ e
 
--- an open operation's stamp is of its call's view
+-- an open operation's call is of the view whose members its phase asks
 abbrev pub CallIsOf : Coordinator → Type 0
-CallIsOf c = c.stamp.view.0 ≡ c.call.view.0
+CallIsOf c = c.call.view ≡ asked_view c.stamp c.phase
 
 -- A brick: its parts are of their views, those of views that it has not learnt, and of none, are fresh, and of view 1 it has learnt what all bricks begin with;
 -- and its open operations are of their calls' views.
@@ -91,21 +96,36 @@ asked_own code c seat = of c.phase
     of (OrdersAt j) t is = sym (same_Some c.stamp t is)
     of Recovers t is = sym (same_Some c.stamp t is)
     of (Descends bound) t is = sym (same_Some c.stamp t is)
+    of (LooksBack bound) t is = absurd (let never : None ≡ Some t = is in cc)
     of (Modifies base j) t is = sym (same_Some c.stamp t is)
     of (Bases base) t is = sym (same_Some c.stamp t is)
     of Stores t is = sym (same_Some c.stamp t is)
 
+-- a phase that asks at a stamp does not look back
+asked_ahead : (code : Code) (c : Coordinator) (seat : ℕ) (t : Stamp) → stamp_asked (request_of code c seat) ≡ Some t → looks_back c.phase ≡ false
+unfolding request_of
+asked_ahead code c seat = of c.phase
+  where
+    of : (phase : Phase) (t : Stamp) → stamp_asked (request_of code (record c { phase = phase }) seat) ≡ Some t → looks_back phase ≡ false
+    of (LooksBack bound) t is = absurd (let never : None ≡ Some t = is in cc)
+    of phase t is = refl
+
+-- a phase that does not look back asks members of the operation's view
+pub ahead_view : (c : Coordinator) → CallIsOf c → looks_back c.phase ≡ false → c.call.view ≡ c.stamp.view
+ahead_view c is ahead = is ∙ ap (λ (b : Bool). if b then record { 0 = c.stamp.view.0 - 1 } else c.stamp.view) ahead
+
 request_is : (code : Code) (c : Coordinator) → CallIsOf c → (seat : ℕ) → RequestIsOf c.call (request_of code c seat)
-request_is code c is seat t asked = ap (λ (z : Stamp). z.view.0) (asked_own code c seat t asked) ∙ is
+request_is code c is seat t asked =
+    ap (λ (z : Stamp). z.view.0) (asked_own code c seat t asked) ∙ sym (ap (λ (z : ViewNo). z.0) (ahead_view c is (asked_ahead code c seat t asked)))
 
 -- a number of a view is that of its stamps
 view_same : (e : ℕ) (t : Stamp) → 1 ≤ e → t.view.0 ≡ e → view_of t ≡ e
 view_same e t some is = omega (arith, some, is)
 
 -- what a request to the part in the learnt view asks at is of that view
-pub asked_view : (layout : Layout) (node : Node) (call : Call) (request : Request) → NodeViews layout node → RequestIsOf call request
+pub asks_view : (layout : Layout) (node : Node) (call : Call) (request : Request) → NodeViews layout node → RequestIsOf call request
     → call.view.0 ≡ view_at node call.group.0 → (t : Stamp) → stamp_asked request ≡ Some t → view_of t ≡ call.view.0
-asked_view layout node call request has asks view t is =
+asks_view layout node call request has asks view t is =
     let some = has.views call.group.0 in view_same call.view.0 t (omega (arith, view, some)) (asks t is)
 
 -- a brick that handles a request which asks at a stamp has accepted no list to follow the call's view
@@ -125,7 +145,7 @@ pub asks_above : (layout : Layout) (node : Node) (call : Call) (request : Reques
     → call.view.0 ≡ view_at node call.group.0 → IsFreeFor node call request → (t : Stamp) → stamp_asked request ≡ Some t
     → stamp_below t (view_floor node call.group.0) ≡ false
 asks_above layout node call request has asks view free t is =
-    view_above node call.group.0 t (free t is) (asked_view layout node call request has asks view t is ∙ view)
+    view_above node call.group.0 t (free t is) (asks_view layout node call request has asks view t is ∙ view)
 
 -- a member handles a request
 module _ (setting : Setting) (node : Node) (call : Call) (request : Request) (has : NodeViews setting.layout node)
@@ -140,7 +160,7 @@ module _ (setting : Setting) (node : Node) (call : Call) (request : Request) (ha
     log = λ k version at. ⊎_elim
         (λ (old : (j : ℕ) × (slice_get part.log j ≡ Some version)). was.log old.0 version old.1)
         (λ (new : StoresBlock setting.code m seat part request version.stamp version.block).
-        asked_view setting.layout node call request has asks view version.stamp (store_asked setting.code m seat part request version.stamp version.block new))
+        asks_view setting.layout node call request has asks view version.stamp (store_asked setting.code m seat part request version.stamp version.block new))
         (after_log setting.code m seat part request next k version after at);
   }
 
@@ -246,6 +266,34 @@ learnt_views layout g node view later has =
       calls = has.calls;
     }
 
+-- so does one that hears that all stripes are kept in a view: it is a later one than view 1, which it knows to be synced
+synced_kept : (layout : Layout) (node : Node) (group : GroupId) (number : ViewNo) → NodeViews layout node → NodeViews layout (node_synced layout node group number)
+synced_kept layout node group number has =
+    synced_each (λ (n : Node). NodeViews layout n) layout node group number has (λ now unsynced. drops unsynced)
+  where
+    g : ℕ
+    g = group.0
+
+    next : Node
+    next = with_learnt layout.block g node (synced_of node g)
+
+    view_same_at : (h : ℕ) → view_at next h ≡ view_at node h
+    view_same_at = put_each (λ h (l : Learnt). l.view.number.0 ≡ view_at node h) node.learnt g (synced_of node g) refl (λ h other. refl)
+
+    drops : (node.learnt g).synced ≡ false → NodeViews layout next
+    drops unsynced = record {
+      views = λ h. (let same = view_same_at h in let least = has.views h in omega (arith, same, least));
+      parts = dropped_each (λ h e s r. PartIsOf e r) layout.block g (view_at node g) node has.parts (λ e s before. fresh_part layout.block e);
+      fresh = dropped_each (λ h e s r. view_at next h < e → r ≡ fresh_replica layout.block e) layout.block g (view_at node g) node
+          (λ h e s less. has.fresh h e s (let same = view_same_at h in omega (arith, same, less))) (λ e s before less. refl);
+      zero = λ h s.
+          dropped_each (λ i e r x. e ≡ 0 → x ≡ fresh_replica layout.block e) layout.block g (view_at node g) node
+          (λ i e r none. subst (λ (f : ℕ). node.replicas i f r ≡ fresh_replica layout.block f) (sym none) (has.zero i r)) (λ e r before none. refl) h 0 s refl;
+      first = put_each (λ h (l : Learnt). l.view.number.0 ≡ 1 → l ≡ first_learnt layout h) node.learnt g (synced_of node g)
+          (λ one. absurd (false≢true (sym unsynced ∙ ap (λ (l : Learnt). l.synced) (has.first g one)))) (λ h other. has.first h);
+      calls = has.calls;
+    }
+
 taught_views : (layout : Layout) (g : ℕ) (node : Node) (view : Option View) → NodeViews layout node
     → NodeViews layout (node_taught_by layout.block g node view)
 taught_views layout g node view has =
@@ -269,21 +317,28 @@ NextIsOf (Sends d) = CallIsOf d
 NextIsOf (Makes d) = CallIsOf d
 NextIsOf next = Unit {0}
 
-same_view : (c d : Coordinator) → CallIsOf c → d.stamp ≡ c.stamp → d.call.view ≡ c.call.view → CallIsOf d
-same_view c d is stamp view = ap (λ (z : Stamp). z.view.0) stamp ∙ is ∙ sym (ap (λ (z : ViewNo). z.0) view)
+-- an operation that waits
+pub waits_view : (c d : Coordinator) → CallIsOf c → d.stamp ≡ c.stamp → d.phase ≡ c.phase → d.call ≡ c.call → CallIsOf d
+waits_view c d is stamp phase call =
+    ap (λ (z : Call). z.view) call ∙ is ∙ sym (ap (λ (p : Phase). asked_view c.stamp p) phase) ∙ sym (ap (λ (t : Stamp). asked_view t d.phase) stamp)
+
+-- one in its next phase
+pub next_view : (c d : Coordinator) → d.stamp.view ≡ c.stamp.view → d.call ≡ call_after c d.phase → CallIsOf d
+next_view c d view call =
+    ap (λ (z : Call). z.view) call ∙ sym (ap (λ (v : ViewNo). if looks_back d.phase then record { 0 = v.0 - 1 } else v) view)
 
 next_views : (fresh : Option Stamp) (c : Coordinator) (next : Next) → NextFits fresh c next → CallIsOf c
-    → ((t : Stamp) → fresh ≡ Some t → t.view.0 ≡ c.call.view.0) → NextIsOf next
+    → ((t : Stamp) → fresh ≡ Some t → t.view ≡ c.stamp.view) → NextIsOf next
 next_views fresh c Ignores fits is made = tt
-next_views fresh c (Waits d) fits is made = same_view c d is fits.stamp fits.same.view
+next_views fresh c (Waits d) fits is made = waits_view c d is fits.stamp fits.phase fits.call
 next_views fresh c (Sends d) fits is made = ⊎_elim
-    (λ (again : ReordersFits fresh c d). made d.stamp again.stamp ∙ sym (ap (λ (z : ViewNo). z.0) fits.same.view))
+    (λ (again : ReordersFits fresh c d). next_view c d (made d.stamp again.stamp) fits.call)
     (λ (other : RecoversFits c d ⊎ RebuildsFits c d). ⊎_elim
-    (λ (recovers : RecoversFits c d). same_view c d is recovers.stamp fits.same.view)
-    (λ (rebuilds : RebuildsFits c d). same_view c d is rebuilds.stamp fits.same.view)
+    (λ (recovers : RecoversFits c d). next_view c d (ap (λ (t : Stamp). t.view) recovers.stamp) fits.call)
+    (λ (rebuilds : RebuildsFits c d). next_view c d (ap (λ (t : Stamp). t.view) rebuilds.stamp) fits.call)
     other)
     fits.how
-next_views fresh c (Makes d) fits is made = same_view c d is fits.stamp fits.same.view
+next_views fresh c (Makes d) fits is made = next_view c d (ap (λ (t : Stamp). t.view) fits.stamp) fits.call
 next_views fresh c (Ends answer seen held) fits is made = tt
 
 -- a brick with one call changed
@@ -303,7 +358,7 @@ some_call d c is same = subst (λ (z : Coordinator). CallIsOf z) (same_Some d c 
 
 phase_views : (setting : Setting) (me : BrickId) (c : Coordinator) → CallIsOf c → OfEach PacketIsOf (phase_packets setting me c)
 phase_views setting me c is =
-    each_member PacketIsOf me c.call (request_of setting.code c) (λ seat to. request_is setting.code c is seat) 0 c.group.members
+    each_member PacketIsOf me c.call (request_of setting.code c) (λ seat to. request_is setting.code c is seat) 0 (asked_group c).members
 
 carried_views : (setting : Setting) (me : BrickId) (node : Node) (known : ℕ) (c : Coordinator) (next : Next) → NodeViews setting.layout node
     → NextIsOf next → StepViews setting.layout (carried_out setting me node known c next)
@@ -320,12 +375,66 @@ carried_views setting me node known c (Ends answer seen held) has is = record {
   packets = each_collect PacketIsOf me c held (λ t to u asked. absurd (let never : None ≡ Some u = asked in cc));
 }
 
--- a new round's stamp is of the call's view
-fresh_view : (me : BrickId) (view : ViewNo) (now boot known : ℕ) (t : Stamp) → fresh_stamp me view now boot known ≡ Some t → t.view.0 ≡ view.0
+-- a new round's stamp is of the operation's view
+fresh_view : (me : BrickId) (view : ViewNo) (now boot known : ℕ) (t : Stamp) → fresh_stamp me view now boot known ≡ Some t → t.view ≡ view
 fresh_view me view now boot known t =
-    cond_both (has_later_time known) (Some (new_stamp me view now boot known)) None (λ (z : Option Stamp). z ≡ Some t → t.view.0 ≡ view.0)
-    (λ later is. ap (λ (z : Stamp). z.view.0) (sym (same_Some (new_stamp me view now boot known) t is)))
+    cond_both (has_later_time known) (Some (new_stamp me view now boot known)) None (λ (z : Option Stamp). z ≡ Some t → t.view ≡ view)
+    (λ later is. ap (λ (z : Stamp). z.view) (sym (same_Some (new_stamp me view now boot known) t is)))
     (λ spent is. absurd (let never : None ≡ Some t = is in cc))
+
+-- a read of a synchronisation is of the view of its stamp
+read_views : (layout : Layout) (me : BrickId) (now : ℕ) (node : Node) (job : Job) (group : Group) → NodeViews layout node
+    → NodeViews layout (reading node job (coordinator_in group job.view me now node (job_ask job)))
+read_views layout me now node job group has =
+    let d : Coordinator = coordinator_in group job.view me now node (job_ask job) in
+    record {
+      views = has.views;
+      parts = has.parts;
+      fresh = has.fresh;
+      zero = has.zero;
+      first = has.first;
+      calls = put_each (λ k z. (e : Coordinator) → z ≡ Some e → CallIsOf e) node.calls d.call.seq (Some d) (λ e is. some_call d e refl is)
+          (λ k other. has.calls k);
+    }
+
+-- what the coordinator of such a read decided is carried out
+carried_for_views : (setting : Setting) (me : BrickId) (now : ℕ) (node : Node) (known : ℕ) (c : Coordinator) (next : Next) (read : Option Job)
+    → NodeViews setting.layout node → NextIsOf next → StepViews setting.layout (carried_for setting me now node known c next read)
+carried_for_views setting me now node known c next read has is =
+    carried_each (λ (step : NodeStep). StepViews setting.layout step) setting me now node known c next read (carried_views setting me node known c next has is)
+    (λ job its answer seen held ends.
+    let collects = each_collect PacketIsOf me c held (λ t to u asked. absurd (let never : None ≡ Some u = asked in cc)) in
+    let gone : NodeViews setting.layout (with_call node known node.busy c.call.seq None)
+    = call_put setting.layout node known node.busy c.call.seq None has (λ e same. absurd (let never : None ≡ Some e = same in cc)) in
+    record {
+      stays = record { node = gone; packets = each_both PacketIsOf (collect_packets me c held) [] collects (each_none PacketIsOf) };
+      ends = λ answered. record {
+        node = jobless gone;
+        packets = each_both PacketIsOf (collect_packets me c held) [] collects (each_none PacketIsOf);
+      };
+      finishes = record {
+        node = jobless gone;
+        packets = each_both PacketIsOf (collect_packets me c held) (synced_packets me job.group job.view.number setting.layout.bricks 0) collects
+            (each_synced PacketIsOf me job.group job.view.number (λ to. tt) setting.layout.bricks 0);
+      };
+      reads = λ attempt group kept. record {
+        node = read_views setting.layout me now (with_call node known node.busy c.call.seq None) (record job { attempt = attempt }) group gone;
+        packets = each_both PacketIsOf (collect_packets me c held)
+            (phase_packets setting me (read_call group (record job { attempt = attempt }) me now (read_closed me node known c answer seen held).node)) collects
+            (phase_views setting me (read_call group (record job { attempt = attempt }) me now (read_closed me node known c answer seen held).node) refl);
+      };
+    })
+  where
+    jobless : NodeViews setting.layout (with_call node known node.busy c.call.seq None)
+        → NodeViews setting.layout (with_job (with_call node known node.busy c.call.seq None) None)
+    jobless gone = record {
+      views = gone.views;
+      parts = gone.parts;
+      fresh = gone.fresh;
+      zero = gone.zero;
+      first = gone.first;
+      calls = gone.calls;
+    }
 
 replied_views : (setting : Setting) (me : BrickId) (now : ℕ) (from : BrickId) (node : Node) (call : Call) (reply : Reply) (found : Option Coordinator)
     → ((c : Coordinator) → found ≡ Some c → CallIsOf c) → NodeViews setting.layout node
@@ -339,11 +448,11 @@ replied_views setting me now from node call reply None own has =
     })
 replied_views setting me now from node call reply (Some c) own has =
     let known : ℕ = known_after node.known reply in
-    carried_views setting me node known c _ has
-    (decides (fresh_stamp me c.call.view now node.boot known) (own c refl)
-    (λ t made. fresh_view me c.call.view now node.boot known t made) (counts_at setting.layout.block c from.0 call reply))
+    carried_for_views setting me now node known c _ (job_reading node.job c.call.seq) has
+    (decides (fresh_stamp me c.stamp.view now node.boot known) (own c refl)
+    (λ t made. fresh_view me c.stamp.view now node.boot known t made) (counts_at setting.layout.block c from.0 call reply))
   where
-    decides : (fresh : Option Stamp) → CallIsOf c → ((t : Stamp) → fresh ≡ Some t → t.view.0 ≡ c.call.view.0) → (seat : Option ℕ)
+    decides : (fresh : Option Stamp) → CallIsOf c → ((t : Stamp) → fresh ≡ Some t → t.view ≡ c.stamp.view) → (seat : Option ℕ)
         → NextIsOf (counted_at setting.layout.block setting.code fresh c from reply seat)
     decides fresh is made None = tt
     decides fresh is made (Some seat) =
@@ -369,6 +478,8 @@ received_views setting now from to (Message.Reply call reply) node has is = hear
 received_views setting now from to (Message.Learn group view) node has is =
     quiet_views setting.layout (node_learnt setting.layout node group view)
     (learnt_each (λ (n : Node). NodeViews setting.layout n) setting.layout node group view has (λ later. learnt_views setting.layout group.0 node view later has))
+received_views setting now from to (Message.Synced group number) node has is =
+    quiet_views setting.layout (node_synced setting.layout node group number) (synced_kept setting.layout node group number has)
 received_views setting now from to message node has is = quiet_views setting.layout node has
 
 -- a brick begins a proposal
@@ -390,6 +501,7 @@ kept_views setting me from to (Message.Reply call reply) node has is =
     (λ (n : Node). NodeViews setting.layout n) (λ fit. taught_views setting.layout call.group.0 node (view_told reply) has) (λ isnt. has)
 kept_views setting me from to (Message.Learn group view) node has is =
     learnt_each (λ (n : Node). NodeViews setting.layout n) setting.layout node group view has (λ later. learnt_views setting.layout group.0 node view later has)
+kept_views setting me from to (Message.Synced group number) node has is = synced_kept setting.layout node group number has
 kept_views setting me from to message node has is = has
 
 -- and where its handling was cut short
@@ -402,6 +514,16 @@ absorbed_views setting me from to message node has is =
     (λ (kept : absorbed setting me node packet ≡ kept_of setting me node packet).
     subst (λ (n : Node). NodeViews setting.layout n) (sym kept) (kept_views setting me from to message node has is))
     (absorbed_kept setting me from to node message)
+
+-- an operation begins in its view
+pub first_ahead : (op : Op) → looks_back (first_phase op) ≡ false
+first_ahead (ReadBlock j) = refl
+first_ahead (WriteBlock j bytes) = refl
+first_ahead ReadStripe = refl
+first_ahead (WriteStripe bytes) = refl
+
+pub begun_view : (c : Coordinator) → looks_back c.phase ≡ false → c.call.view ≡ c.stamp.view → CallIsOf c
+begun_view c ahead same = same ∙ sym (ap (λ (b : Bool). if b then record { 0 = c.stamp.view.0 - 1 } else c.stamp.view) ahead)
 
 invoked_views : (setting : Setting) (me : BrickId) (now : ℕ) (node : Node) (ask : Ask) → NodeViews setting.layout node
     → StepViews setting.layout (invoked setting me now node ask)
@@ -419,11 +541,35 @@ invoked_views setting me now node ask has = in_group (group_at setting.layout no
             fresh = has.fresh;
             zero = has.zero;
             first = has.first;
-            calls = put_each (λ k z. (d : Coordinator) → z ≡ Some d → CallIsOf d) node.calls (node.seq + 1) (Some c) (λ d is. some_call c d refl is)
+            calls = put_each (λ k z. (d : Coordinator) → z ≡ Some d → CallIsOf d) node.calls (node.seq + 1) (Some c) (λ d is. some_call c d (begun_view c (first_ahead ask.op) refl) is)
                 (λ k other. has.calls k);
           };
-          packets = phase_views setting me c refl;
+          packets = phase_views setting me c (begun_view c (first_ahead ask.op) refl);
         }
+
+-- a synchronisation begins
+sync_views : (setting : Setting) (me : BrickId) (now : ℕ) (node : Node) (group : GroupId) → NodeViews setting.layout node
+    → StepViews setting.layout (synced_at setting me now node group)
+sync_views setting me now node group has =
+    synced_at_each (λ (step : NodeStep). StepViews setting.layout step) setting me now node group (quiet_views setting.layout node has)
+    (λ answer. record { node = same; packets = each_none PacketIsOf }) (λ answer. record { node = jobless; packets = each_none PacketIsOf })
+    (λ kept is. record {
+      node = read_views setting.layout me now node (begun_job group (node.learnt group.0).view) kept has;
+      packets = phase_views setting me (read_call kept (begun_job group (node.learnt group.0).view) me now node) refl;
+    })
+  where
+    same : NodeViews setting.layout node
+    same = has
+
+    jobless : NodeViews setting.layout (with_job node None)
+    jobless = record {
+      views = has.views;
+      parts = has.parts;
+      fresh = has.fresh;
+      zero = has.zero;
+      first = has.first;
+      calls = has.calls;
+    }
 
 -- a brick stops, and starts again
 closed_views : (layout : Layout) (node : Node) (boot seq known round busy : ℕ) → NodeViews layout node
@@ -478,6 +624,14 @@ views_cases setting w has = record {
             (sym (after_stepped setting w brick (proposed setting brick (w.nodes brick.0) group members))) has.after;
         packets = each_both PacketIsOf w.packets _ has.packets step.packets;
       });
+  syncs = λ brick group may.
+      (let step = sync_views setting brick (w.clocks brick.0) (w.nodes brick.0) group (has.nodes brick.0) in
+      record {
+        nodes = put_views setting.layout w.nodes brick.0 _ has.nodes step.node;
+        after = subst (λ (f : ℕ → Node). (i : ℕ) → NodeViews setting.layout (f i))
+            (sym (after_stepped setting w brick (synced_at setting brick (w.clocks brick.0) (w.nodes brick.0) group))) has.after;
+        packets = each_both PacketIsOf w.packets _ has.packets step.packets;
+      });
   handles = λ number packet at up.
       (let sent = packet_was_sent w number packet at in
       let step = received_views setting (w.clocks packet.to.0) packet.from packet.to packet.message (w.nodes packet.to.0) (has.nodes packet.to.0)
@@ -494,10 +648,9 @@ views_cases setting w has = record {
         nodes = has.nodes;
         after = has.after;
         packets = each_both PacketIsOf w.packets _ has.packets
-            (each_both PacketIsOf _ (ballot_resent brick (w.nodes brick.0).proposal)
-            (each_ticked PacketIsOf setting brick (w.nodes brick.0).calls (w.nodes brick.0).seq
-            (λ k c is seat to. request_is setting.code c ((has.nodes brick.0).calls k c is) seat) (λ k c is later from to. tt))
-            (ballots_are _ (resent_of_views brick (w.nodes brick.0).proposal)));
+            (each_tick PacketIsOf setting brick (w.nodes brick.0).calls
+            (λ k c is seat to. request_is setting.code c ((has.nodes brick.0).calls k c is) seat) (λ k c is later from to. tt) (w.nodes brick.0).job
+            (w.nodes brick.0).seq (w.nodes brick.0).proposal (ballots_are _ (resent_of_views brick (w.nodes brick.0).proposal)));
       };
   stops = λ brick during up.
       record {

@@ -1,6 +1,7 @@
 -- A coordinator whose order was promised by a quorum makes its version, and sends it.
-use Rattle.std.proofs.Common.{◌≡◌, ◌≢◌, ℕ, ◌+◌, ◌*◌, ◌<◌, ◌≤◌, ◌⊎◌, inl, inr, true, false, cond, List, [], ◌∷◌, ◌++◌, length, Option, Some, None, refl, sym, ap, ◌∙◌, subst, ⊎_elim, arith}
-use Rattle.std.specs.Prelude.{slice_get, nat_eq, nat_lt, not, Bool}
+use Rattle.protocol_laws.proofs.Outcomes.{call_after}
+use Rattle.std.proofs.Common.{◌≡◌, ◌≢◌, ℕ, ◌+◌, ◌*◌, ◌<◌, ◌≤◌, ◌⊎◌, inl, inr, true, false, cond, List, [], ◌∷◌, ◌++◌, length, Option, Some, None, refl, sym, ap, ◌∙◌, subst, ⊎_elim, arith, Bool}
+use Rattle.std.specs.Prelude.{slice_get, nat_eq, nat_lt, not, Bool, if◌then◌else◌, ◌-◌}
 use Rattle.std.proofs.lemmas.Bool.{cond_both, cond-true, true≢false, and_parts, or_parts, eqb-true, eqb-false, ltb-true, not-false}
 use Rattle.std.proofs.lemmas.Option.{same_Some}
 use Rattle.fab_base.specs.declared.identities.BrickId.{BrickId}
@@ -20,13 +21,13 @@ use Rattle.quorum.specs.Quorums.{IsWithinLimits}
 use Rattle.reg_model.specs.Registers.{block_of, with_block, after_op}
 use Rattle.protocol.specs.Replicas.{is_changed, modified_block}
 use Rattle.protocol.specs.declared.phases.Phase.{Phase}
-use Rattle.protocol.specs.declared.phases.Phase.TheVariants.{Orders, Descends, Modifies, Stores}
-use Rattle.protocol.specs.Coordinators.{Coordinator, next_phase, request_of, delta_at}
+use Rattle.protocol.specs.declared.phases.Phase.TheVariants.{Orders, Descends, Modifies, Stores, LooksBack}
+use Rattle.protocol.specs.Coordinators.{Coordinator, request_of, delta_at, asked_group, looks_back}
 use Rattle.protocol.specs.declared.tellings.Told.TheVariants.{Made}
 use Rattle.protocol.specs.Nodes.{Node, put, has_block, has_length, with_call, phase_packets}
 use Rattle.protocol.specs.Worlds.{World, Operation, number_of, world_stepped, with_made, with_content, with_held, content_on, content_by, choices_after}
-use Rattle.protocol_laws.proofs.Books.{Books, OperationBooks, CallBooks, IsOperation, IsCall}
-use Rattle.protocol_laws.proofs.Said.{Begun, Stamping, Said, IsSaid, StampsSay, IsStampOf, IsBegun, IsStamped, AreBlocked, Stands, IsMadeOrFirst, FloorsAtMost, FitsPhase, MakerSays, WriteSays, ChangesBlock, ModifySays, MadeOn, RequestSays, base_in, PacketSays, HasVersion, WritesWhole, ReadsBack, OperationSays, CallSays}
+use Rattle.protocol_laws.proofs.Books.{Books, OperationBooks, LifeBooks, CallBooks, IsOperation, IsCall}
+use Rattle.protocol_laws.proofs.Said.{Begun, Stamping, Said, IsSaid, StampsSay, IsStampOf, IsBegun, IsStamped, AreBlocked, Stands, IsMadeOrFirst, FloorsAtMost, FitsPhase, MakerSays, WriteSays, ChangesBlock, ModifySays, MadeOn, RequestSays, base_in, PacketSays, HasVersion, WritesWhole, ReadsBack, OperationSays, CallSays, bound_in}
 use Rattle.protocol_laws.specs.Laws.{IsModified, IsGuarded}
 use Rattle.fab_base.proofs.Seats.{seat_of_member, seat_within}
 use Rattle.protocol.proofs.Blocks.{block_room, block_same, block_other, IsContent}
@@ -36,18 +37,18 @@ use Rattle.protocol_laws.proofs.Stampings.{ComesFrom, StampsGrow, Ages, ages_wit
 use Rattle.protocol_laws.proofs.Steps.{KeepsStamps, ages_by, phase_asked}
 use Rattle.protocol_laws.proofs.Growth.{Grows, stays_guarded, stays_made, stays_standing, stay_blocked, stays_operation}
 use Rattle.protocol_laws.proofs.Operated.{operated, OperatedKeeps, operated_grows, said_operated}
-use Rattle.protocol_laws.proofs.OwnStamps.{not_made_yet, call_by, own_in, m_is}
+use Rattle.protocol_laws.proofs.OwnStamps.{not_made_yet, call_by, own_in, m_is, ahead_group}
 
--- an open operation may happen up to one past the last mark
-pub open_until : (setting : Setting) (w : World) (i k : ℕ) (c : Coordinator) → Books setting w → IsCall w i k c
-    → length w.marks ≤ last_of (life_of w.marks (number_of w i k))
-open_until setting w i k c books is =
+-- an open operation that has marks may happen up to one past the last mark
+pub open_until : (setting : Setting) (w : World) (i k : ℕ) (c : Coordinator) (books : Books setting w) (is : IsCall w i k c)
+    → 1 ≤ (books.calls i k c is).operation.mark → length w.marks ≤ last_of (life_of w.marks (books.calls i k c is).operation.mark)
+open_until setting w i k c books is from =
     let its : CallBooks setting w i k c = books.calls i k c is in
-    let o_books : OperationBooks setting w (number_of w i k) its.operation = books.operations (number_of w i k) its.operation its.operation_is in
-    let last : last_of (life_of w.marks (number_of w i k)) ≡ length w.marks
-    = open_last w.marks (number_of w i k) o_books.life
-    (λ j mark at. let place = books.places j mark at in omega (arith, place)) o_books.life_is (its.unended o_books.life o_books.life_is) in
-    omega arith
+    let lived : LifeBooks w its.operation = (books.operations (number_of w i k) its.operation its.operation_is).lived from in
+    let last : last_of (life_of w.marks its.operation.mark) ≡ length w.marks
+    = open_last w.marks its.operation.mark lived.life
+    (λ j mark at. let place = books.places j mark at in omega (arith, place)) lived.life_is (its.unended from lived.life lived.life_is) in
+    omega (arith, last)
 
 -- An operation makes its version on another, of which no more is held by a quorum up to its own stamp.
 pub record MakesOn (setting : Setting) (views : Views) (w : World) (c : Coordinator) (base : Option Stamp) : Type 0 where
@@ -70,7 +71,7 @@ made_content setting w c base = content_on setting.layout.block (w.contents c.as
 pub record SendsChange (setting : Setting) (views : Views) (w : World) (c : Coordinator) (base : Option Stamp) (phase : Phase) (content : List ℕ) : Type 0 where
   pub version : Stamp
   pub base_is : base ≡ Some version
-  pub of : view_of version ≡ c.call.view.0
+  pub of : view_of version ≡ c.stamp.view.0
   pub j : ℕ
   pub bytes : List ℕ
   pub phase_is : phase ≡ Modifies version j
@@ -138,7 +139,7 @@ module _ (setting : Setting) (views : Views) (sound : IsSound setting) (w : Worl
         round = c.round;
         base = base;
         content = content;
-        call = next_phase c.call;
+        call = call_after c phase;
         phase = phase;
         counted = [];
       }
@@ -248,8 +249,8 @@ module _ (setting : Setting) (views : Views) (sound : IsSound setting) (w : Worl
   same_group : (g : ℕ) → g ≡ c.ask.group.0 → (other : Group) → group_in setting.layout views g (view_of c.stamp) ≡ Some other → group ≡ other
   same_group g at = call_by setting views w stamps books said me.0 c.call.seq c is g c.stamp at (own_in setting views w stamps books said me.0 c.call.seq c is)
 
-  asked_group : o.ask.group.0 ≡ c.ask.group.0
-  asked_group = ap (λ a. a.group.0) (sym its.ask)
+  of_asked : o.ask.group.0 ≡ c.ask.group.0
+  of_asked = ap (λ a. a.group.0) (sym its.ask)
 
   module _ (unmade : (o.version ≡ None) × (o.made ≡ false)) where
     -- no version of its stamp was made
@@ -287,6 +288,7 @@ module _ (setting : Setting) (views : Views) (sound : IsSound setting) (w : Worl
     keeps = record {
       places = (refl, refl, refl);
       boot = refl;
+      job = refl;
       is = its.operation_is;
       continues = record {
         brick = refl;
@@ -300,11 +302,12 @@ module _ (setting : Setting) (views : Views) (sound : IsSound setting) (w : Worl
         made = λ v has. let e : Some v ≡ None = sym has ∙ unmade.0 in cc;
         base = λ v has. let e : Some v ≡ None = sym has ∙ unmade.0 in cc;
         answered = λ is. is;
+        mark = refl;
       };
       kept = kept;
       longer = omega arith;
       lasts = λ a. omega arith;
-      unended = open_until setting w me.0 c.call.seq c books is;
+      unended = λ from. open_until setting w me.0 c.call.seq c books is from;
     }
 
     grows : Grows w next stamps later
@@ -366,6 +369,7 @@ module _ (setting : Setting) (views : Views) (sound : IsSound setting) (w : Worl
           record {
             begin = old.begin;
             view = old.view;
+            passed = old.passed;
             floors = old.floors;
             floors_known = old.floors_known;
             fresh = old.fresh;
@@ -379,7 +383,7 @@ module _ (setting : Setting) (views : Views) (sound : IsSound setting) (w : Worl
                 (subst (λ (a : Ask). IsContent other.m setting.layout.block (contents a.group.0 a.stripe.0 c.stamp)) its.ask
                 (subst (λ (l : List ℕ). IsContent other.m setting.layout.block l) (sym given_now)
                 (subst (λ (m : ℕ). IsContent m setting.layout.block given)
-                (sym (m_is setting views w stamps books said me.0 c.call.seq c is o.ask.group.0 other asked_group other_is)) formed)));
+                (sym (m_is setting views w stamps books said me.0 c.call.seq c is o.ask.group.0 other of_asked other_is)) formed)));
             stands = λ v has how. ⊎_elim
                 (λ (isnt : true ≡ false). absurd (true≢false isnt))
                 (λ (answered : o.answered ≡ true). absurd (true≢false (sym answered ∙ its.unanswered)))
@@ -388,28 +392,37 @@ module _ (setting : Setting) (views : Views) (sound : IsSound setting) (w : Worl
                 let same : c.stamp ≡ v = cc in
                 subst (λ (t : Stamp). HasVersion setting views next made t) same (record {
                   made = made_now;
-                  of = own_in setting views w stamps books said me.0 c.call.seq c is ∙ sym its.call_view;
+                  of = own_in setting views w stamps books said me.0 c.call.seq c is ∙ sym its.stamp_view;
                   reader = λ isnt. absurd (true≢false isnt);
                   guarded = λ other other_is.
                       subst (λ (a : Ask). IsGuarded next a.group.0 a.stripe.0 other c.stamp) its.ask
-                      (guarded_by other (same_group o.ask.group.0 asked_group other other_is));
+                      (guarded_by other (same_group o.ask.group.0 of_asked other other_is));
                   floors = λ other other_is.
                       subst (λ (z : Group). FloorsAtMost o z c.stamp)
-                      (same_group o.ask.group.0 asked_group other other_is) floors;
+                      (same_group o.ask.group.0 of_asked other other_is) floors;
                 });
             answered = λ answered writes. refl;
           }
 
+      -- a phase that sends a version does not look back: it asks the operation's members
+      sending_ahead : SendsVersion setting views w c base phase content → looks_back phase ≡ false
+      sending_ahead (inl whole) = ap looks_back whole.0
+      sending_ahead (inr change) = ap looks_back change.phase_is
+
+      sending_view : SendsVersion setting views w c base phase content → d.call.view.0 ≡ c.stamp.view.0
+      sending_view sent = ap (λ (b : Bool). (if b then record { 0 = c.stamp.view.0 - 1 } else c.stamp.view).0) (sending_ahead sent)
+
       -- the seat of a member
       seat_of : (k : ℕ) (member : BrickId) → slice_get group.members k ≡ Some member → seat_in group.members member.0 ≡ Some k
-      seat_of k member at = seat_of_member group.members k member (said.distinct c.call.group.0 c.call.view.0 group says.group) at
+      seat_of k member at = seat_of_member group.members k member (said.distinct c.call.group.0 c.stamp.view.0 group says.group) at
 
       -- the group of the call, and a seat in it
-      call_group_is : (other : Group) → group_in setting.layout views c.call.group.0 c.call.view.0 ≡ Some other → group ≡ other
-      call_group_is other other_is = same_Some group other (sym says.group ∙ other_is)
+      call_group_is : (other : Group) → group_in setting.layout views c.call.group.0 d.call.view.0 ≡ Some other → group ≡ other
+      call_group_is other other_is =
+          same_Some group other (sym says.group ∙ sym (ap (λ (e : ℕ). group_in setting.layout views c.call.group.0 e) (sending_view sends)) ∙ other_is)
 
       seat_same : (k j : ℕ) (member : BrickId) (other : Group) → slice_get group.members k ≡ Some member
-          → group_in setting.layout views c.call.group.0 c.call.view.0 ≡ Some other → seat_in other.members member.0 ≡ Some j → k ≡ j
+          → group_in setting.layout views c.call.group.0 d.call.view.0 ≡ Some other → seat_in other.members member.0 ≡ Some j → k ≡ j
       seat_same k j member other at other_is at_j =
           same_Some k j (sym (seat_of k member at) ∙ (ap (λ (z : Group). seat_in z.members member.0) (call_group_is other other_is) ∙ at_j))
 
@@ -474,7 +487,7 @@ module _ (setting : Setting) (views : Views) (sound : IsSound setting) (w : Worl
         asked_fits =
             let o_books : OperationBooks setting w n o = books.operations n o its.operation_is in
             let same : o_books.group.m ≡ group.m
-            = m_is setting views w stamps books said me.0 c.call.seq c is o.ask.group.0 o_books.group asked_group o_books.group_is in
+            = m_is setting views w stamps books said me.0 c.call.seq c is o.ask.group.0 o_books.group of_asked o_books.group_is in
             let op : o.ask.op ≡ WriteBlock change.j change.bytes = ap (λ a. a.op) (sym its.ask) ∙ change.op_is in
             let has : has_block group.m (WriteBlock change.j change.bytes) ≡ true
             = subst (λ (m : ℕ). has_block m (WriteBlock change.j change.bytes) ≡ true) same
@@ -492,7 +505,7 @@ module _ (setting : Setting) (views : Views) (sound : IsSound setting) (w : Worl
         given_after = given_on change.version change.base_is ∙ ap (λ (x : Op). after_op size x before) change.op_is
 
         limits : IsWithinLimits group.m (length group.members)
-        limits = said.limits c.call.group.0 c.call.view.0 group says.group
+        limits = said.limits c.call.group.0 c.stamp.view.0 group says.group
 
         -- a seat's block of the base becomes that of the version
         changes_seat : (seat : ℕ) → seat < length group.members
@@ -590,7 +603,7 @@ module _ (setting : Setting) (views : Views) (sound : IsSound setting) (w : Worl
       -- the coordinator in a phase
       abbrev d_in : Phase → Coordinator
       d_in p =
-          record { group = c.group; prior = c.prior; ask = c.ask; stamp = c.stamp; round = c.round; base = base; content = content; call = next_phase c.call; phase = p; counted = [] }
+          record { group = c.group; prior = c.prior; ask = c.ask; stamp = c.stamp; round = c.round; base = base; content = content; call = call_after c p; phase = p; counted = [] }
 
       request_says : (k : ℕ) (member : BrickId) → slice_get group.members k ≡ Some member → SendsVersion setting views w c base phase content
           → RequestSays setting views next later me.0 member.0 d.call (request_of setting.code d (0 + k))
@@ -604,8 +617,9 @@ module _ (setting : Setting) (views : Views) (sound : IsSound setting) (w : Worl
 
       packets : (k : ℕ) (packet : Packet) → slice_get more k ≡ Some packet → PacketSays setting views next later packet
       packets k packet at =
-          let sent = sent_to_member me d.call (request_of setting.code d) 0 c.group.members k packet at in
-          subst (λ (z : Packet). PacketSays setting views next later z) (sym sent.2) (request_says k sent.0 sent.1 sends)
+          let sent = sent_to_member me d.call (request_of setting.code d) 0 (asked_group d).members k packet at in
+          subst (λ (z : Packet). PacketSays setting views next later z) (sym sent.2)
+          (request_says k sent.0 (ap (λ (z : Group). slice_get z.members k) (sym (ahead_group d (sending_ahead sends))) ∙ sent.1) sends)
 
       -- a phase that sends a version
       abbrev IsSending : Phase → Type 0
@@ -634,9 +648,15 @@ module _ (setting : Setting) (views : Views) (sound : IsSound setting) (w : Worl
           let same : Some change.version ≡ Some v = ap base_in (sym change.phase_is) ∙ has in
           subst (λ (t : Stamp). MadeOn setting views next d t) (same_Some change.version v same) (made_on_base change)
 
+      not_bounded : (p : Phase) (bound : Stamp) → phase ≡ p → bound_in p c.stamp ≡ Some bound → ⊥
+      not_bounded (Descends b) bound same has = other_phase (Descends b) same
+      not_bounded (LooksBack b) bound same has = other_phase (LooksBack b) same
+      not_bounded p bound same has = cc
+
       d_says : CallSays setting views next later me.0 c.call.seq d
       d_says = record {
         group = says.group;
+        prior = says.prior;
         begun = subst (λ (b : ℕ). IsBegun later me.0 b c.call.seq (c.call.phase + 1) phase c.stamp) (sym boot_now) begun_now;
         last = λ p less.
             subst (λ (b : ℕ). later me.0 b c.call.seq p ≡ None) (sym boot_now)
@@ -650,7 +670,8 @@ module _ (setting : Setting) (views : Views) (sound : IsSound setting) (w : Worl
           most = λ bound descends. absurd (other_phase (Descends bound) descends);
           lower = λ bound descends reads. absurd (other_phase (Descends bound) descends);
         };
-        covered = λ bound descends. absurd (other_phase (Descends bound) descends);
+        back = λ bound looks. absurd (other_phase (LooksBack bound) looks);
+        covered = λ bound has. absurd (not_bounded phase bound refl has);
         stores = λ stores. (subst (λ (a : Ask). IsMadeOrFirst next a.group.0 a.stripe.0 c.stamp) (sym its.ask) made_now, stored_content sends stores);
         based = based_on sends;
         counted = tt;

@@ -1,5 +1,5 @@
 -- The history of the replies that counted: what it says of each open operation, and what the marks show by it.
-use Rattle.std.proofs.Common.{◌≡◌, ℕ, ◌<◌, ◌≤◌, ◌⊎◌, true, List, [], ◌++◌, Some, None, is_some}
+use Rattle.std.proofs.Common.{◌≡◌, ℕ, ◌+◌, ◌<◌, ◌≤◌, ◌⊎◌, true, false, List, [], ◌++◌, Some, None, is_some}
 use Rattle.fab_base.specs.declared.identities.BrickId.{BrickId}
 use Rattle.fab_base.specs.declared.stamps.Stamp.{Stamp}
 use Rattle.std.specs.Prelude.{slice_get}
@@ -12,27 +12,50 @@ use Rattle.messages.specs.declared.packets.Message.TheVariants as Message
 use Rattle.messages.specs.declared.packets.Packet.{Packet}
 use Rattle.messages.specs.declared.requests.Request.{Request}
 use Rattle.messages.specs.declared.replies.Reply.TheVariants as Reply
-use Rattle.reg_model.specs.Marks.{life_of, IsOpen}
 use Rattle.protocol.specs.declared.phases.Counted.{Counted}
-use Rattle.protocol.specs.Coordinators.{Coordinator, greatest_refuser, lowest_full, lowest_mover}
+use Rattle.protocol.specs.Coordinators.{Coordinator, looks_back, greatest_refuser, greatest_found, dropper_of}
 use Rattle.protocol.specs.Worlds.{World, Operation, number_of, known_in}
-use Rattle.protocol_laws.specs.Laws.{WasSent, RequestSent, AskedAt, stamp_asked, order_of, Evidence, IsCallOf, CountedWereSent}
+use Rattle.protocol_laws.specs.Laws.{WasSent, RequestSent, AskedAt, stamp_asked, order_of, Evidence, IsCallOf, CountedWereSent, HasNotEnded}
 use Rattle.protocol_laws.proofs.Books.{Replies, IsOperation, IsCall}
-use Rattle.protocol_laws.proofs.Outcomes.{IsRound, first_round}
+use Rattle.protocol.specs.declared.phases.Phase.{Phase}
+use Rattle.protocol.specs.declared.phases.Phase.TheVariants.{LooksBack}
+use Rattle.protocol_laws.proofs.Counting.{NoneStops}
+use Rattle.protocol_laws.proofs.Outcomes.{IsRebuild, IsRound, first_round}
 use Rattle.protocol_laws.proofs.Said.{EachCounted}
 
--- the replies of a phase are those that its coordinator has, after those that it forgot, of which none told a later stamp, a full store or a later view
-abbrev pub IsTally : List Counted → List Counted → Type 0
-IsTally replies counted =
-    (forgotten : List Counted) × (replies ≡ forgotten ++ counted) × (greatest_refuser forgotten ≡ None) × (lowest_full forgotten ≡ None)
-    × (lowest_mover forgotten ≡ None)
+-- The replies of a phase are those that its coordinator has, after those that it forgot, of which none stops the operation, or told a later stamp in a phase that
+-- does not look back, or a version in one that reads no base back.
+pub record IsTally (phase : Phase) (replies counted : List Counted) : Type 0 where
+  pub forgotten : List Counted
+  pub are : replies ≡ forgotten ++ counted
+  pub stops : NoneStops forgotten
+  pub refused : looks_back phase ≡ false → greatest_refuser forgotten ≡ None
+  pub found : (greatest_found forgotten ≡ None) ⊎ IsRebuild phase
 
--- The open operation of number n at coordinator c: in its present phase those replies counted that c has, but for those that it forgot, and
--- none in a later one; each round of ordering before the present one had counted a later stamp.
-pub record CallTallied (replies : Replies) (n : ℕ) (c : Coordinator) : Type 0 where
-  pub now : IsTally (replies n c.call.phase) c.counted
+-- a packet is one of these
+abbrev pub IsAmong : List Packet → Packet → Type 0
+IsAmong packets packet = (k : ℕ) × (slice_get packets k ≡ Some packet)
+
+-- The operation of a call of brick i had begun to look back by the call's phase: in one of its phases it asked a member for what that keeps in the view before, below no
+-- bound, and no reply that counted in the phase just before told a version.
+pub record BeganBack (packets : List Packet) (replies : ℕ → List Counted) (i : ℕ) (call : Call) : Type 0 where
+  pub first : Call
+  pub before : ℕ
+  pub member : BrickId
+  pub boot : first.boot ≡ call.boot
+  pub seq : first.seq ≡ call.seq
+  pub most : first.phase ≤ call.phase
+  pub asked : IsAmong packets (record { from = record { 0 = i }; to = member; message = Message.Request first (Request.OldRead None) })
+  pub follows : first.phase ≡ before + 1
+  pub nothing : greatest_found (replies before) ≡ None
+
+-- The open operation of number n at coordinator c of brick i: in its present phase those replies counted that c has, but for those that it forgot, and
+-- none in a later one; each round of ordering before the present one had counted a later stamp; and where it looks back, it had begun so.
+pub record CallTallied (packets : List Packet) (replies : Replies) (i n : ℕ) (c : Coordinator) : Type 0 where
+  pub now : IsTally c.phase (replies n c.call.phase) c.counted
   pub later : (p : ℕ) → c.call.phase < p → replies n p ≡ []
   pub refused : IsRound c.phase → (p : ℕ) → first_round c.phase ≤ p → p < c.call.phase → is_some (greatest_refuser (replies n p)) ≡ true
+  pub back : looks_back c.phase ≡ true → BeganBack packets (replies n) i c.call
 
 -- a reply that counted in a phase of operation n was sent to it
 abbrev pub CountedSent : World → ℕ → ℕ → Counted → Type 0
@@ -42,33 +65,48 @@ CountedSent w n phase x =
     × WasSent w (record { from = x.brick; to = o.brick; message = Message.Reply call x.reply }))
 
 -- the abort of operation n shows its evidence
-abbrev pub AbortShown : World → ℕ → Cause → Type 0
-AbortShown w n cause = (o : Operation) × IsOperation w n o × Evidence w n o cause
+abbrev pub OwnShown : World → ℕ → Cause → Type 0
+OwnShown w n cause = (o : Operation) × IsOperation w n o × Evidence w n o cause
 
--- each abort shows its evidence, by the operation's number
+-- so does that of the operation whose marks have number n
+abbrev pub AbortShown : World → ℕ → Cause → Type 0
+AbortShown w n cause = (a : ℕ) × (o : Operation) × IsOperation w a o × (o.mark ≡ n) × Evidence w a o cause
+
+-- each abort that is marked shows its evidence
 abbrev pub AbortsAreShown : World → Type 0
 AbortsAreShown w = (k p n : ℕ) (cause : Cause) → slice_get w.marks k ≡ Some (End p n (Aborted cause)) → AbortShown w n cause
 
 -- the history of a world
 pub record Tallied (w : World) : Type 0 where
-  pub calls : (i k : ℕ) (c : Coordinator) → IsCall w i k c → CallTallied w.replies (number_of w i k) c
+  pub calls : (i k : ℕ) (c : Coordinator) → IsCall w i k c → CallTallied w.packets w.replies i (number_of w i k) c
   pub unbegun : (n p : ℕ) → w.begun < n → w.replies n p ≡ []
   pub counted : CountedWereSent w
   pub aborts : AbortsAreShown w
+  pub marked : (k p n : ℕ) (cause : Cause) → slice_get w.marks k ≡ Some (End p n (Aborted cause)) → 1 ≤ n
+  pub closed : (n : ℕ) (o : Operation) (cause : Cause) → IsOperation w n o → o.closed ≡ Some (Some cause) → Evidence w n o cause
+
+-- an operation that orders under a call asks nothing else under it
+abbrev pub OrdersAlone : World → Type 0
+OrdersAlone w =
+    (n : ℕ) (o : Operation) (call : Call) (to other : BrickId) (request : Request) (t u : Stamp) → IsOperation w n o → IsCallOf call o
+    → RequestSent w call o.brick to request → stamp_asked request ≡ Some t → RequestSent w call o.brick other (order_of o.ask.op u)
+    → request ≡ order_of o.ask.op t
 
 -- What the messages of a world show: a later stamp answers what was asked at a lower one; an operation that orders under a call asks nothing else under
--- it, and it does so in a round of ordering; and the replies that a coordinator has were sent to it.
+-- it, and it does so in a round of ordering; the replies that a coordinator has were sent to it, and tell of versions that were dropped only where it looks back;
+-- and where it begins to look back, a member was asked so.
 pub record MessagesShow (w : World) : Type 0 where
   pub later : (call : Call) (from to : BrickId) (x : Stamp)
       → WasSent w (record { from = from; to = to; message = Message.Reply call (Reply.Later x) })
       → (t : Stamp) × AskedAt w call to from t × (stamp_below t x ≡ true)
-  pub orders_alone : (n : ℕ) (o : Operation) (call : Call) (to other : BrickId) (request : Request) (t u : Stamp) → IsOperation w n o → IsCallOf call o
-      → RequestSent w call o.brick to request → stamp_asked request ≡ Some t → RequestSent w call o.brick other (order_of o.ask.op u)
-      → request ≡ order_of o.ask.op t
+  pub orders_alone : OrdersAlone w
   pub in_round : (i k : ℕ) (c : Coordinator) (to : BrickId) (t : Stamp) → IsCall w i k c
       → RequestSent w c.call (record { 0 = i }) to (order_of c.ask.op t) → IsRound c.phase
   pub counted : (i k : ℕ) (c : Coordinator) → IsCall w i k c
       → EachCounted (λ x. WasSent w (record { from = x.brick; to = record { 0 = i }; message = Message.Reply c.call x.reply })) c.counted
+  pub kept : (i k : ℕ) (c : Coordinator) → IsCall w i k c → looks_back c.phase ≡ false → EachCounted (λ x. dropper_of x ≡ None) c.counted
+  pub begins_back : (i k : ℕ) (c : Coordinator) → IsCall w i k c → c.phase ≡ LooksBack None
+      → (to : BrickId) × RequestSent w c.call (record { 0 = i }) to (Request.OldRead None)
 
 -- an operation goes on as the same: what it was asked, of which brick and under which call
 pub record GoesOn (o p : Operation) : Type 0 where
@@ -76,12 +114,13 @@ pub record GoesOn (o p : Operation) : Type 0 where
   pub boot : p.boot ≡ o.boot
   pub seq : p.seq ≡ o.seq
   pub ask : p.ask ≡ o.ask
+  pub mark : p.mark ≡ o.mark
 
 -- From one world to the next: what was sent stays sent, no brick's time falls within a boot, operations stay who they are, and replies count only in
--- operations that are open.
+-- operations that have not ended.
 pub record Furthers (w next : World) : Type 0 where
   pub sent : (packet : Packet) → WasSent w packet → WasSent next packet
   pub known : (i b : ℕ) → b ≤ (w.nodes i).boot → known_in w i b ≤ known_in next i b
   pub operations : (n : ℕ) (o : Operation) → IsOperation w n o
       → (p : Operation) × IsOperation next n p × GoesOn o p
-  pub replies : (n : ℕ) → ((p : ℕ) → next.replies n p ≡ w.replies n p) ⊎ IsOpen (life_of w.marks n)
+  pub replies : (n : ℕ) → ((p : ℕ) → next.replies n p ≡ w.replies n p) ⊎ HasNotEnded w n

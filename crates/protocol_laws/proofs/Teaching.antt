@@ -1,19 +1,22 @@
 -- A brick is taught a view: by a message, or by a reply that counts. It does what it does with the reply as well if it is taught first.
-use Rattle.std.proofs.Common.{◌≡◌, ℕ, ◌<◌, Bool, true, false, nat_lt, Option, Some, None, refl, sym, ap, ◌∙◌, subst, ltb-true}
+use Rattle.view_laws.proofs.SyncReads.{carried_each}
+use Rattle.protocol.specs.declared.tellings.Report.{Report}
+use Rattle.protocol.specs.Jobs.{Job, JobNext, Reads, Finishes, GivesUp, job_ask, job_after, abort_cause, spent_answer}
+use Rattle.std.proofs.Common.{◌≡◌, ℕ, ◌<◌, Bool, true, false, nat_lt, Option, Some, None, refl, sym, ap, ◌∙◌, subst, ltb-true, []}
 use Rattle.std.specs.Prelude.{if◌then◌else◌}
 use Rattle.std.proofs.lemmas.Bool.{cond_both}
 use Rattle.fab_base.specs.declared.identities.BrickId.{BrickId}
 use Rattle.fab_base.specs.declared.identities.GroupId.{GroupId}
 use Rattle.fab_base.specs.declared.member_lists.View.{View}
-use Rattle.fab_base.specs.Layouts.{Layout, group_of}
+use Rattle.fab_base.specs.Layouts.{Layout, group_of, Group}
 use Rattle.messages.specs.declared.calls.Call.{Call}
 use Rattle.messages.specs.declared.replies.Reply.{Reply}
 use Rattle.protocol.specs.Settings.{Setting}
-use Rattle.protocol.specs.Views.{Learnt, is_later, learns}
+use Rattle.protocol.specs.Views.{Learnt, is_later, learns, group_kept}
 use Rattle.protocol.specs.Replicas.{Replica, fresh_replica}
 use Rattle.protocol.specs.Coordinators.{Coordinator, Next, Ignores, Waits, Sends, Makes, Ends, on_reply}
 use Rattle.protocol.specs.Proposals.{Proposal, Voting, Ignored, Waited, Asks, Ended, voted}
-use Rattle.protocol.specs.Nodes.{Node, NodeStep, no_step, with_known, with_round, known_after, fresh_stamp, dropping, with_learnt, node_taught, node_taught_by, may_teach, node_learnt, carried_out, carried_ballot, replied_ballot, replied_at, view_counted, then_taught, replied, lists_fit, heard}
+use Rattle.protocol.specs.Nodes.{Node, NodeStep, no_step, with_known, with_round, known_after, fresh_stamp, dropping, with_learnt, node_taught, node_taught_by, may_teach, node_learnt, carried_out, carried_ballot, replied_ballot, replied_at, view_counted, then_taught, replied, lists_fit, heard, reporting, with_job, is_spent, coordinator_in, read_begun_by, read_begun_in, job_goes, read_closed, then_does, carried_for, job_reading}
 use Rattle.protocol.proofs.Tables.{put_each}
 use Rattle.protocol_laws.proofs.Proposing.{ballot_each}
 
@@ -71,6 +74,46 @@ module _ (setting : Setting) (me from : BrickId) (now group : ℕ) (call : Call)
   carried_then node learnt known c (Makes d) = refl
   carried_then node learnt known c (Ends answer seen stored) = refl
 
+  -- also what a read of a synchronisation leaves
+  goes_then : (node : Node) (learnt : Learnt) (job : Job) (next : JobNext)
+      → (let step : NodeStep = job_goes setting me now node job next in
+      record step { node = with_learnt block group step.node learnt } ≡ job_goes setting me now (with_learnt block group node learnt) job next)
+  goes_then node learnt job (Reads attempt) = in_group (group_kept setting.layout job.view.members job.group.0)
+    where
+      next : Job
+      next = record job { attempt = attempt }
+
+      in_group : (z : Option Group)
+          → (let step : NodeStep = read_begun_in setting me now node next z in
+          record step { node = with_learnt block group step.node learnt } ≡ read_begun_in setting me now (with_learnt block group node learnt) next z)
+      in_group None = refl
+      in_group (Some kept) = by (is_spent node)
+        where
+          by : (spent : Bool)
+              → (let step : NodeStep = if spent then reporting (with_job node None) [] (Report.Sync next.group (spent_answer next.attempt))
+              else read_begun_by setting me node next (coordinator_in kept next.view me now node (job_ask next)) in
+              record step { node = with_learnt block group step.node learnt }
+              ≡ (if spent then reporting (with_job (with_learnt block group node learnt) None) [] (Report.Sync next.group (spent_answer next.attempt))
+              else read_begun_by setting me (with_learnt block group node learnt) next
+              (coordinator_in kept next.view me now (with_learnt block group node learnt) (job_ask next))))
+          by true = refl
+          by false = refl
+  goes_then node learnt job Finishes = refl
+  goes_then node learnt job (GivesUp cause) = refl
+
+  carried_for_then : (node : Node) (learnt : Learnt) (known : ℕ) (c : Coordinator) (next : Next) (reading : Option Job)
+      → (let step : NodeStep = carried_for setting me now node known c next reading in
+      record step { node = with_learnt block group step.node learnt } ≡ carried_for setting me now (with_learnt block group node learnt) known c next reading)
+  carried_for_then node learnt known c next None = carried_then node learnt known c next
+  carried_for_then node learnt known c Ignores (Some job) = refl
+  carried_for_then node learnt known c (Waits d) (Some job) = refl
+  carried_for_then node learnt known c (Sends d) (Some job) = refl
+  carried_for_then node learnt known c (Makes d) (Some job) = refl
+  carried_for_then node learnt known c (Ends answer seen stored) (Some job) =
+      let closed : NodeStep = read_closed me node known c answer seen stored in
+      ap (λ (second : NodeStep). then_does (read_closed me (with_learnt block group node learnt) known c answer seen stored) second)
+      (goes_then closed.node learnt job (job_after c.group.stripes job.attempt (abort_cause answer)))
+
   ballot_then : (node : Node) (learnt : Learnt) (p : Proposal) (next : Voting)
       → (let step : NodeStep = carried_ballot setting.layout me node p next in
       record step { node = with_learnt block group step.node learnt } ≡ carried_ballot setting.layout me (with_learnt block group node learnt) p next)
@@ -90,8 +133,9 @@ module _ (setting : Setting) (me from : BrickId) (now group : ℕ) (call : Call)
       record step { node = with_learnt block group step.node learnt } ≡ replied_at setting me now from (with_learnt block group node learnt) call reply found)
   replied_then node learnt None = proposal_then (with_known node (known_after node.known reply)) learnt node.proposal
   replied_then node learnt (Some c) =
-      carried_then node learnt (known_after node.known reply) c
-      (on_reply setting.layout.block setting.code (fresh_stamp me c.call.view now node.boot (known_after node.known reply)) c from call reply)
+      carried_for_then node learnt (known_after node.known reply) c
+      (on_reply setting.layout.block setting.code (fresh_stamp me c.stamp.view now node.boot (known_after node.known reply)) c from call reply)
+      (job_reading node.job c.call.seq)
 
   -- a reply itself leaves what a brick has learnt, what it keeps of ballots and its parts as they are
   pub record IsAtRest (node next : Node) : Type 0 where
@@ -111,13 +155,26 @@ module _ (setting : Setting) (me from : BrickId) (now group : ℕ) (call : Call)
   carried_rests node known c (Makes d) = record { boot = refl; learnt = refl; ballots = refl; replicas = refl; live = refl }
   carried_rests node known c (Ends answer seen stored) = record { boot = refl; learnt = refl; ballots = refl; replicas = refl; live = refl }
 
+  -- so is what a read of a synchronisation leaves
+  pub carried_for_rests : (node : Node) (known : ℕ) (c : Coordinator) (next : Next) (reading : Option Job)
+      → IsAtRest node (carried_for setting me now node known c next reading).node
+  carried_for_rests node known c next reading =
+      carried_each (λ (step : NodeStep). IsAtRest node step.node) setting me now node known c next reading (carried_rests node known c next)
+      (λ job is answer seen stored ends. record {
+        stays = record { boot = refl; learnt = refl; ballots = refl; replicas = refl; live = refl };
+        ends = λ answered. record { boot = refl; learnt = refl; ballots = refl; replicas = refl; live = refl };
+        finishes = record { boot = refl; learnt = refl; ballots = refl; replicas = refl; live = refl };
+        reads = λ attempt kept is. record { boot = refl; learnt = refl; ballots = refl; replicas = refl; live = refl };
+      })
+
   pub replied_rests : (node : Node) (found : Option Coordinator) → IsAtRest node (replied_at setting me now from node call reply found).node
   replied_rests node None =
       ballot_each (λ (step : NodeStep). IsAtRest node step.node) setting.layout me from (with_known node (known_after node.known reply)) call reply node.proposal
       (λ seq round proposal packets reports more are. record { boot = refl; learnt = refl; ballots = refl; replicas = refl; live = refl })
   replied_rests node (Some c) =
-      carried_rests node (known_after node.known reply) c
-      (on_reply setting.layout.block setting.code (fresh_stamp me c.call.view now node.boot (known_after node.known reply)) c from call reply)
+      carried_for_rests node (known_after node.known reply) c
+      (on_reply setting.layout.block setting.code (fresh_stamp me c.stamp.view now node.boot (known_after node.known reply)) c from call reply)
+      (job_reading node.job c.call.seq)
 
   -- a reply does what it does, and teaches a view: it does so as well at a brick that was taught the view before
   pub taught_first : (node : Node) (found : Option Coordinator) (view : Option View)

@@ -1,6 +1,7 @@
 -- The stamp below which a brick takes nothing for a stripe: the greater of the floor of what it has learnt and accepted, and of its part's top.
+use Rattle.fab_base.specs.declared.member_lists.View.{View}
 use Rattle.std.proofs.Common.{◌≡◌, ◌⊎◌, inl, inr, ℕ, ◌+◌, ◌-◌, ◌≤◌, Bool, true, false, nat_lt, List, refl, sym, ap, ◌∙◌, subst, arith, ◌<◌}
-use Rattle.std.specs.Prelude.{if◌then◌else◌, is_some, ◌^◌, ◌&&◌}
+use Rattle.std.specs.Prelude.{if◌then◌else◌, is_some, ◌^◌, ◌&&◌, nat_lt}
 use Rattle.std.proofs.lemmas.Bool.{cond_both, false≢true, ltb-false, ltb-true}
 use Rattle.std.proofs.lemmas.Bool.Decides.{nat_tests}
 use Rattle.fab_base.specs.declared.identities.BrickId.{BrickId}
@@ -43,6 +44,11 @@ top_by node next g s learnt ballots part =
 pub top_above : (node : Node) (g s : ℕ) → stamp_below (top_at node g s) (top_of (node.replicas g (view_at node g) s)) ≡ false
 unfolding top_at
 top_above node g s = max_right (view_floor node g) (top_of (node.replicas g (view_at node g) s))
+
+-- nor less far than what it has learnt and accepted
+pub top_floor : (node : Node) (g s : ℕ) → stamp_below (top_at node g s) (view_floor node g) ≡ false
+unfolding top_at
+top_floor node g s = max_left (view_floor node g) (top_of (node.replicas g (view_at node g) s))
 
 -- it is just that part's top where that is above a stamp which is not below what the brick has learnt
 pub top_is_part : (node : Node) (g s : ℕ) (t : Stamp) → stamp_below t (view_floor node g) ≡ false
@@ -107,10 +113,33 @@ pub view_between : (b d t : Stamp) (e : ℕ) → view_of b ≡ e → view_of t �
 unfolding stamp_below
 view_between b d t e low high above below = grind (arith, nat_tests)
 
+-- what is above a stamp of the view before another, and below the first stamp of that, is of the view before it
+pub view_before : (b d : Stamp) (e : ℕ) → 1 < e → view_of b ≡ e - 1 → stamp_below b d ≡ true → stamp_below d (floor_of e) ≡ true → view_of d ≡ e - 1
+unfolding stamp_below
+view_before b d e later low above =
+    cond_both (nat_lt 1 e) (record { view = record { 0 = e }; time = 0; brick = record { 0 = 0 }; boot = 0 }) first_stamp
+    (λ (z : Stamp). stamp_below d z ≡ true → view_of d ≡ e - 1)
+    (λ is below. grind (arith, nat_tests, later, low, above, below)) (λ none. absurd (let few = ltb-false 1 e none in omega (arith, few, later)))
+
+-- what is not below the first stamp of a later view than 1, and below one of the view, is of it
+pub from_floor : (d t : Stamp) (e : ℕ) → 1 < e → view_of t ≡ e → stamp_below d (floor_of e) ≡ false → stamp_below d t ≡ true → view_of d ≡ e
+unfolding stamp_below
+from_floor d t e later of =
+    cond_both (nat_lt 1 e) (record { view = record { 0 = e }; time = 0; brick = record { 0 = 0 }; boot = 0 }) first_stamp
+    (λ (z : Stamp). stamp_below d z ≡ false → stamp_below d t ≡ true → view_of d ≡ e)
+    (λ is above below. grind (arith, nat_tests, later, of, above, below)) (λ none. absurd (let few = ltb-false 1 e none in omega (arith, few, later)))
+
 -- a stamp of a view is below all of the views after it
 pub view_less : (a b : Stamp) → view_of a < view_of b → stamp_below a b ≡ true
 unfolding stamp_below
 view_less a b less = grind (arith, nat_tests)
+
+-- a stamp of the view before another is below the first stamp of that
+pub before_floor : (b : Stamp) (e : ℕ) → view_of b < e → stamp_below b (floor_of e) ≡ true
+before_floor b e less =
+    cond_both (nat_lt 1 e) (record { view = record { 0 = e }; time = 0; brick = record { 0 = 0 }; boot = 0 }) first_stamp
+    (λ (z : Stamp). stamp_below b z ≡ true) (λ is. view_less b _ (omega (arith, less)))
+    (λ none. absurd (let few = ltb-false 1 e none in omega (arith, few, less)))
 
 -- views are numbered from 1
 pub view_least : (t : Stamp) → 1 ≤ view_of t
@@ -137,6 +166,19 @@ floor_rises e f most =
     (λ (z : Stamp). stamp_below z (record { view = record { 0 = e }; time = 0; brick = record { 0 = 0 }; boot = 0 }) ≡ false)
     (λ later. grind (arith, nat_tests)) (λ none. absurd (let few = ltb-false 1 f none in let many = ltb-true 1 e above in omega (arith, few, many, most))))
     (λ none. stamp_below_first (floor_of f))
+
+-- a brick that keeps its view, what it keeps of ballots and its part comes as far
+pub top_views : (node next : Node) (g s : ℕ) → (next.learnt g).view ≡ (node.learnt g).view → next.ballots g ≡ node.ballots g
+    → next.replicas g (view_at node g) s ≡ node.replicas g (view_at node g) s → top_at next g s ≡ top_at node g s
+unfolding top_at
+top_views node next g s view ballots part =
+    ap (λ (v : View). come_to v (next.ballots g) (next.replicas g v.number.0 s)) view
+    ∙ ap (λ (b : Kept (List BrickId)). come_to (node.learnt g).view b (next.replicas g (view_at node g) s)) ballots
+    ∙ ap (λ (r : Replica). come_to (node.learnt g).view (node.ballots g) r) part
+  where
+    come_to : View → Kept (List BrickId) → Replica → Stamp
+    come_to v kept r =
+        stamp_max (floor_of (if nat_lt v.number.0 (2 ^ 32 - 1) && is_some (last_of kept) then v.number.0 + 1 else v.number.0)) (top_of r)
 
 -- a brick that goes on having accepted, where it had, comes no less far
 pub top_accepts : (node : Node) (ballots : ℕ → Kept (List BrickId)) (g s : ℕ)

@@ -14,6 +14,7 @@ use Rattle.messages.specs.declared.calls.Call.{Call}
 use Rattle.messages.specs.declared.requests.Request.{Request}
 use Rattle.messages.specs.declared.requests.Version.{Version}
 use Rattle.messages.specs.declared.requests.Want.{Want}
+use Rattle.messages.specs.declared.requests.Want.TheVariants.{All}
 use Rattle.messages.specs.declared.replies.Reply.{Reply}
 use Rattle.quorum.specs.Quorums.{IsWithinLimits}
 use Rattle.quorum.proofs.Counts.{count_monotone}
@@ -21,7 +22,7 @@ use Rattle.protocol.specs.Settings.{Setting}
 use Rattle.protocol.specs.Views.{Views, layout_views, view_of, group_in}
 use Rattle.protocol.specs.Replicas.{is_held, is_wanted}
 use Rattle.protocol.specs.declared.phases.Phase.{Phase}
-use Rattle.protocol.specs.declared.phases.Phase.TheVariants.{Modifies, Stores}
+use Rattle.protocol.specs.declared.phases.Phase.TheVariants.{Modifies, Stores, LooksBack}
 use Rattle.protocol.specs.Coordinators.{told_in}
 use Rattle.protocol.specs.Worlds.{World, Event, first_world, run, Operation}
 use Rattle.protocol_laws.specs.Laws.{part_in, top_in, IsBlocked, RequestSent, want_in, OneContent, BasesAreNewest, WritesAreGuarded, NoEventLowers, IsLost, NeverSurfaces, CollectsStand, IsHeldByQuorum, DropsOnlyOlder, NothingFalls}
@@ -50,6 +51,8 @@ module _ (setting : Setting) (views : Views) (w : World) (stamps : Stamping) (sa
         subst (λ (z : Version). ToldSays setting views w (want_of says.phase) call.group.0 call.view.0 call.stripe.0 from.0 z) same says.says,
       )
   found_says from to call (Reply.OrderedRead found) version says told = (says.phase, says.stamp, says.begun, says.says version told)
+  found_says from to call (Reply.Old found) version says told =
+      (LooksBack says.bound, says.request.stamp, says.request.begun, says.says version told)
   found_says from to call reply version says told = cc
 
   -- a request wants what its phase does
@@ -59,6 +62,8 @@ module _ (setting : Setting) (views : Views) (w : World) (stamps : Stamping) (sa
       let same : found ≡ want = cc in (says.phase, says.stamp, says.begun, says.want_is ∙ same)
   wants_says from to call (Request.OrderRead t look found) want says is =
       let same : found ≡ want = cc in (says.phase, t, says.begun, says.want_is ∙ same)
+  wants_says from to call (Request.OldRead bound) want says is =
+      let same : All ≡ want = cc in (LooksBack bound, says.stamp, says.begun, same)
   wants_says from to call request want says is = cc
 
   pub one_content : OneContent setting views w

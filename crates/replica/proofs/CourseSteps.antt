@@ -8,11 +8,13 @@ use Rattle.std.proofs.lemmas.Bool.Decides.{nat_tests}
 use Rattle.fab_base.specs.declared.identities.BrickId.{BrickId}
 use Rattle.fab_base.specs.declared.member_lists.View.{View}
 use Rattle.fab_base.specs.declared.stamps.Ballot.{Ballot}
+use Rattle.fab_base.specs.declared.stamps.Stamp.{Stamp}
 use Rattle.fab_base.specs.Layouts.{Layout, Group, group_of, seat_in}
 use Rattle.messages.specs.declared.calls.Call.{Call}
 use Rattle.messages.specs.declared.requests.Request.{Request}
 use Rattle.messages.specs.declared.requests.Request.TheVariants as request
 use Rattle.messages.specs.declared.replies.Reply.{Reply}
+use Rattle.messages.specs.declared.replies.Reply.TheVariants.{Old, Retired}
 use Rattle.version_log.specs.Versions.{Version}
 use Rattle.brick_state.specs.declared.groups.Group.{Group as KeptGroup}
 use Rattle.brick_state.specs.States.{StateOf}
@@ -23,12 +25,14 @@ use Rattle.layout.specs.Limits.{IsLayout}
 use Rattle.synod_laws.specs.Synods.{Kept}
 use Rattle.stripe_code.specs.Codes.{coding}
 use Rattle.protocol.specs.Views.{Learnt, first_learnt, group_kept, kept_by, is_view}
-use Rattle.protocol.specs.Nodes.{Node, NodeStep, no_step, group_at, is_void, requested_in, requested_as, requested_at, served_unless, seat_now, moved_at, fits}
+use Rattle.protocol.specs.Views as views
+use Rattle.protocol.specs.Replicas.{newest_of, under}
+use Rattle.protocol.specs.Nodes.{Node, NodeStep, no_step, sending, reply_packets, replica_at, group_at, is_void, requested_in, requested_as, requested_at, served_unless, seat_now, moved_at, old_reply, fits}
 use Rattle.replica.specs.Members.{Member}
 use Rattle.replica.specs.declared.courses.Course.{Course}
-use Rattle.replica.specs.declared.courses.Course.TheVariants.{Void, Serve, Vote}
+use Rattle.replica.specs.declared.courses.Course.TheVariants.{Void, Tell, TellOld, Serve, Vote}
 use Rattle.replica.specs.Parts.{IsPartsOf, learnt_or, learnt_in, ballots_in}
-use Rattle.replica.specs.Courses.{fits_block, seat_under, is_void_at, moved_under, served_at, served_unless_moved, course_as, course_in, course_of, course_step, ServesAs, VotesBy}
+use Rattle.replica.specs.Courses.{fits_block, seat_under, is_void_at, moved_under, served_at, served_unless_moved, old_under, course_as, course_in, course_of, course_step, ServesAs, VotesBy}
 
 differ : {A : Type 0} → false ≡ true → A
 differ h = absurd cc
@@ -61,16 +65,29 @@ module _ (layout : Layout) (me from : BrickId) (node : Node) (call : Call) where
       ap (served_unless (coding layout) m me from node call asked seat) moved_is
       ∙ unless_moved asked m seat (moved_under learnt_here (node.ballots call.group.0) call)
 
+  -- asked for what it keeps in the call's view
+  olds : (asked : Request) (bound : Option Stamp) → sending node (reply_packets me from call (old_reply node call bound))
+      ≡ takes asked (old_under learnt_here (moved_at node call) call bound)
+  olds asked bound = by (nat_lt call.view.0 (views.first_kept learnt_here)) (is_some (moved_at node call))
+    where
+      by : (gone moved : Bool)
+          → sending node (reply_packets me from call
+          (cond gone (Some Retired) (cond moved (Some (Old (newest_of (under bound (replica_at node call).log)))) None)))
+          ≡ takes asked (cond gone (Tell Retired) (cond moved (TellOld bound) Void))
+      by true moved = refl
+      by false true = refl
+      by false false = refl
+
   -- of a request that is not void
   taken_as : (group : Group) (asked : Request) → requested_as (coding layout) group me from node call asked
-      ≡ takes asked (course_as layout group.m learnt_here (seat_now me node call group) (moved_under learnt_here (node.ballots call.group.0) call) asked)
+      ≡ takes asked (course_as layout group.m learnt_here (seat_now me node call group) (moved_under learnt_here (node.ballots call.group.0) call) call asked)
   taken_as group (request.Read want) = moves (request.Read want) group.m (seat_now me node call group)
   taken_as group (request.Order t) = moves (request.Order t) group.m (seat_now me node call group)
   taken_as group (request.OrderRead t look want) = moves (request.OrderRead t look want) group.m (seat_now me node call group)
   taken_as group (request.Write t bytes) = moves (request.Write t bytes) group.m (seat_now me node call group)
   taken_as group (request.Modify t base j delta) = moves (request.Modify t base j delta) group.m (seat_now me node call group)
   taken_as group (request.Collect t) = at_seat (request.Collect t) group.m (seat_now me node call group)
-  taken_as group (request.OldRead bound) = refl
+  taken_as group (request.OldRead bound) = olds (request.OldRead bound) bound
   taken_as group (request.Prepare ballot) = refl
   taken_as group (request.Accept ballot members) = refl
 
@@ -82,7 +99,7 @@ module _ (layout : Layout) (me from : BrickId) (node : Node) (call : Call) where
     where
       by : (b : Bool) → cond b (no_step node) (requested_as (coding layout) group me from node call asked)
           ≡ takes asked (cond b Void (course_as layout group.m learnt_here (seat_now me node call group)
-          (moved_under learnt_here (node.ballots call.group.0) call) asked))
+          (moved_under learnt_here (node.ballots call.group.0) call) call asked))
       by true = refl
       by false = taken_as group asked
 
@@ -97,6 +114,16 @@ course_steps layout me from st node call asked parts =
     (group_kept layout (parts.learnt call.group.0 k).view.members call.group.0)))
 
 -- ---- what a course asks of the store
+
+-- asked for what it keeps in the call's view, a brick tells something, or ignores that
+old_course : (P : Course → Type 0) (learnt : Learnt) (moved : Option Reply) (call : Call) (bound : Option Stamp) → P (Tell Retired) → P (TellOld bound) → P Void
+    → P (old_under learnt moved call bound)
+old_course P learnt moved call bound gone told void = by (nat_lt call.view.0 (views.first_kept learnt)) (is_some moved)
+  where
+    by : (gone moved : Bool) → P (cond gone (Tell Retired) (cond moved (TellOld bound) Void))
+    by true moved = gone
+    by false true = told
+    by false false = void
 
 -- the number of the learnt view is that of the store
 pub number_learnt : (layout : Layout) (st : StateOf Version) (g : ℕ) → (learnt_in layout st g).view.number.0 ≡ learnt_of (states.group_at st g)
@@ -205,7 +232,7 @@ module _ (layout : Layout) (me : BrickId) (st : StateOf Version) (call : Call) w
   -- a brick that handles a request as a member
   module _ (member : Member) where
     served : (asked : Request) (group : Group) → is_void_at layout learnt_there call asked group (seat_there group) ≡ false
-        → course_as layout group.m learnt_there (seat_there group) moved_there asked ≡ Serve member → ServesAs layout st call asked member
+        → course_as layout group.m learnt_there (seat_there group) moved_there call asked ≡ Serve member → ServesAs layout st call asked member
     served asked group void is = by asked void is
       where
         at : (asked : Request) → is_void_at layout learnt_there call asked group (seat_there group) ≡ false
@@ -218,14 +245,16 @@ module _ (layout : Layout) (me : BrickId) (st : StateOf Version) (call : Call) w
         unless asked' void' (Some reply) is' = absurd cc
 
         by : (asked : Request) → is_void_at layout learnt_there call asked group (seat_there group) ≡ false
-            → course_as layout group.m learnt_there (seat_there group) moved_there asked ≡ Serve member → ServesAs layout st call asked member
+            → course_as layout group.m learnt_there (seat_there group) moved_there call asked ≡ Serve member → ServesAs layout st call asked member
         by (request.Read want) v i = unless (request.Read want) v moved_there i
         by (request.Order t) v i = unless (request.Order t) v moved_there i
         by (request.OrderRead t look want) v i = unless (request.OrderRead t look want) v moved_there i
         by (request.Write t bytes) v i = unless (request.Write t bytes) v moved_there i
         by (request.Modify t base j delta) v i = unless (request.Modify t base j delta) v moved_there i
         by (request.Collect t) v i = at (request.Collect t) v i
-        by (request.OldRead bound) v i = absurd cc
+        by (request.OldRead bound) v i =
+            old_course (λ (x : Course). x ≡ Serve member → ServesAs layout st call (request.OldRead bound) member) learnt_there moved_there call bound
+            (λ h. absurd cc) (λ h. absurd cc) (λ h. absurd cc) i
         by (request.Prepare ballot) v i = absurd cc
         by (request.Accept ballot members) v i = absurd cc
 
@@ -239,7 +268,7 @@ module _ (layout : Layout) (me : BrickId) (st : StateOf Version) (call : Call) w
         known (Some group) is' = by (is_void_at layout learnt_there call asked (kept_there group) (seat_there (kept_there group))) refl is'
           where
             by : (b : Bool) → is_void_at layout learnt_there call asked (kept_there group) (seat_there (kept_there group)) ≡ b
-                → cond b Void (course_as layout group.m learnt_there (seat_there (kept_there group)) moved_there asked) ≡ Serve member
+                → cond b Void (course_as layout group.m learnt_there (seat_there (kept_there group)) moved_there call asked) ≡ Serve member
                 → ServesAs layout st call asked member
             by true void i = absurd cc
             by false void i = served asked (kept_there group) void i
@@ -286,14 +315,16 @@ module _ (layout : Layout) (me : BrickId) (st : StateOf Version) (call : Call) w
             unless seat (Some reply) i = absurd cc
 
             going : (asked : Request) (seat : Option ℕ) → fits layout group.m call asked seat ≡ true
-                → course_as layout group.m learnt_there seat moved_there asked ≡ Vote learnt ballot asks → VotesBy layout st call learnt asks
+                → course_as layout group.m learnt_there seat moved_there call asked ≡ Vote learnt ballot asks → VotesBy layout st call learnt asks
             going (request.Read want) seat f i = unless seat moved_there i
             going (request.Order t) seat f i = unless seat moved_there i
             going (request.OrderRead t look want) seat f i = unless seat moved_there i
             going (request.Write t bytes) seat f i = unless seat moved_there i
             going (request.Modify t base j delta) seat f i = unless seat moved_there i
             going (request.Collect t) seat f i = seated seat i
-            going (request.OldRead bound) seat f i = absurd cc
+            going (request.OldRead bound) seat f i =
+                old_course (λ (x : Course). x ≡ Vote learnt ballot asks → VotesBy layout st call learnt asks) learnt_there moved_there call bound
+                (λ h. absurd cc) (λ h. absurd cc) (λ h. absurd cc) i
             going (request.Prepare b) seat f i = voted (Some group) at group refl None b i (λ members here. absurd cc)
             going (request.Accept b members) seat f i = voted (Some group) at group refl (Some members) b i
                 (λ other here. subst (λ (x : List BrickId). is_membership group.m layout.bricks x ≡ true) (list_same here) (and_parts _ _ f).1)
@@ -302,7 +333,7 @@ module _ (layout : Layout) (me : BrickId) (st : StateOf Version) (call : Call) w
                 list_same e = cc
 
             by : (b : Bool) → is_void_at layout learnt_there call asked (kept_there group) (seat_there (kept_there group)) ≡ b
-                → cond b Void (course_as layout group.m learnt_there (seat_there (kept_there group)) moved_there asked) ≡ Vote learnt ballot asks
+                → cond b Void (course_as layout group.m learnt_there (seat_there (kept_there group)) moved_there call asked) ≡ Vote learnt ballot asks
                 → VotesBy layout st call learnt asks
             by true void i = absurd cc
             by false void i = going asked (seat_there (kept_there group))

@@ -1,10 +1,11 @@
--- A vote, and a view that is learnt, from the change of the store that they make.
-use Rattle.std.proofs.Common.{◌≡◌, ℕ, ◌<◌, Bool, true, false, cond, Option, Some, None, List, Result, Ok, refl, sym, ap, subst, ◌∙◌, eq-eqb}
-use Rattle.std.specs.Prelude.{◌&&◌}
+-- A vote, and what is heard of a view, from the change of the store that they make.
+use Rattle.std.proofs.Common.{◌≡◌, ℕ, ◌<◌, Bool, true, false, cond, eqb, not, Option, Some, None, List, Result, Ok, refl, sym, ap, subst, ◌∙◌}
+use Rattle.std.specs.Prelude.{◌&&◌, is_some, IsSome}
 use Rattle.std.specs.Option.{option_map}
 use Rattle.std.proofs.lemmas.Bool.{and_parts}
 use Rattle.fab_base.specs.declared.identities.BrickId.{BrickId}
 use Rattle.fab_base.specs.declared.identities.GroupId.{GroupId}
+use Rattle.fab_base.specs.declared.identities.ViewNo.{ViewNo}
 use Rattle.fab_base.specs.declared.member_lists.View.{View}
 use Rattle.fab_base.specs.declared.stamps.Ballot.{Ballot}
 use Rattle.fab_base.specs.Layouts.{Layout, group_of}
@@ -13,26 +14,26 @@ use Rattle.messages.specs.declared.calls.Call.{Call}
 use Rattle.messages.specs.declared.packets.Message.{Message}
 use Rattle.messages.specs.declared.replies.Reply.{Reply}
 use Rattle.version_log.specs.Versions.{Version}
-use Rattle.brick_state.specs.States.{StateOf, group_at, balloted, viewed}
+use Rattle.brick_state.specs.States.{StateOf, group_at, balloted, is_numbered, viewed}
 use Rattle.brick_store.specs.declared.faults.StoreFault.{StoreFault}
-use Rattle.brick_store.specs.Blocks.{learnt_of}
+use Rattle.brick_store.specs.Blocks.{all_synced, learnt_of, synced_to}
 use Rattle.brick_store.specs.Bricks.{Brick}
 use Rattle.brick_store.specs.Calls.{Append, append_of, append_calls, calls_of}
 use Rattle.brick_store.specs.Changes.{Answers}
 use Rattle.brick_store.specs.Ends.{BrickChange}
 use Rattle.brick_store.specs.Ends as store_ends
-use Rattle.brick_store.specs.Sizes.{ballots_size, view_size}
+use Rattle.brick_store.specs.Sizes.{ballots_size, known_size, view_size}
 use Rattle.synod_laws.specs.Synods.{Kept, last_of}
-use Rattle.protocol.specs.Views.{Learnt, is_later, learns}
+use Rattle.protocol.specs.Views.{Learnt, first_learnt, is_later, is_unsynced, learns, notes_synced}
 use Rattle.protocol.specs.Ballots.{Voted}
-use Rattle.protocol.specs.Nodes.{Node, may_teach, with_learnt, node_taught, node_learnt}
+use Rattle.protocol.specs.Nodes.{Node, may_teach, with_learnt, node_taught, node_learnt, node_synced}
 use Rattle.replica.specs.declared.faults.ReplicaFault.{ReplicaFault}
-use Rattle.replica.specs.Parts.{ballots_in, learnt_in, is_to_learn, IsPartsOf}
+use Rattle.replica.specs.Parts.{ballots_in, learnt_or, learnt_in, is_to_learn, is_to_note, IsPartsOf}
 use Rattle.replica.specs.Reactions.{IsVoted, IsStep}
-use Rattle.replica.specs.Handling.{Runs, Handles, KeepsNext, end_of, answered, seen_as}
+use Rattle.replica.specs.Handling.{Runs, Handles, KeepsAll, KeepsNext, end_of, answered, seen_as}
 use Rattle.replica.specs.Calls.{same_ballots, ballot_append, learnt_append, message_append}
 use Rattle.replica.proofs.Answering.{changed_next, handles_seen, handles_untouched, keeps_none, next_seen, still_here}
-use Rattle.replica.proofs.Learning.{learnt_moves, lists_learnt, parts_learnt, taught_is, view_appended}
+use Rattle.replica.proofs.Learning.{learnt_append_none, learnt_moves, lists_learnt, parts_learnt, view_appended, numbered_later, more_later, lists_later, taught_is, numbered_synced, more_synced, lists_synced, noted_is}
 use Rattle.replica.proofs.Voting.{ballots_are, voted_same, voted_kept, vote_moves}
 
 differ : {A : Type 0} → false ≡ true → A
@@ -85,18 +86,53 @@ module _ {D : Type 0} (d : on_disk.Ghosts D)
             ap (λ (b : Bool). cond b None (Some (append_of (ballots_size (last_of vote.kept)) append_calls))) other
             ∙ ap (λ (k : Kept (List BrickId)). Some (append_of (ballots_size (last_of k)) append_calls)) is
 
+  -- ---- what is heard of a view
+
+  module _ (layout : Layout) (me from : BrickId) (notice : Message) where
+    abbrev Taken : Option Message → StateOf Version → Type 0
+    Taken = IsStep layout me from notice old.state
+
+    abbrev pub NoticeKept : Result (Option Message) ReplicaFault → Brick D → Type 0
+    NoticeKept result new = Handles d Taken old new result
+        × ((node : Node) → IsPartsOf layout old.state node → KeepsNext d (message_append layout me from node notice) Taken old new (end_of result))
+
+    -- that leaves nothing new to keep
+    notice_left : Taken None old.state → ((node : Node) → IsPartsOf layout old.state node → message_append layout me from node notice ≡ None)
+        → NoticeKept (Ok None) old
+    notice_left follows none = (
+      handles_untouched d Taken old old (Ok None) runs refl refl refl (still_here d old.disk).untouched (λ h. absurd cc) (λ h. absurd cc) follows,
+      λ node parts. keeps_none d only_now Taken old (message_append layout me from node notice) (none node parts) runs.stands None follows,
+    )
+
+    -- of which a record of a view is kept, and no reply is given
+    module _ (after : StateOf Version) (size : ℕ) (follows : Taken None after)
+        (moves : (other : Layout) (block : ℕ) → KeepsAll other block old.state after → ⊥)
+        (appended : (node : Node) → IsPartsOf layout old.state node → message_append layout me from node notice ≡ Some (append_of size append_calls)) where
+      abbrev TakenSo : Option Reply → StateOf Version → Type 0
+      TakenSo reply st = (reply ≡ None) × Taken None st
+
+      unanswered : (f : Reply → Message) (answer : Option Reply) (st : StateOf Version) → TakenSo answer st → Taken (option_map f answer) st
+      unanswered f answer st is = subst (λ (a : Option Reply). Taken (option_map f a) st) (sym is.0) is.1
+
+      notice_kept : (new : Brick D) (answer : Result (Unit {0}) StoreFault) (result : Result (Option Message) ReplicaFault) (f : Reply → Message)
+          → result ≡ seen_as f (answered None answer)
+          → BrickChange d (calls_of old size append_calls) old after new.disk (store_ends.end_of answer) → Answers old new after size false answer
+          → NoticeKept result new
+      notice_kept new answer result f is run change =
+          let given = Some (append_of size append_calls) in
+          let both = changed_next d TakenSo old new after size false append_calls None runs (λ room. (refl, follows)) (λ adds. absurd cc)
+          (λ other same. moves other old.shape.block same) only_now given (λ room. refl) (λ adds. absurd cc) answer (answered None answer) refl run change in
+          subst (λ (r : Result (Option Message) ReplicaFault). NoticeKept r new) (sym is) (
+            handles_seen d f TakenSo Taken (unanswered f) old new (answered None answer) both.0,
+            λ node parts. subst (λ (a : Option Append). KeepsNext d a Taken old new (end_of (seen_as f (answered None answer)))) (sym (appended node parts))
+                (next_seen d f TakenSo Taken (unanswered f) given old new (answered None answer) both.1),
+          )
+
   -- ---- a view that is taught
 
   module _ (layout : Layout) (me from : BrickId) (group : GroupId) (view : View) where
     abbrev taught : Message
     taught = Message.Learn group view
-
-    abbrev Taught : Option Message → StateOf Version → Type 0
-    Taught = IsStep layout me from taught old.state
-
-    abbrev pub ViewKept : Result (Option Message) ReplicaFault → Brick D → Type 0
-    ViewKept result new = Handles d Taught old new result
-        × ((node : Node) → IsPartsOf layout old.state node → KeepsNext d (message_append layout me from node taught) Taught old new (end_of result))
 
     -- a brick that is not to learn it stays as it is
     stays_as : (node : Node) → IsPartsOf layout old.state node → is_to_learn layout old.state group.0 view ≡ false → node_learnt layout node group view ≡ node
@@ -108,32 +144,22 @@ module _ {D : Type 0} (d : on_disk.Ghosts D)
         by false h = refl
         by true h = ap (λ (x : Bool). cond x (with_learnt layout.block group.0 node (learns (node.learnt group.0) view)) node) (ap (λ (l : Learnt). is_later l view) (parts.learnt group.0) ∙ h)
 
-    pub view_left : is_to_learn layout old.state group.0 view ≡ false → ViewKept (Ok None) old
-    view_left none = (
-      handles_untouched d Taught old old (Ok None) runs refl refl refl (still_here d old.disk).untouched (λ h. absurd cc) (λ h. absurd cc) follows,
-      λ node parts. keeps_none d only_now Taught old (message_append layout me from node taught) (appended node parts) runs.stands None follows,
-    )
-      where
-        follows : Taught None old.state
-        follows = record {
+    pub view_left : is_to_learn layout old.state group.0 view ≡ false → NoticeKept layout me from taught (Ok None) old
+    view_left none = notice_left layout me from taught
+        (record {
           packets = λ node parts. refl;
           parts = λ node parts. subst (λ (n : Node). IsPartsOf layout old.state n) (sym (stays_as node parts none)) parts;
           lists = λ stand. stand;
-        }
-
-        appended : (node : Node) → IsPartsOf layout old.state node → message_append layout me from node taught ≡ None
-        appended node parts =
-            ap (λ (n : Node). learnt_append (node.learnt group.0) (n.learnt group.0)) (stays_as node parts none) ∙ itself (node.learnt group.0)
-          where
-            itself : (l : Learnt) → learnt_append l l ≡ None
-            itself l = ap (λ (b : Bool). cond b None (Some (append_of (view_size l.view) append_calls))) (eq-eqb l.view.number.0 l.view.number.0 refl)
+        })
+        (λ node parts. ap (λ (n : Node). learnt_append (node.learnt group.0) (n.learnt group.0)) (stays_as node parts none)
+        ∙ learnt_append_none (node.learnt group.0))
 
     module _ (few : group.0 < 64) (to_learn : is_to_learn layout old.state group.0 view ≡ true) (above : learnt_of (group_at old.state group.0) < view.number.0) where
-      abbrev learnt_now : StateOf Version
-      learnt_now = viewed group.0 view false old.state
-
       may : may_teach layout (Some view) (group_of layout group.0) ≡ true
       may = (and_parts _ _ to_learn).0
+
+      numbered : eqb view.number.0 (learnt_in layout old.state group.0).view.number.0 ≡ is_numbered (group_at old.state group.0).known view.number.0
+      numbered = numbered_later layout old.state group.0 view above
 
       -- a brick that is to learn it does
       learns_as : (node : Node) → IsPartsOf layout old.state node
@@ -141,43 +167,106 @@ module _ {D : Type 0} (d : on_disk.Ghosts D)
       unfolding node_learnt
       learns_as node parts =
           ap (λ (b : Bool). cond b (node_taught layout.block group.0 node view) node) may
-          ∙ taught_is layout old.state group.0 view runs.ordered.groups few above node parts
-
-      -- of which there is no reply
-      abbrev LearnsSo : Option Reply → StateOf Version → Type 0
-      LearnsSo reply after = (reply ≡ None) × IsStep layout me from taught old.state None after
-
-      follows : LearnsSo None learnt_now
-      follows = (
-        refl,
-        record {
-          packets = λ node parts. refl;
-          parts = λ node parts. subst (λ (n : Node). IsPartsOf layout learnt_now n) (sym (learns_as node parts))
-              (parts_learnt layout old.state group.0 view runs.ordered.groups few above node parts);
-          lists = lists_learnt layout old.state group.0 view runs.ordered.groups few above may;
-        },
-      )
-
-      appended : (node : Node) → IsPartsOf layout old.state node
-          → message_append layout me from node taught ≡ Some (append_of (view_size view) append_calls)
-      appended node parts =
-          ap (λ (n : Node). learnt_append (node.learnt group.0) (n.learnt group.0)) (learns_as node parts)
-          ∙ view_appended layout old.state group.0 view runs.ordered.groups few above node parts
-
-      unanswered : (f : Reply → Message) (answer : Option Reply) (st : StateOf Version) → LearnsSo answer st → Taught (option_map f answer) st
-      unanswered f answer st is = subst (λ (a : Option Reply). Taught (option_map f a) st) (sym is.0) is.1
+          ∙ taught_is layout old.state group.0 view above node parts
 
       pub view_kept : (new : Brick D) (answer : Result (Unit {0}) StoreFault) (result : Result (Option Message) ReplicaFault) (f : Reply → Message)
           → result ≡ seen_as f (answered None answer)
-          → BrickChange d (calls_of old (view_size view) append_calls) old learnt_now new.disk (store_ends.end_of answer)
-          → Answers old new learnt_now (view_size view) false answer → ViewKept result new
-      view_kept new answer result f is run change =
-          let given = Some (append_of (view_size view) append_calls) in
-          let both = changed_next d LearnsSo old new learnt_now (view_size view) false append_calls None runs (λ room. follows) (λ adds. absurd cc)
-          (λ other same. learnt_moves layout old.state group.0 view runs.ordered.groups few above other old.shape.block same) only_now given
-          (λ room. refl) (λ adds. absurd cc) answer (answered None answer) refl run change in
-          subst (λ (r : Result (Option Message) ReplicaFault). ViewKept r new) (sym is) (
-            handles_seen d f LearnsSo Taught (unanswered f) old new (answered None answer) both.0,
-            λ node parts. subst (λ (a : Option Append). KeepsNext d a Taught old new (end_of (seen_as f (answered None answer)))) (sym (appended node parts))
-                (next_seen d f LearnsSo Taught (unanswered f) given old new (answered None answer) both.1),
-          )
+          → BrickChange d (calls_of old (view_size view) append_calls) old (viewed group.0 view false old.state) new.disk (store_ends.end_of answer)
+          → Answers old new (viewed group.0 view false old.state) (view_size view) false answer → NoticeKept layout me from taught result new
+      view_kept =
+          let long = runs.ordered.groups in
+          notice_kept layout me from taught (viewed group.0 view false old.state) (view_size view)
+          (record {
+            packets = λ node parts. refl;
+            parts = λ node parts. subst (λ (n : Node). IsPartsOf layout (viewed group.0 view false old.state) n) (sym (learns_as node parts))
+                (parts_learnt layout old.state group.0 view false long few numbered node parts);
+            lists = lists_learnt layout old.state group.0 view false long few numbered (lists_later layout old.state group.0 view above may);
+          })
+          (learnt_moves layout old.state group.0 view false long few numbered (more_later layout old.state group.0 view above))
+          (λ node parts. ap (λ (n : Node). learnt_append (node.learnt group.0) (n.learnt group.0)) (learns_as node parts)
+          ∙ view_appended layout old.state group.0 view false long few numbered node parts (more_later layout old.state group.0 view above layout))
+
+  -- ---- a view that is told to be synced
+
+  module _ (layout : Layout) (me from : BrickId) (group : GroupId) (number : ViewNo) where
+    abbrev told : Message
+    told = Message.Synced group number
+
+    -- a brick that is not to note it stays as it is
+    notes_none : (node : Node) → IsPartsOf layout old.state node → is_to_note layout old.state group.0 number.0 ≡ false → node_synced layout node group number ≡ node
+    unfolding node_synced
+    notes_none node parts none =
+        ap (λ (b : Bool). cond b (with_learnt layout.block group.0 node (notes_synced (node.learnt group.0) number.0)) node)
+        (ap (λ (l : Learnt). is_some (group_of layout group.0) && is_unsynced l number.0) (parts.learnt group.0) ∙ none)
+
+    pub synced_left : is_to_note layout old.state group.0 number.0 ≡ false → NoticeKept layout me from told (Ok None) old
+    synced_left none = notice_left layout me from told
+        (record {
+          packets = λ node parts. refl;
+          parts = λ node parts. subst (λ (n : Node). IsPartsOf layout old.state n) (sym (notes_none node parts none)) parts;
+          lists = λ stand. stand;
+        })
+        (λ node parts. ap (λ (n : Node). learnt_append (node.learnt group.0) (n.learnt group.0)) (notes_none node parts none)
+        ∙ learnt_append_none (node.learnt group.0))
+
+    module _ (few : group.0 < 64) (to_note : is_to_note layout old.state group.0 number.0 ≡ true) (some : IsSome (group_at old.state group.0).known) where
+      -- it is of the view that the store has learnt
+      abbrev named : Option (View × Bool) → Type 0
+      named known = (view : View) × (known ≡ Some (view, false))
+
+      known_here : named (group_at old.state group.0).known
+      known_here = by (group_at old.state group.0).known some (and_parts _ _ to_note).1
+        where
+          by : (known : Option (View × Bool)) → IsSome known → is_unsynced (learnt_or (first_learnt layout group.0) known) number.0 ≡ true → named known
+          by None some' new = absurd cc
+          by (Some (view, synced)) some' new = (view, ap (λ (b : Bool). Some (view, b)) (unsynced synced (and_parts _ _ new).1))
+            where
+              unsynced : (b : Bool) → not b ≡ true → b ≡ false
+              unsynced true h = differ h
+              unsynced false h = refl
+
+      module _ (view : View) (known : (group_at old.state group.0).known ≡ Some (view, false)) where
+        abbrev synced_now : StateOf Version
+        synced_now = viewed group.0 view true old.state
+
+        numbered_told : eqb view.number.0 (learnt_in layout old.state group.0).view.number.0 ≡ is_numbered (group_at old.state group.0).known view.number.0
+        numbered_told = numbered_synced layout old.state group.0 view known
+
+        notes_as : (node : Node) → IsPartsOf layout old.state node
+            → node_synced layout node group number ≡ with_learnt layout.block group.0 node (record { view = view; synced = true })
+        notes_as = noted_is layout old.state group.0 view known group number refl to_note
+
+        view_noted : (new : Brick D) (answer : Result (Unit {0}) StoreFault) (result : Result (Option Message) ReplicaFault) (f : Reply → Message)
+            → result ≡ seen_as f (answered None answer)
+            → BrickChange d (calls_of old (view_size view) append_calls) old synced_now new.disk (store_ends.end_of answer)
+            → Answers old new synced_now (view_size view) false answer → NoticeKept layout me from told result new
+        view_noted =
+            let long = runs.ordered.groups in
+            notice_kept layout me from told synced_now (view_size view)
+            (record {
+              packets = λ node parts. refl;
+              parts = λ node parts. subst (λ (n : Node). IsPartsOf layout synced_now n) (sym (notes_as node parts))
+                  (parts_learnt layout old.state group.0 view true long few numbered_told node parts);
+              lists = lists_learnt layout old.state group.0 view true long few numbered_told (lists_synced layout old.state group.0 view known);
+            })
+            (learnt_moves layout old.state group.0 view true long few numbered_told (more_synced layout old.state group.0 view known))
+            (λ node parts. ap (λ (n : Node). learnt_append (node.learnt group.0) (n.learnt group.0)) (notes_as node parts)
+            ∙ view_appended layout old.state group.0 view true long few numbered_told node parts (more_synced layout old.state group.0 view known layout))
+
+      pub synced_kept : (new : Brick D) (answer : Result (Unit {0}) StoreFault) (result : Result (Option Message) ReplicaFault) (f : Reply → Message)
+          → result ≡ seen_as f (answered None answer)
+          → BrickChange d (calls_of old (known_size (group_at old.state group.0).known) append_calls) old (all_synced group.0 old.state) new.disk
+          (store_ends.end_of answer)
+          → Answers old new (all_synced group.0 old.state) (known_size (group_at old.state group.0).known) false answer → NoticeKept layout me from told result new
+      synced_kept new answer result f is run change =
+          let view = known_here.0 in
+          let known = known_here.1 in
+          let after_is : all_synced group.0 old.state ≡ viewed group.0 view true old.state =
+          ap (λ (k : Option (View × Bool)). synced_to (option_map (λ l. l.0) k) group.0 old.state) known in
+          let size_is : known_size (group_at old.state group.0).known ≡ view_size view = ap known_size known in
+          view_noted view known new answer result f is
+          (subst (λ (n : ℕ). BrickChange d (calls_of old n append_calls) old (viewed group.0 view true old.state) new.disk (store_ends.end_of answer)) size_is
+          (subst (λ (st : StateOf Version). BrickChange d (calls_of old (known_size (group_at old.state group.0).known) append_calls) old st new.disk
+          (store_ends.end_of answer)) after_is run))
+          (subst (λ (n : ℕ). Answers old new (viewed group.0 view true old.state) n false answer) size_is
+          (subst (λ (st : StateOf Version). Answers old new st (known_size (group_at old.state group.0).known) false answer) after_is change))

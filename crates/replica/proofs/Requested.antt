@@ -3,6 +3,7 @@ use Rattle.std.proofs.Common.{◌≡◌, ℕ, Option, Some, None, List, Result, 
 use Rattle.std.specs.Option.{option_map}
 use Rattle.fab_base.specs.declared.identities.BrickId.{BrickId}
 use Rattle.fab_base.specs.declared.stamps.Ballot.{Ballot}
+use Rattle.fab_base.specs.declared.stamps.Stamp.{Stamp}
 use Rattle.fab_base.specs.Layouts.{Layout}
 use Rattle.fab_disk.specs.declared.disk.Disk as on_disk
 use Rattle.messages.specs.declared.calls.Call.{Call}
@@ -18,7 +19,7 @@ use Rattle.protocol.specs.Ballots.{voting}
 use Rattle.protocol.specs.Nodes.{Node, full_at}
 use Rattle.replica.specs.declared.faults.ReplicaFault.{ReplicaFault}
 use Rattle.replica.specs.declared.plans.Plan.{Plan}
-use Rattle.replica.specs.declared.courses.Course.TheVariants.{Void, Tell, Serve, Vote}
+use Rattle.replica.specs.declared.courses.Course.TheVariants.{Void, Tell, TellOld, Serve, Vote}
 use Rattle.replica.specs.Members.{Member}
 use Rattle.replica.specs.Parts.{ballots_in, IsPartsOf}
 use Rattle.replica.specs.Plans.{planned, is_shared}
@@ -28,7 +29,7 @@ use Rattle.replica.specs.Handling.{Runs, Handles, KeepsNext, end_of, seen_as}
 use Rattle.replica.specs.Calls.{part_append, message_append}
 use Rattle.replica.proofs.Answering.{handles_seen, handles_untouched, keeps_none, next_seen, still_here}
 use Rattle.replica.proofs.Keeping.{VoteKept}
-use Rattle.replica.proofs.Stepping.{Takes, step_void, step_told, step_voted, append_void, append_told, append_voted}
+use Rattle.replica.proofs.Stepping.{Takes, old_told, step_void, step_told, step_old, step_voted, append_void, append_told, append_old, append_voted}
 use Rattle.replica.proofs.Decided.{IsDecided, step_decided, append_decided}
 
 module _ {D : Type 0} (d : on_disk.Ghosts D)
@@ -63,6 +64,13 @@ module _ {D : Type 0} (d : on_disk.Ghosts D)
   pub told_kept : (reply : Reply) → Takes layout me from call request old.state (Tell reply) → RequestKept (Ok (Some (answer_of reply))) old
   told_kept reply takes = unchanged (Some (answer_of reply)) (step_told layout me from call request old.state reply takes)
       (λ node parts. append_told layout me from call request old.state node parts reply takes)
+
+  pub old_kept : (bound : Option Stamp) → Takes layout me from call request old.state (TellOld bound) → (reply : Reply)
+      → reply ≡ old_told layout me from call request old.state bound → RequestKept (Ok (Some (answer_of reply))) old
+  old_kept bound takes reply is =
+      unchanged (Some (answer_of reply))
+      (subst (λ (r : Reply). Asked (Some (answer_of r)) old.state) (sym is) (step_old layout me from call request old.state bound takes))
+      (λ node parts. append_old layout me from call request old.state node parts bound takes)
 
   -- what follows from a reply follows from its answer
   module _ (Follows : Option Reply → StateOf Version → Type 0)

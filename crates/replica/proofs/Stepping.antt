@@ -6,13 +6,16 @@ use Rattle.std.specs.Option.{ForSome, option_map}
 use Rattle.std.proofs.lemmas.Bool.{and_parts, and_from, eqb-true}
 use Rattle.fab_base.specs.declared.identities.BrickId.{BrickId}
 use Rattle.fab_base.specs.declared.identities.GroupId.{GroupId}
+use Rattle.fab_base.specs.declared.identities.ViewNo.{ViewNo}
 use Rattle.fab_base.specs.declared.member_lists.View.{View}
 use Rattle.fab_base.specs.declared.stamps.Ballot.{Ballot}
+use Rattle.fab_base.specs.declared.stamps.Stamp.{Stamp}
 use Rattle.fab_base.specs.Layouts.{Layout, Group, group_of}
 use Rattle.messages.specs.declared.calls.Call.{Call}
 use Rattle.messages.specs.declared.packets.Message.{Message}
 use Rattle.messages.specs.declared.requests.Request.{Request}
 use Rattle.messages.specs.declared.replies.Reply.{Reply}
+use Rattle.messages.specs.declared.replies.Reply.TheVariants.{Old}
 use Rattle.version_log.specs.Versions.{Version}
 use Rattle.brick_state.specs.declared.groups.Group.{Group as KeptGroup}
 use Rattle.brick_state.specs.States.{Place, StripeOf, StateOf, no_group, live, live_in}
@@ -21,14 +24,14 @@ use Rattle.brick_store.specs.Calls.{Append}
 use Rattle.brick_store.specs.Blocks.{learnt_view, accepted_of, log_of}
 use Rattle.quorum.specs.Memberships.{is_membership}
 use Rattle.synod_laws.specs.Synods.{Kept, last_of}
-use Rattle.protocol.specs.Replicas.{Replica, Reaction, handle}
+use Rattle.protocol.specs.Replicas.{Replica, Reaction, handle, newest_of, under}
 use Rattle.protocol.specs.Views.{Learnt, first_learnt, may_be_taught}
 use Rattle.protocol.specs.Ballots.{Voted, voting, granting, unless_barred, ballot_refusal}
 use Rattle.protocol.specs.Nodes.{Node, NodeStep, put, group_at, with_part, with_live, requested_in, reacted, with_replica, full_at, replica_at, no_step, reply_packets, voted_on}
 use Rattle.stripe_code.specs.Codes.{block_code, coding}
 use Rattle.replica.specs.Members.{Member}
 use Rattle.replica.specs.declared.courses.Course.{Course}
-use Rattle.replica.specs.declared.courses.Course.TheVariants.{Void, Tell, Serve}
+use Rattle.replica.specs.declared.courses.Course.TheVariants.{Void, Tell, TellOld, Serve}
 use Rattle.replica.specs.declared.courses.Course.TheVariants as courses
 use Rattle.replica.specs.Parts.{part_of, learnt_or, part_in, live_at, is_in_view, ballots_in, may_be_accepted, lists_stand, IsPartsOf, ListsStand}
 use Rattle.replica.specs.Courses.{course_of, course_step, VotesBy}
@@ -276,6 +279,19 @@ module _ (layout : Layout) (me from : BrickId) (call : Call) (request : Request)
     lists = λ stand. stand;
   }
 
+  -- its newest version in the call's view, below a bound
+  abbrev pub old_told : Option Stamp → Reply
+  old_told bound = Old (newest_of (under bound (part_at layout.block before call).log))
+
+  pub step_old : (bound : Option Stamp) → Takes (TellOld bound)
+      → IsStep layout me from (Message.Request call request) before (Some (Message.Reply call (old_told bound))) before
+  step_old bound takes = record {
+    packets = λ node parts. ap (λ (step : NodeStep). step.packets) (step_taken (TellOld bound) takes node parts)
+        ∙ ap (λ (r : Replica). reply_packets me from call (Some (Old (newest_of (under bound r.log))))) (parts.replicas call.group.0 call.view.0 call.stripe.0);
+    parts = λ node parts. subst (λ (step : NodeStep). IsPartsOf layout before step.node) (sym (step_taken (TellOld bound) takes node parts)) parts;
+    lists = λ stand. stand;
+  }
+
   -- no reaction
   pub step_void : Takes Void → IsStep layout me from (Message.Request call request) before None before
   step_void takes = record {
@@ -325,10 +341,13 @@ module _ (layout : Layout) (me from : BrickId) (call : Call) (request : Request)
     pub append_told : (reply : Reply) → Takes (Tell reply) → message_append layout me from node (Message.Request call request) ≡ None
     append_told reply takes = ap changed_by (step_taken (Tell reply) takes node parts) ∙ nothing_changed
 
+    pub append_old : (bound : Option Stamp) → Takes (TellOld bound) → message_append layout me from node (Message.Request call request) ≡ None
+    append_old bound takes = ap changed_by (step_taken (TellOld bound) takes node parts) ∙ nothing_changed
+
     pub append_void : Takes Void → message_append layout me from node (Message.Request call request) ≡ None
     append_void takes = ap changed_by (step_taken Void takes node parts) ∙ nothing_changed
 
--- a message that neither is a request nor teaches a view asks for nothing, and appends nothing
+-- a message that neither is a request nor tells of a view asks for nothing, and appends nothing
 module _ (layout : Layout) (me from : BrickId) (before : StateOf Version) where
   abbrev nothing : Message → Type 0
   nothing message = ((node : Node) → message_append layout me from node message ≡ None) × IsStep layout me from message before None before
@@ -341,10 +360,11 @@ module _ (layout : Layout) (me from : BrickId) (before : StateOf Version) where
   }
 
   pub other_ignored : (message : Message) → ((call : Call) (request : Request) → message ≡ Message.Request call request → ⊥)
-      → ((group : GroupId) (view : View) → message ≡ Message.Learn group view → ⊥) → nothing message
-  other_ignored (Message.Request call request) other untaught = absurd (other call request refl)
-  other_ignored (Message.Reply call reply) other untaught = (λ node. refl, ignored (Message.Reply call reply) (λ n. refl))
-  other_ignored (Message.Learn group view) other untaught = absurd (untaught group view refl)
-  other_ignored (Message.Synced group view) other untaught = (λ node. refl, ignored (Message.Synced group view) (λ n. refl))
-  other_ignored (Message.Client ask) other untaught = (λ node. refl, ignored (Message.Client ask) (λ n. refl))
-  other_ignored (Message.ClientReply id answer) other untaught = (λ node. refl, ignored (Message.ClientReply id answer) (λ n. refl))
+      → ((group : GroupId) (view : View) → message ≡ Message.Learn group view → ⊥)
+      → ((group : GroupId) (number : ViewNo) → message ≡ Message.Synced group number → ⊥) → nothing message
+  other_ignored (Message.Request call request) other untaught untold = absurd (other call request refl)
+  other_ignored (Message.Reply call reply) other untaught untold = (λ node. refl, ignored (Message.Reply call reply) (λ n. refl))
+  other_ignored (Message.Learn group view) other untaught untold = absurd (untaught group view refl)
+  other_ignored (Message.Synced group number) other untaught untold = absurd (untold group number refl)
+  other_ignored (Message.Client ask) other untaught untold = (λ node. refl, ignored (Message.Client ask) (λ n. refl))
+  other_ignored (Message.ClientReply id answer) other untaught untold = (λ node. refl, ignored (Message.ClientReply id answer) (λ n. refl))

@@ -1,5 +1,5 @@
 -- What a message makes a member's store append to its list, and how many calls of the disk's `write_at` and `sync` that makes.
-use Rattle.std.specs.Prelude.{ℕ, ◌+◌, Bool, true, false, nat_eq, nat_lt, ◌&&◌, if◌then◌else◌, List, [], ◌∷◌, length, Option, Some, None}
+use Rattle.std.specs.Prelude.{ℕ, ◌+◌, Bool, true, false, not, nat_eq, nat_lt, ◌&&◌, ◌||◌, if◌then◌else◌, List, [], ◌∷◌, length, Option, Some, None}
 use Rattle.std.specs.Option.{option_map}
 use Rattle.fab_base.specs.declared.identities.BrickId.{BrickId}
 use Rattle.fab_base.specs.declared.stamps.Ballot.{Ballot}
@@ -65,10 +65,13 @@ same_ballots left right =
 abbrev pub ballot_append : Kept (List BrickId) → Kept (List BrickId) → Option Append
 ballot_append before after = if same_ballots before after then None else Some (append_of (ballots_size (last_of after)) append_calls)
 
--- What keeps what was learnt: nothing, where that is the same view, or a record of the view.
+-- the same view is learnt, and it is not newly known that all stripes are kept in it
+abbrev pub same_learnt : Learnt → Learnt → Bool
+same_learnt before after = nat_eq before.view.number.0 after.view.number.0 && (before.synced || not after.synced)
+
+-- What keeps what was learnt: nothing, where that is the same, or a record of the view.
 abbrev pub learnt_append : Learnt → Learnt → Option Append
-learnt_append before after =
-    if nat_eq before.view.number.0 after.view.number.0 then None else Some (append_of (view_size after.view) append_calls)
+learnt_append before after = if same_learnt before after then None else Some (append_of (view_size after.view) append_calls)
 
 -- the first of these that keeps something
 abbrev pub either_append : Option Append → Option Append → Option Append
@@ -83,6 +86,8 @@ message_append layout me from node (message.Request call request) =
     (ballot_append (node.ballots call.group.0) ((member_step layout me from node (message.Request call request)).node.ballots call.group.0))
 message_append layout me from node (message.Learn group view) =
     learnt_append (node.learnt group.0) ((member_step layout me from node (message.Learn group view)).node.learnt group.0)
+message_append layout me from node (message.Synced group number) =
+    learnt_append (node.learnt group.0) ((member_step layout me from node (message.Synced group number)).node.learnt group.0)
 message_append layout me from node message = None
 
 -- so many calls keep it, over a list of frames of so many bytes

@@ -1,5 +1,5 @@
 -- What a store keeps, as what a brick of the machine has: of views and ballots by group, and the parts of stripes.
-use Rattle.std.specs.Prelude.{◌≡◌, ℕ, Bool, true, nat_eq, ◌&&◌, Option, Some, None, List, filter, map, IsTrue}
+use Rattle.std.specs.Prelude.{◌≡◌, ℕ, Bool, true, nat_eq, ◌&&◌, Option, Some, None, is_some, List, filter, map, IsTrue}
 use Rattle.fab_base.specs.declared.identities.BrickId.{BrickId}
 use Rattle.fab_base.specs.declared.member_lists.View.{View}
 use Rattle.fab_base.specs.declared.stamps.Ballot.{Ballot}
@@ -14,7 +14,7 @@ use Rattle.brick_store.specs.Blocks.{log_at, accepted_of, learnt_view}
 use Rattle.brick_store.specs.Logs.{StripeLog}
 use Rattle.synod_laws.specs.Synods.{Kept as KeptBallots}
 use Rattle.quorum.specs.Memberships.{is_membership}
-use Rattle.protocol.specs.Views.{Learnt, first_learnt, may_be_taught, is_later}
+use Rattle.protocol.specs.Views.{Learnt, first_learnt, may_be_taught, is_later, is_unsynced}
 use Rattle.protocol.specs.Nodes.{may_teach}
 use Rattle.protocol.specs.Replicas.{Replica, is_held}
 use Rattle.protocol.specs.Nodes.{Node}
@@ -54,6 +54,11 @@ learnt_in layout st g = learnt_or (first_learnt layout g) (group_at st g).known
 -- the brick is to learn a view that it is taught of a group: the view may be taught, and is later than the one that it has learnt
 abbrev pub is_to_learn : Layout → StateOf Kept → ℕ → View → Bool
 is_to_learn layout st g view = may_teach layout (Some view) (group_of layout g) && is_later (learnt_in layout st g) view
+
+-- the brick is to note that all stripes of a group are kept in the view of a number: the layout has the group, and that is the view that it has learnt, of
+-- which it does not know so yet
+abbrev pub is_to_note : Layout → StateOf Kept → ℕ → ℕ → Bool
+is_to_note layout st g number = is_some (group_of layout g) && is_unsynced (learnt_in layout st g) number
 
 -- what is kept of ballots for the successor of the learnt view of a group
 abbrev pub ballots_in : StateOf Kept → ℕ → KeptBallots (List BrickId)

@@ -12,7 +12,7 @@ use Rattle.stripe_code.specs.Codes.{coding}
 use Rattle.protocol.specs.Ballots.{Voted}
 use Rattle.protocol.specs.Replicas.{Replica, Reaction}
 use Rattle.protocol.specs.Nodes as machine
-use Rattle.protocol.specs.Nodes.{Node, NodeStep, put, with_part, with_live, requested_in, node_learnt, no_step}
+use Rattle.protocol.specs.Nodes.{Node, NodeStep, put, with_part, with_live, requested_in, node_learnt, node_synced, no_step}
 use Rattle.replica.specs.Parts.{part_in, live_at, ballots_in, IsPartsOf, ListsStand}
 
 -- the place of a call's stripe, in the call's view
@@ -40,11 +40,13 @@ pub record IsVoted (call : Call) (before : StateOf Version) (vote : Voted) (repl
   pub known : (g : ℕ) → (group_at after g).known ≡ (group_at before g).known
   pub ballots : (g : ℕ) → ballots_in after g ≡ put (ballots_in before) call.group.0 vote.kept g
 
--- what a brick of the machine does with a message as a member of a group: it handles a request, learns a view that it is taught, and ignores all else
+-- what a brick of the machine does with a message as a member of a group: it handles a request, learns a view that it is taught, notes that all stripes are
+-- kept in the view that it has learnt, and ignores all else
 abbrev pub member_step : Layout → BrickId → BrickId → Node → Message → NodeStep
 member_step layout me from node (Message.Request call request) =
     requested_in (coding layout) me from node call request (machine.group_at layout node call.group.0)
 member_step layout me from node (Message.Learn group view) = no_step (node_learnt layout node group view)
+member_step layout me from node (Message.Synced group number) = no_step (node_synced layout node group number)
 member_step layout me from node message = no_step node
 
 -- the answer goes back to the sender

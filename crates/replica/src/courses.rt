@@ -4,17 +4,17 @@ ghost use Rattle.std.specs.Prelude.{◌≡◌, ◌≢◌, ◌<◌, ◌≤◌, �
 ghost use Rattle.fab_base.specs.declared.identities.BrickId.{BrickId};
 ghost use Rattle.fab_base.specs.Layouts.{Layout, group_of, seat_in};
 ghost use Rattle.synod_laws.specs.Synods.{Kept, last_of};
-ghost use Rattle.protocol.specs.Views.{kept_by};
+ghost use Rattle.protocol.specs.Views.{first_kept, kept_by};
 ghost use Rattle.protocol.specs.Ballots.{moved_to};
 ghost use Rattle.protocol.specs.Nodes.{fits, fits_change};
 ghost use Rattle.replica.specs.Parts.{learnt_in};
 ghost use Rattle.replica.specs.Handling.{me_of};
-ghost use Rattle.replica.specs.Courses.{seat_under, is_void_at, moved_under, served_at, served_unless_moved, course_in, course_of};
+ghost use Rattle.replica.specs.Courses.{seat_under, is_void_at, moved_under, served_at, served_unless_moved, old_under, course_in, course_of};
 ghost use Rattle.replica.specs.declared.courses.Course.TheVariants.{Void};
 
 use crate::seats::{Member, is_changed, seat_of};
 use brick_store::BrickStore;
-use fab_base::{Ballot, Boxed, BrickId, Bytes, GroupId, Members, NoMem, View, ViewNo};
+use fab_base::{Ballot, Boxed, BrickId, Bytes, GroupId, Members, NoMem, Stamp, View, ViewNo};
 use fab_disk::Disk;
 use layout::{Group, Layout};
 use messages::{Call, Lineage, Reply, Request};
@@ -44,6 +44,8 @@ pub(crate) enum Course {
     Void,
     /// It replies so, and nothing changes.
     Tell(Reply),
+    /// It tells its newest version in the call's view, of those below this stamp if there is one, and nothing changes.
+    TellOld(Option<Stamp>),
     /// It handles the request as this member of the view that it has learnt.
     Serve(Member),
     /// It votes on this ballot for the successor of the view that it has learnt: it is asked to accept this list, or to promise.
@@ -170,6 +172,40 @@ fn moved_under(
     Ok(None)
 }
 
+/// Whether a brick serves the view of a call no more. The view is not later than the learnt one.
+fn has_moved(learnt: &Learnt, accepted: bool, call: Call) -> bool
+    requires { call.view.0 ≤ learnt.now.view.number.0 }
+    ensures { (kept : Kept (List BrickId)) → is_some (last_of kept) ≡ accepted → result ≡ is_some (moved_under learnt.now kept call) }
+{
+    call.view.0 < learnt.view.number.0 || learnt.view.number.0 < u32::MAX && accepted
+}
+
+/// The first view of a group whose versions a brick keeps.
+fn first_kept(learnt: &Learnt) -> u32
+    ensures { result ≡ first_kept learnt.now }
+{
+    if learnt.synced {
+        learnt.view.number.0
+    } else {
+        learnt.view.number.0.saturating_sub(1)
+    }
+}
+
+/// What a brick does that is asked for its newest version in the call's view, of those below a stamp if there is one. The view is not later than the learnt one.
+fn old_under(learnt: &Learnt, accepted: bool, call: Call, bound: Option<Stamp>) -> Course
+    requires { call.view.0 ≤ learnt.now.view.number.0 }
+    ensures { (kept : Kept (List BrickId)) → is_some (last_of kept) ≡ accepted
+        → result ≡ old_under learnt.now (moved_under learnt.now kept call) call bound }
+{
+    if call.view.0 < first_kept(learnt) {
+        return Course::Tell(Reply::Retired);
+    }
+    if has_moved(learnt, accepted, call) {
+        return Course::TellOld(bound);
+    }
+    Course::Void
+}
+
 /// The member at a seat serves, if there is one.
 fn served_at(layout: &Layout, group: &Group, seat: Option<u8>) -> Course
     requires { IfSome seat (λ seat. seat < 32) }
@@ -224,7 +260,7 @@ fn course_in(
     }
     Ok(match request {
         Request::Collect { stamp: _ } => served_at(layout, group, seat),
-        Request::OldRead { bound: _ } => Course::Void,
+        Request::OldRead { bound } => old_under(&learnt, accepted, call, *bound),
         Request::Prepare { ballot } => Course::Vote(learnt, *ballot, None),
         Request::Accept { ballot, members } => Course::Vote(learnt, *ballot, Some(members.copy())),
         Request::Read { .. }

@@ -16,9 +16,9 @@ ghost use Rattle.replica.specs.Calls.{part_append, message_append};
 
 use crate::courses::{Course, take_course};
 use crate::faults::ReplicaFault;
-use crate::members::decide;
+use crate::members::{decide, newest_under};
 use crate::plans::Plan;
-use crate::views::on_learn;
+use crate::views::{on_learn, on_synced};
 use crate::votes::vote;
 use brick_store::{BrickStore, StoreFault};
 use fab_base::BrickId;
@@ -123,6 +123,11 @@ fn on_request<D: Disk>(
     match course {
         Course::Void => Ok(None),
         Course::Tell(reply) => Ok(Some(Message::Reply(call, reply))),
+        Course::TellOld(bound) => {
+            let part = store.state(call.group, call.view, call.stripe);
+            let found = newest_under(alloc, &part, bound)?;
+            Ok(Some(Message::Reply(call, Reply::Old { found })))
+        }
         Course::Serve(member) => {
             let part = store.state(call.group, call.view, call.stripe);
             let plan = decide(alloc, member, &part, request)?;
@@ -134,30 +139,32 @@ fn on_request<D: Disk>(
     }
 }
 
-/// No answer to a message, once what it taught was learnt.
-fn no_answer(learnt: Result<(), ReplicaFault>) -> Result<Option<Message>, ReplicaFault>
-    ensures { result ≡ unanswered learnt }
+/// No answer to a message, once what it tells is kept.
+fn no_answer(kept: Result<(), ReplicaFault>) -> Result<Option<Message>, ReplicaFault>
+    ensures { result ≡ unanswered kept }
 {
-    match learnt {
+    match kept {
         Ok(()) => Ok(None),
         Err(fault) => Err(fault),
     }
 }
 
 /// Does what a brick of the machine does with a message as a member of a group: its answer to the sender, if there is one. A message that
-/// is neither a request nor teaches a view has none, nor has a void request.
+/// is no request has none, nor has a void request.
 ///
-/// A request of a view that the brick serves no more, since it has learnt a later one or has accepted a list to follow it, is told so. On a ballot for the
-/// successor of the view that it has learnt the brick votes as an acceptor of the Synod. A later view than that it learns: what it promised and accepted for
-/// another successor is forgotten then, and what it kept of the group in the views before the new one's predecessor is dropped.
+/// A request of a view that the brick serves no more, since it has learnt a later one or has accepted a list to follow it, is told so. Asked what it keeps in such
+/// a view, it tells its newest version there, or that it has dropped them. On a ballot for the successor of the view that it has learnt the brick votes as an
+/// acceptor of the Synod. A later view than that it learns: what it promised and accepted for another successor is forgotten then, and what it kept of the group
+/// in the views before the new one's predecessor is dropped. Once it hears that all stripes are kept in the view that it has learnt, it drops what it kept in the
+/// view before.
 ///
 /// A Collect of the learnt view drops the versions below the one that it names, where the member has that one, and has no reply. A block that a dropped version
 /// shares with one that stays is kept. Where the member lacks the version, or has none below it, nothing is dropped.
 ///
 /// The answer is made only once what it promises is kept. A message that changes nothing makes no call of the disk; one that changes the
 /// order stamp makes four of `write_at` and `sync`, one that stores a version with its block five, one that stores a version with the block of
-/// the newest one four, one that drops versions, changes ballots or teaches a view four, and each seven more where the list of frames is rewritten first, for
-/// want of room.
+/// the newest one four, one that drops versions, changes ballots, or teaches a view or that all stripes are kept in it four, and each seven more where the list of
+/// frames is rewritten first, for want of room.
 ///
 /// # Errors
 /// [`ReplicaFault::Halted`]: an earlier call of the store answered Disk. [`ReplicaFault::Disk`]: the disk failed, and the store is
@@ -183,6 +190,7 @@ pub fn handle<D: Disk>(
     match message {
         Message::Request(call, request) => on_request(alloc, store, layout, from, *call, request),
         Message::Learn { group, view } => no_answer(on_learn(store, layout, *group, view.get())),
+        Message::Synced { group, view } => no_answer(on_synced(store, layout, *group, *view)),
         _ => Ok(None),
     }
 }

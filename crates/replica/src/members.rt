@@ -5,7 +5,7 @@ ghost use Rattle.fab_base.specs.Stamps.{stamp_below};
 ghost use Rattle.messages.specs.declared.replies.Reply.TheVariants.{Found, Later};
 ghost use Rattle.version_log.specs.Versions.{version, IsRising};
 ghost use Rattle.messages.specs.declared.requests.Version.{Version};
-ghost use Rattle.protocol.specs.Replicas.{is_held, is_wanted, is_changed, told_version, top_of, newest_of, looked_up, handle, ordered, order_read, written, modified, modified_block, stays, promised, collected, unless_full};
+ghost use Rattle.protocol.specs.Replicas.{is_held, is_wanted, is_changed, told_version, top_of, newest_of, looked_up, under, handle, ordered, order_read, written, modified, modified_block, stays, promised, collected, unless_full};
 ghost use Rattle.replica.specs.Courses.{fits_block};
 ghost use Rattle.stripe_code.specs.Codes.{block_code};
 ghost use Rattle.replica.specs.Parts.{as_version, log_seen, part_seen, IsBegun};
@@ -87,6 +87,29 @@ fn look_up<'a>(part: &'a State<'_>, look: Look) -> Option<(Stamp, &'a Bytes)>
             None => None,
         },
     }
+}
+
+/// The newest version, of those below a stamp if there is one.
+fn look_under<'a>(part: &'a State<'_>, bound: Option<Stamp>) -> Option<(Stamp, &'a Bytes)>
+    requires { IsRising part.now.log }
+    ensures { option_map (λ v. as_version (version v.0 v.1.now)) result ≡ newest_of (under bound (log_seen part.now)) }
+{
+    match bound {
+        None => part.newest(),
+        Some(stamp) => part.below(stamp),
+    }
+}
+
+/// That version, to be told with its block.
+pub(crate) fn newest_under(
+    alloc: Global,
+    part: &State<'_>,
+    bound: Option<Stamp>,
+) -> Result<Option<Version>, NoMem>
+    requires { IsRising part.now.log }
+    ensures { IfOk result (λ found. found ≡ newest_of (under bound (log_seen part.now))) }
+{
+    told(alloc, true, look_under(part, bound))
 }
 
 /// A promise, with the reply that says so. One of the very stamp that is kept needs no change.

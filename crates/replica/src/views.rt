@@ -1,19 +1,19 @@
-//! Views that a brick is taught, and learns.
+//! Views that a brick is taught, and learns, and what it hears of them.
 
-ghost use Rattle.std.specs.Prelude.{◌≡◌, ◌≢◌, ◌<◌, ◌≤◌, ℕ, true, None, Err, length};
+ghost use Rattle.std.specs.Prelude.{◌≡◌, ◌≢◌, ◌<◌, ◌≤◌, ℕ, true, None, Err, IsSome, length};
 ghost use Rattle.brick_state.specs.States.{group_at};
 ghost use Rattle.brick_store.specs.Blocks.{learnt_of};
 ghost use Rattle.protocol.specs.Views.{is_view};
 ghost use Rattle.messages.specs.declared.replies.Reply as told;
 ghost use Rattle.messages.specs.declared.packets.Message as told_message;
 ghost use Rattle.brick_store.specs.declared.faults.StoreFault.TheVariants as faults;
-ghost use Rattle.replica.specs.Parts.{is_to_learn};
+ghost use Rattle.replica.specs.Parts.{is_to_learn, is_to_note};
 ghost use Rattle.replica.specs.Handling.{Runs, answered, seen_as, unanswered};
-ghost use Rattle.replica.specs.Learning.{LearnsView};
+ghost use Rattle.replica.specs.Learning.{LearnsView, NotesSynced};
 
 use crate::faults::ReplicaFault;
 use brick_store::{BrickStore, StoreFault};
-use fab_base::{BrickId, GroupId, View};
+use fab_base::{BrickId, GroupId, View, ViewNo};
 use fab_disk::Disk;
 use layout::Layout;
 use messages::{Message, Reply};
@@ -42,7 +42,7 @@ fn is_to_learn<D: Disk>(store: &BrickStore<D>, layout: &Layout, group: GroupId, 
     is_view(kept.m(), layout.bricks(), view) && store.learnt(group).0 < view.number.0
 }
 
-/// How the learning of a view ended, once the store answered.
+/// How a call that learns a view, or that it is synced, ended, once the store answered.
 fn taught(answer: Result<(), StoreFault>) -> Result<(), ReplicaFault>
     requires { (live : ℕ) → answer ≢ Err (faults.Full live) }
     ensures { (f : told.Reply → told_message.Message) → unanswered result ≡ seen_as f (answered None answer) }
@@ -91,4 +91,37 @@ pub fn learn<D: Disk>(
         return Err(ReplicaFault::Halted);
     }
     on_learn(store, layout, group, view)
+}
+
+/// Whether a brick is to note that all stripes of a group are kept in a view: the layout has the group, and the view is the learnt one, of which it does not know
+/// so yet.
+fn is_to_note<D: Disk>(store: &BrickStore<D>, layout: &Layout, group: GroupId, view: ViewNo) -> bool
+    ensures notes { result ≡ is_to_note layout.now store.now.state group.0 view.0 }
+    ensures few { result ≡ true → group.0 < 64 }
+    ensures number { result ≡ true → view.0 ≡ learnt_of (group_at store.now.state group.0) }
+    ensures known { result ≡ true → IsSome (group_at store.now.state group.0).known }
+{
+    let Some(_) = layout.group(group) else {
+        return false;
+    };
+    match store.known_view(group) {
+        Some((learnt, synced)) => view.0 == learnt.number.0 && !synced,
+        None => false,
+    }
+}
+
+/// Keeps that a running brick has heard that all stripes of a group are kept in a view, if it is to, and drops what it kept in the view before.
+pub(crate) fn on_synced<D: Disk>(
+    store: &mut BrickStore<D>,
+    layout: &Layout,
+    group: GroupId,
+    view: ViewNo,
+) -> Result<(), ReplicaFault>
+    requires runs { Runs D.Disk store.old }
+    ensures { (from : BrickId) → NotesSynced D.Disk layout.now from group view store.old store.new result }
+{
+    if !is_to_note(store, layout, group, view) {
+        return Ok(());
+    }
+    taught(store.synced(group, view))
 }

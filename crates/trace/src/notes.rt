@@ -11,7 +11,7 @@ use trace_runs::{
 /// Writes the message of a number, of all that were sent, with its number.
 fn put_packet(notes: &mut Text, sent: &[Packet], journal: &Journal, number: u64) {
     match packet_at(sent, number) {
-        Some(packet) => put_message(notes, number, packet, journal.operation_of(number)),
+        Some(packet) => put_message(notes, number, packet, journal.owner_of(number)),
         None => notes.fill("#%", &[number]),
     }
 }
@@ -38,8 +38,20 @@ fn note_fault(notes: &mut Text, brick: BrickId, outcome: FaultOutcome) {
     notes.fill(form, &[brick.0.into(), call]);
 }
 
-/// Notes the view of a group by which a brick goes from then on.
+/// Notes the view of a group by which a brick goes from then on, or in which it knows from then on that all stripes are kept.
 fn note_view(notes: &mut Text, learnt: &LearntView) {
+    if learnt.is_synced {
+        let numbers = [
+            learnt.brick.0.into(),
+            learnt.group.0.into(),
+            learnt.view.number.0.into(),
+        ];
+        notes.fill(
+            "brick % knows that all stripes of group % are kept in view %\n",
+            &numbers,
+        );
+        return;
+    }
     let numbers = [
         learnt.brick.0.into(),
         learnt.view.number.0.into(),

@@ -1,8 +1,9 @@
-//! What is known of the operations and the proposals of a run, from its marks, messages and reports.
+//! What is known of the operations, the proposals and the synchronisations of a run, from its marks, messages and reports.
 
 use crate::line_effects::{Before, DeliveryOutcome};
 use fab_base::{BrickId, GroupId, NoMem, ViewNo};
 use messages::{Call, Message, Packet, Request};
+use protocol::Report;
 use reg_model::Mark;
 use std::alloc::Global;
 use std::collections::{BTreeMap, BTreeSet};
@@ -15,7 +16,7 @@ type CallKey = (u16, u32, u64);
 /// A reply: the brick that sent it, and the phase and the number of its operation.
 type ReplyKey = (u16, u32, u64);
 
-/// A reply to a proposal: the brick that sent it, the phase, and the proposal's call.
+/// A reply to a proposal, or to a read of a synchronisation: the brick that sent it, the phase, and its call.
 type VoiceKey = (u16, u32, CallKey);
 
 /// What is known of an operation.
@@ -33,12 +34,23 @@ pub struct Operation {
     phase: u32,
 }
 
-/// What is known of the operations and the proposals of a run.
+/// What a message is of.
+#[derive(Clone, Copy, PartialEq, Eq)]
+pub enum Owner {
+    /// The operation of this number.
+    Operation(u64),
+    /// A read of a synchronisation.
+    Read,
+    /// A proposal, or nothing.
+    Other,
+}
+
+/// What is known of the operations, the proposals and the synchronisations of a run.
 pub struct Journal {
     /// The operations by number, from 1.
     operations: Vec<Operation>,
-    /// The operation that each message is of, by number from 1.
-    owners: Vec<Option<u64>>,
+    /// What each message is of, by number from 1.
+    owners: Vec<Owner>,
     /// How many operations had begun when a brick stopped the last time, by its number, up to the highest that has stopped: of those its own
     /// have ended.
     stopped: Vec<usize>,
@@ -52,10 +64,16 @@ pub struct Journal {
     counted: BTreeSet<ReplyKey>,
     /// The proposals that are open, by their bricks: the call of each, and the number of its newest phase.
     proposals: BTreeMap<u16, (CallKey, u32)>,
-    /// The replies that were counted in proposals.
+    /// The replies that were counted in proposals, and in reads of synchronisations.
     voices: BTreeSet<VoiceKey>,
+    /// The reads of synchronisations that are open, by their bricks: the call of each, and the number of its newest phase.
+    reads: BTreeMap<u16, (CallKey, u32)>,
+    /// The calls of all reads of synchronisations.
+    read_calls: BTreeSet<CallKey>,
     /// The views that bricks are known to have learnt, by brick and group, if later than view 1.
     views: BTreeMap<(u16, u32), u32>,
+    /// The views in which bricks know that all stripes are kept, by brick and group, if later than view 1.
+    synced: BTreeMap<(u16, u32), u32>,
 }
 
 impl Drop for Journal {
@@ -70,7 +88,10 @@ impl Drop for Journal {
             counted: _,
             proposals: _,
             voices: _,
+            reads: _,
+            read_calls: _,
             views: _,
+            synced: _,
         } = self;
     }
 }
@@ -90,7 +111,7 @@ fn key_of(coordinator: BrickId, call: &Call) -> CallKey {
 }
 
 /// The place of the operation, or of the message, of a number.
-pub(crate) fn place_of(number: u64) -> usize {
+pub fn place_of(number: u64) -> usize {
     (number as usize).wrapping_sub(1)
 }
 
@@ -121,7 +142,10 @@ impl Journal {
             counted: BTreeSet::new(alloc),
             proposals: BTreeMap::new(alloc),
             voices: BTreeSet::new(alloc),
+            reads: BTreeMap::new(alloc),
+            read_calls: BTreeSet::new(alloc),
             views: BTreeMap::new(alloc),
+            synced: BTreeMap::new(alloc),
         }
     }
 
@@ -140,13 +164,24 @@ impl Journal {
         &self.stripes
     }
 
+    /// What the message of a number is of.
+    pub fn owner_of(&self, number: u64) -> Owner {
+        self.owners
+            .get(place_of(number))
+            .copied()
+            .unwrap_or(Owner::Other)
+    }
+
     /// The number of the operation that the message of a number is of.
     pub fn operation_of(&self, number: u64) -> Option<u64> {
-        *self.owners.get(place_of(number))?
+        match self.owner_of(number) {
+            Owner::Operation(operation) => Some(operation),
+            Owner::Read | Owner::Other => None,
+        }
     }
 
     /// What came of the message of a number, which was delivered to a brick that was up, where nothing else tells it. A reply that was
-    /// counted is noted: an operation or a proposal counts the first reply of each brick in its newest phase.
+    /// counted is noted: an operation, a proposal or a read counts the first reply of each brick in its newest phase.
     pub(crate) fn note_delivery(
         &mut self,
         number: u64,
@@ -179,17 +214,16 @@ impl Journal {
         Ok(DeliveryOutcome::NotCounted)
     }
 
-    /// Notes that a brick's reply in a phase of a proposal was delivered, and answers whether it was counted.
+    /// Notes that a brick's reply in a phase of a proposal or of a read was delivered, and answers whether it was counted.
     fn note_voice(
         &mut self,
         key: CallKey,
         phase: u32,
         brick: BrickId,
     ) -> Result<DeliveryOutcome, NoMem> {
-        let is_due = match self.proposals.get(&key.0) {
-            Some(open) => *open == (key, phase),
-            None => false,
-        };
+        let due = Some((key, phase));
+        let is_due = self.proposals.get(&key.0).copied() == due
+            || self.reads.get(&key.0).copied() == due;
         if is_due && self.voices.insert((brick.0, phase, key))? {
             return Ok(DeliveryOutcome::Counted);
         }
@@ -209,6 +243,22 @@ impl Journal {
             return Ok(false);
         }
         self.views.insert(key, view.0)?;
+        Ok(true)
+    }
+
+    /// Notes that a brick knows that all stripes of a group are kept in a view, and answers whether that is news.
+    pub(crate) fn note_synced(
+        &mut self,
+        brick: BrickId,
+        group: GroupId,
+        view: ViewNo,
+    ) -> Result<bool, NoMem> {
+        let key = (brick.0, group.0);
+        let known = self.synced.get(&key).copied().unwrap_or(1);
+        if view.0 <= known {
+            return Ok(false);
+        }
+        self.synced.insert(key, view.0)?;
         Ok(true)
     }
 
@@ -243,7 +293,11 @@ impl Journal {
             self.note_sent(&sent[place])?;
         }
         for place in before.reports..reports.len() {
-            self.proposals.remove(&reports[place].0.0);
+            let (brick, report) = &reports[place];
+            match report {
+                Report::View { .. } => self.proposals.remove(&brick.0),
+                Report::Sync { .. } => self.reads.remove(&brick.0),
+            };
         }
         Ok(())
     }
@@ -278,7 +332,8 @@ impl Journal {
         }
     }
 
-    /// Notes that a brick stopped, at the mark at this place: its operations that were open are cut off, and so is its proposal.
+    /// Notes that a brick stopped, at the mark at this place: its operations that were open are cut off, and so are its proposal and its
+    /// synchronisation.
     fn note_crash(&mut self, place: usize, brick: BrickId) -> Result<(), NoMem> {
         let index = usize::from(brick.0);
         let count = self.operations.len();
@@ -288,17 +343,40 @@ impl Journal {
         let first = mem::replace(&mut self.stopped[index], count).min(count);
         cut_off(&mut self.operations[first..], brick, place);
         self.proposals.remove(&brick.0);
+        self.reads.remove(&brick.0);
         Ok(())
     }
 
     /// Notes a message that was sent.
     fn note_sent(&mut self, packet: &Packet) -> Result<(), NoMem> {
-        let operation = match call_of(packet) {
-            Some((key, phase)) => self.note_call(key, phase)?,
-            None => None,
+        let owner = match call_of(packet) {
+            Some((key, phase)) => match self.note_call(key, phase)? {
+                Some(operation) => Owner::Operation(operation),
+                None => self.note_read(packet, key, phase)?,
+            },
+            None => Owner::Other,
         };
-        self.owners.push(operation)?;
+        self.owners.push(owner)?;
         self.note_ballot(packet)
+    }
+
+    /// Notes that a message of a call of no operation was sent, in this phase, and answers what it is of. A request to a stripe is of a read, which its brick
+    /// has open, and this is its newest phase; unless it is a Collect, which is sent once the read has ended.
+    fn note_read(&mut self, packet: &Packet, key: CallKey, phase: u32) -> Result<Owner, NoMem> {
+        match &packet.message {
+            Message::Request(_, Request::Prepare { .. } | Request::Accept { .. }) => {}
+            Message::Request(_, Request::Collect { .. }) => {}
+            Message::Request(_, _) => {
+                self.read_calls.insert(key)?;
+                self.reads.insert(packet.from.0, (key, phase))?;
+            }
+            _ => {}
+        }
+        if self.read_calls.contains(&key) {
+            Ok(Owner::Read)
+        } else {
+            Ok(Owner::Other)
+        }
     }
 
     /// Notes that a message was sent, if it is of a proposal: that is the one that its brick has open, and this is its newest phase.

@@ -1,7 +1,7 @@
 //! What a line of a schedule did.
 
 use crate::journals::{Journal, place_of};
-use fab_base::{BrickId, GroupId, NoMem, StripeNo, View};
+use fab_base::{BrickId, GroupId, NoMem, StripeNo, View, ViewNo};
 use lines::{Fault, Line, parse};
 use messages::{Message, Packet};
 use std::alloc::Global;
@@ -32,7 +32,7 @@ impl Before {
     }
 }
 
-/// A view that a brick has learnt.
+/// A view that a brick has learnt, or in which it knows from now on that all stripes are kept.
 #[derive(Drop)]
 pub struct LearntView {
     /// The brick.
@@ -41,6 +41,8 @@ pub struct LearntView {
     pub group: GroupId,
     /// The view.
     pub view: View,
+    /// Whether it had learnt the view, and knows from now on that all stripes are kept in it.
+    pub is_synced: bool,
 }
 
 /// What came of a message that a line was to deliver.
@@ -54,9 +56,9 @@ pub enum DeliveryOutcome {
     Counted,
     /// A reply, which was not counted: its operation or its proposal has ended, or is in a later phase, or had this brick's reply.
     NotCounted,
-    /// A request, of which nothing came, or a view that was taught and is no news.
+    /// A request, of which nothing came, or what was taught of a view and is no news.
     Ignored,
-    /// Messages, marks, reports or a view that was learnt, which tell it; or a Collect, which tells nobody what it drops.
+    /// Messages, marks, reports or what was learnt of a view, which tell it; or a Collect, which tells nobody what it drops.
     Told,
 }
 
@@ -82,7 +84,7 @@ pub struct LineEffects {
     pub fault: Option<(BrickId, FaultOutcome)>,
     /// The brick that it started.
     pub started: Option<BrickId>,
-    /// The views by which bricks go from then on.
+    /// The views by which bricks go from then on, and those in which they know that all stripes are kept.
     pub learnt: Vec<LearntView>,
     /// How many marks there were before.
     pub marks: usize,
@@ -91,7 +93,7 @@ pub struct LineEffects {
 }
 
 /// Whether a brick is up.
-pub(crate) fn is_up(world: &World, brick: BrickId) -> bool {
+pub fn is_up(world: &World, brick: BrickId) -> bool {
     world.log_of(brick, GroupId(0), StripeNo(0)).is_some()
 }
 
@@ -223,11 +225,40 @@ impl LineEffects {
         if !journal.note_view(brick, group, view.number)? {
             return Ok(false);
         }
-        self.learnt.push(LearntView { brick, group, view })?;
+        self.learnt.push(LearntView {
+            brick,
+            group,
+            view,
+            is_synced: false,
+        })?;
         Ok(true)
     }
 
-    /// Notes a view that the receiver of a message has learnt, if any, and answers whether the message did no more than teach it.
+    /// Notes that a brick hears that all stripes of a group are kept in a view, where it goes by that view, and answers whether it is news.
+    fn note_synced(
+        &mut self,
+        world: &World,
+        journal: &mut Journal,
+        brick: BrickId,
+        group: GroupId,
+        number: ViewNo,
+    ) -> Result<bool, NoMem> {
+        let Some(view) = world.learnt(brick, group) else {
+            return Ok(false);
+        };
+        if view.number != number || !journal.note_synced(brick, group, number)? {
+            return Ok(false);
+        }
+        self.learnt.push(LearntView {
+            brick,
+            group,
+            view,
+            is_synced: true,
+        })?;
+        Ok(true)
+    }
+
+    /// Notes what the receiver of a message has learnt of a view, if anything, and answers whether the message did no more than teach it.
     fn note_taught(
         &mut self,
         world: &World,
@@ -236,6 +267,9 @@ impl LineEffects {
     ) -> Result<bool, NoMem> {
         match &packet.message {
             Message::Learn { group, .. } => self.note_view(world, journal, packet.to, *group),
+            Message::Synced { group, view } => {
+                self.note_synced(world, journal, packet.to, *group, *view)
+            }
             Message::Reply(call, _) => {
                 self.note_view(world, journal, packet.to, call.group)?;
                 Ok(false)

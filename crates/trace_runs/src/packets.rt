@@ -1,5 +1,6 @@
 //! A message as it is shown.
 
+use crate::journals::Owner;
 use crate::texts::Text;
 use messages::{Call, Choice, Look, Message, Packet, Reply, Request, Version, Want};
 
@@ -39,7 +40,7 @@ fn reply_word(reply: &Reply) -> &'static str {
 }
 
 /// A message's word.
-pub(crate) fn word_of(message: &Message) -> &'static str {
+pub fn word_of(message: &Message) -> &'static str {
     match message {
         Message::Request(_, request) => request_word(request),
         Message::Reply(_, reply) => reply_word(reply),
@@ -76,7 +77,7 @@ fn request_kind(request: &Request) -> &'static str {
 }
 
 /// The kind that a message is drawn as.
-pub(crate) fn kind_of(message: &Message) -> &'static str {
+pub fn kind_of(message: &Message) -> &'static str {
     match message {
         Message::Request(_, request) => request_kind(request),
         Message::Reply(_, reply) if is_refusal(reply) => "refusal",
@@ -186,11 +187,19 @@ fn put_reply(text: &mut Text, reply: &Reply) {
     }
 }
 
-/// Writes what a call is of: this operation, or a proposal to follow a view of a group.
-fn put_call(text: &mut Text, call: &Call, operation: Option<u64>) {
-    match operation {
-        Some(operation) => text.fill(" op %", &[operation]),
-        None => text.fill(
+/// Writes what a call is of: an operation, the read of a stripe for a synchronisation, or a proposal to follow a view of a group.
+fn put_call(text: &mut Text, call: &Call, owner: Owner) {
+    match owner {
+        Owner::Operation(operation) => text.fill(" op %", &[operation]),
+        Owner::Read => text.fill(
+            " group % stripe % view %",
+            &[
+                call.group.0.into(),
+                call.stripe.0.into(),
+                call.view.0.into(),
+            ],
+        ),
+        Owner::Other => text.fill(
             " group % view %",
             &[call.group.0.into(), call.view.0.into()],
         ),
@@ -198,19 +207,20 @@ fn put_call(text: &mut Text, call: &Call, operation: Option<u64>) {
     text.fill(" phase %", &[u64::from(call.phase)]);
 }
 
-/// Writes the message of a number, of this operation, as `#7 write 1>0 op 1 phase 2 stamp 1.1.0.1 block 41`; or of a proposal, as
-/// `#1 prepare 3>0 group 0 view 1 phase 1 ballot 1.3.1`; or of a view that is taught, as `#9 learn 3>0 group 0 view 2 members 1 2 3`.
-pub fn put_message(text: &mut Text, number: u64, packet: &Packet, operation: Option<u64>) {
+/// Writes the message of a number, of an operation, as `#7 write 1>0 op 1 phase 2 stamp 1.1.0.1 block 41`; or of a read for a synchronisation, as
+/// `#7 oldread 1>0 group 0 stripe 2 view 1 phase 3`; or of a proposal, as `#1 prepare 3>0 group 0 view 1 phase 1 ballot 1.3.1`; or of a view that is taught,
+/// as `#9 learn 3>0 group 0 view 2 members 1 2 3`.
+pub fn put_message(text: &mut Text, number: u64, packet: &Packet, owner: Owner) {
     text.fill("#% ", &[number]);
     text.put(word_of(&packet.message));
     text.fill(" %>%", &[packet.from.0.into(), packet.to.0.into()]);
     match &packet.message {
         Message::Request(call, request) => {
-            put_call(text, call, operation);
+            put_call(text, call, owner);
             put_request(text, request);
         }
         Message::Reply(call, reply) => {
-            put_call(text, call, operation);
+            put_call(text, call, owner);
             put_reply(text, reply);
         }
         Message::Learn { group, view } => {

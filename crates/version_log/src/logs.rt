@@ -1,6 +1,6 @@
 //! The log of a stripe's versions.
 
-ghost use Rattle.std.specs.Prelude.{◌≡◌, ◌≤◌, ◌<◌, ◌==◌, [], ◌∷◌, ◌++◌, length, take, find, filter, true, false, is_some, vec_len, vec_capacity};
+ghost use Rattle.std.specs.Prelude.{◌≡◌, ◌↔◌, ◌≤◌, ◌<◌, ◌==◌, [], ◌∷◌, ◌++◌, length, take, find, filter, true, false, is_some, vec_len, vec_capacity};
 ghost use Rattle.std.specs.Prelude.{option_map, option_copied, IsTrue, IsSome, IsOk, IfOk, OnOk, OnErr};
 ghost use Rattle.std.specs.List.{list_any};
 ghost use Rattle.std.specs.List.Sorted.{IsPartitionPoint};
@@ -90,6 +90,13 @@ impl<B> VersionLog<B> {
         ensures any { result ≡ list_any (has_stamp stamp) self.now.versions.items }
     {
         self.at(stamp).is_some()
+    }
+
+    /// Whether there is room for one version more.
+    pub fn has_room(&self) -> bool
+        ensures { IsTrue result ↔ (vec_len self.now.versions < vec_capacity self.now.versions) }
+    {
+        self.versions.len() < self.versions.capacity()
     }
 
     /// Makes room for one version.

@@ -54,9 +54,9 @@ pub record Agreed (layout : Layout) (v : ViewWorld) : Type 0 where
 
 -- ---- what changes at a brick
 
--- of a group nothing changes
+-- of a group nothing changes, but that its view may be known to be synced from then on
 abbrev pub StaysAt : Node → Node → ℕ → Type 0
-StaysAt node next g = (next.learnt g ≡ node.learnt g) × (next.ballots g ≡ node.ballots g)
+StaysAt node next g = ((next.learnt g).view ≡ (node.learnt g).view) × (next.ballots g ≡ node.ballots g)
 
 -- the request that asks for a vote on a ballot
 abbrev pub vote_request : Ballot → Option (List BrickId) → Request
@@ -239,12 +239,12 @@ module _ (layout : Layout) (v : ViewWorld) (i : ℕ) (next : Node) (agreed : Agr
       by_same g e
       (history_same g e
       (λ c members is. last_noted g e c members (sym last ∙ is))
-      (λ b. ap (λ (l : Learnt). past_by e l (next.ballots g) b) stays.0 ∙ ap (λ (z : Kept (List BrickId)). past_by e ((v.nodes i).learnt g) z b) stays.1))
-      (ap (λ (l : Learnt). l.view.number.0) stays.0)
-      (ap (λ (l : Learnt). kept_by_view e l (next.ballots g)) stays.0 ∙ ap (λ (z : Kept (List BrickId)). kept_by_view e ((v.nodes i).learnt g) z) stays.1)
+      (λ b. ap (λ (w : View). nat_lt e w.number.0 || (nat_eq e w.number.0 && is_promised_above (next.ballots g) b)) stays.0 ∙ ap (λ (z : Kept (List BrickId)). past_by e ((v.nodes i).learnt g) z b) stays.1))
+      (ap (λ (w : View). w.number.0) stays.0)
+      (ap (λ (w : View). if nat_eq e w.number.0 then next.ballots g else None) stays.0 ∙ ap (λ (z : Kept (List BrickId)). kept_by_view e ((v.nodes i).learnt g) z) stays.1)
     where
       last : accepted_in next g e ≡ accepted_in (v.nodes i) g e
-      last = ap (λ (l : Learnt). accepted_by e l (next.ballots g)) stays.0 ∙ ap (λ (z : Kept (List BrickId)). accepted_by e ((v.nodes i).learnt g) z) stays.1
+      last = ap (λ (w : View). if nat_eq e w.number.0 then last_of (next.ballots g) else None) stays.0 ∙ ap (λ (z : Kept (List BrickId)). accepted_by e ((v.nodes i).learnt g) z) stays.1
 
   -- where the brick votes for the successor of another view
   by_elsewhere : (g e : ℕ) → next.learnt g ≡ (v.nodes i).learnt g → nat_eq e (view_at (v.nodes i) g) ≡ false → Turned g e
@@ -471,15 +471,15 @@ module _ (layout : Layout) (v : ViewWorld) (i : ℕ) (next : Node) (agreed : Agr
         (λ g. ⊎_elim
         (λ (stays : StaysAt (v.nodes i) next g). named_by g stays.0)
         (λ (changes : VotesAt layout v.packets (v.nodes i) next g ⊎ LearnsAt layout v.packets (v.nodes i) next g).
-        ⊎_elim (λ (x : VotesAt layout v.packets (v.nodes i) next g). named_by g x.learnt)
+        ⊎_elim (λ (x : VotesAt layout v.packets (v.nodes i) next g). named_by g (ap (λ (l : Learnt). l.view) x.learnt))
         (λ (x : LearnsAt layout v.packets (v.nodes i) next g). subst (λ (z : View). IsNamed layout v.packets g z) (sym x.learnt) x.named) changes)
         (turn g))
         (λ k other g. agreed.learnt k g);
     says = λ k packet at. message_stays layout v (turned v i next) (turn_extends turn) packet.from.0 packet.to.0 packet.message (agreed.says k packet at);
   }
     where
-      named_by : (g : ℕ) → next.learnt g ≡ (v.nodes i).learnt g → IsNamed layout v.packets g (next.learnt g).view
-      named_by g same = subst (λ (l : Learnt). IsNamed layout v.packets g l.view) (sym same) (agreed.learnt i g)
+      named_by : (g : ℕ) → (next.learnt g).view ≡ ((v.nodes i).learnt g).view → IsNamed layout v.packets g (next.learnt g).view
+      named_by g same = subst (λ (w : View). IsNamed layout v.packets g w) (sym same) (agreed.learnt i g)
 
 -- ---- a brick that keeps what it kept of views
 

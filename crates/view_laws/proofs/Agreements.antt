@@ -1,4 +1,5 @@
 -- The agreement on views holds in every world that a run reaches.
+use Rattle.protocol.specs.Jobs.{Job}
 use Rattle.std.proofs.Common.{◌≡◌, ℕ, zero, suc, ◌≤◌, Bool, true, false, ◌&&◌, ◌||◌, ◌⊎◌, inl, inr, ⊎_elim, List, [], ◌++◌, Option, Some, None, refl, sym, ap, ◌∙◌, subst, arith, nat_lt, nat_eq}
 use Rattle.std.specs.Prelude.{not}
 use Rattle.std.proofs.lemmas.Bool.{cond_both, and_parts, false≢true, eqb-true, not-true}
@@ -15,7 +16,7 @@ use Rattle.protocol.specs.Views.{Learnt}
 use Rattle.protocol.specs.Ballots.{granting}
 use Rattle.protocol.specs.Proposals.{Proposal}
 use Rattle.protocol.specs.Coordinators.{Coordinator}
-use Rattle.protocol.specs.Nodes.{Node, NodeStep, put, first_node, view_at, view_in, no_calls, node_taught_by, view_counted, lists_fit, received, absorbed, ticked, group_at, began, invoked, proposed, stopped, restarted, may_open}
+use Rattle.protocol.specs.Nodes.{Node, NodeStep, put, first_node, view_at, view_in, no_calls, node_taught_by, view_counted, lists_fit, received, absorbed, ticked, group_at, began, invoked, proposed, stopped, restarted, may_open, synced_at}
 use Rattle.protocol.specs.Worlds.{World, Event, first_world, is_up, packet_of, packet_during, left_after, world_stepped, run}
 use Rattle.protocol.proofs.Events.{EventCases, step_on, world_counting, always_where, started_each}
 use Rattle.protocol.proofs.Tables.{put_each, put_twice, get_kept}
@@ -25,9 +26,9 @@ use Rattle.view_laws.proofs.Calling.{Called}
 use Rattle.view_laws.proofs.CallSteps.{Calls, always_calls, put_back, up_not_down, stepped_up, left_stays, left_more, left_fewer}
 use Rattle.view_laws.proofs.Drafting.{DraftSays, Drafting, draft_stays, StepSays, step_agrees, step_drafting}
 use Rattle.view_laws.proofs.Deciding.{HasLimits}
-use Rattle.view_laws.proofs.Requesting.{no_turn, requested_says, learn_says}
+use Rattle.view_laws.proofs.Requesting.{no_turn, requested_says, learn_says, synced_turn, synced_says}
 use Rattle.view_laws.proofs.Replying.{reply_turn, heard_says}
-use Rattle.view_laws.proofs.Beginning.{quiet_step, invoked_says, proposed_says, ticked_says}
+use Rattle.view_laws.proofs.Beginning.{quiet_step, invoked_says, proposed_says, ticked_says, sync_says}
 use Rattle.protocol.proofs.Packets.{each_none}
 use Rattle.view_laws.proofs.Replying.{IsQuiet}
 
@@ -37,7 +38,7 @@ use Rattle.view_laws.proofs.Replying.{IsQuiet}
 pub turn_like : (layout : Layout) (packets : List Packet) (node next other later : Node) → KeepsViews node other → KeepsViews next later
     → Turn layout packets node next → Turn layout packets other later
 turn_like layout packets node next other later before after turn g = ⊎_elim
-    (λ (stays : StaysAt node next g). inl (learnt_after ∙ stays.0 ∙ sym learnt_before, ballots_after ∙ stays.1 ∙ sym ballots_before))
+    (λ (stays : StaysAt node next g). inl (ap (λ (l : Learnt). l.view) learnt_after ∙ stays.0 ∙ sym (ap (λ (l : Learnt). l.view) learnt_before), ballots_after ∙ stays.1 ∙ sym ballots_before))
     (λ (changes : VotesAt layout packets node next g ⊎ LearnsAt layout packets node next g). ⊎_elim
     (λ (x : VotesAt layout packets node next g). inr (inl (record {
       call = x.call;
@@ -112,12 +113,13 @@ pub record LeavesViews (layout : Layout) (packets : List Packet) (node left : No
   pub turn : Turn layout packets node left
   pub calls : left.calls ≡ no_calls
   pub proposal : left.proposal ≡ None
+  pub job : left.job ≡ None
 
 -- it may be found so still as more is sent
 leaves_sent : (layout : Layout) (packets new : List Packet) (node left : Node) → LeavesViews layout packets node left
     → LeavesViews layout (packets ++ new) node left
 leaves_sent layout packets new node left was =
-    record { turn = turn_sent layout packets new node left was.turn; calls = was.calls; proposal = was.proposal }
+    record { turn = turn_sent layout packets new node left was.turn; calls = was.calls; proposal = was.proposal; job = was.job }
 
 -- ---- the invariant
 
@@ -138,9 +140,9 @@ during_sent packets None packet is = cc
 during_sent packets (Some number) packet is = packet_sent packets number packet is
 
 -- a brick that has no operation and no proposal
-placed_drafting : (layout : Layout) (v : ViewWorld) (i : ℕ) (next : Node) → KeepsViews (v.nodes i) next → next.calls ≡ no_calls → next.proposal ≡ None
+placed_drafting : (layout : Layout) (v : ViewWorld) (i : ℕ) (next : Node) → KeepsViews (v.nodes i) next → next.calls ≡ no_calls → next.proposal ≡ None → next.job ≡ None
     → Drafting layout v → Drafting layout (placed v i next)
-placed_drafting layout v i next keeps calls proposal drafting = record {
+placed_drafting layout v i next keeps calls proposal job drafting = record {
   drafts = put_each (λ k (n : Node). (p : Proposal) → n.proposal ≡ Some p → DraftSays layout (placed v i next) k p) v.nodes i next
       (λ p is. absurd (let never : None ≡ Some p = sym proposal ∙ is in cc))
       (λ k other p is.
@@ -148,12 +150,14 @@ placed_drafting layout v i next keeps calls proposal drafting = record {
   calls = put_each (λ k (n : Node). (j : ℕ) (c : Coordinator) → n.calls j ≡ Some c → IsNamed layout v.packets c.call.group.0 (view_in c)) v.nodes i next
       (λ j c is. absurd (let never : None ≡ Some c = sym (ap (λ (t : ℕ → Option Coordinator). t j) calls) ∙ is in cc))
       (λ k other j c is. drafting.calls k j c is);
+  jobs = put_each (λ k (n : Node). (j : Job) → n.job ≡ Some j → IsNamed layout v.packets j.group.0 j.view) v.nodes i next
+      (λ j is. absurd (let never : None ≡ Some j = sym job ∙ is in cc)) (λ k other j is. drafting.jobs k j is);
 }
 
 -- one that is found so
 turned_drafting : (layout : Layout) (v : ViewWorld) (i : ℕ) (next : Node) → Agreed layout v → Turn layout v.packets (v.nodes i) next → next.calls ≡ no_calls
-    → next.proposal ≡ None → Drafting layout v → Drafting layout (turned v i next)
-turned_drafting layout v i next agreed turn calls proposal drafting = record {
+    → next.proposal ≡ None → next.job ≡ None → Drafting layout v → Drafting layout (turned v i next)
+turned_drafting layout v i next agreed turn calls proposal job drafting = record {
   drafts = put_each (λ k (n : Node). (p : Proposal) → n.proposal ≡ Some p → DraftSays layout (turned v i next) k p) v.nodes i next
       (λ p is. absurd (let never : None ≡ Some p = sym proposal ∙ is in cc))
       (λ k other p is.
@@ -161,6 +165,8 @@ turned_drafting layout v i next agreed turn calls proposal drafting = record {
   calls = put_each (λ k (n : Node). (j : ℕ) (c : Coordinator) → n.calls j ≡ Some c → IsNamed layout v.packets c.call.group.0 (view_in c)) v.nodes i next
       (λ j c is. absurd (let never : None ≡ Some c = sym (ap (λ (t : ℕ → Option Coordinator). t j) calls) ∙ is in cc))
       (λ k other j c is. drafting.calls k j c is);
+  jobs = put_each (λ k (n : Node). (j : Job) → n.job ≡ Some j → IsNamed layout v.packets j.group.0 j.view) v.nodes i next
+      (λ j is. absurd (let never : None ≡ Some j = sym job ∙ is in cc)) (λ k other j is. drafting.jobs k j is);
 }
 
 -- what is kept of a message whose handling was cut short is a turn
@@ -186,7 +192,7 @@ absorbed_turn setting v called agreed drafting packet sent = by packet.message r
     by (Message.Learn group view) is =
         (learn_says setting v agreed drafting packet.from packet.to group view
         (subst (λ (z : Message). IsSent v.packets (record { from = packet.from; to = packet.to; message = z })) is sent)).turn
-    by (Message.Synced group view) is = no_turn setting.layout v.packets (v.nodes packet.to.0) (v.nodes packet.to.0) (refl, refl)
+    by (Message.Synced group number) is = synced_turn setting.layout v.packets (v.nodes packet.to.0) group number
     by (Message.Client ask) is = no_turn setting.layout v.packets (v.nodes packet.to.0) (v.nodes packet.to.0) (refl, refl)
     by (Message.ClientReply id answered) is = no_turn setting.layout v.packets (v.nodes packet.to.0) (v.nodes packet.to.0) (refl, refl)
 
@@ -207,6 +213,7 @@ left_turn setting v called agreed drafting brick None sent = record {
       (no_turn setting.layout v.packets (v.nodes brick.0) (v.nodes brick.0) (refl, refl));
   calls = refl;
   proposal = refl;
+  job = refl;
 }
 left_turn setting v called agreed drafting brick (Some packet) sent =
     cond_both (nat_eq packet.to.0 brick.0) (stopped (absorbed setting brick (v.nodes brick.0) packet)) (stopped (v.nodes brick.0))
@@ -218,12 +225,14 @@ left_turn setting v called agreed drafting brick (Some packet) sent =
           (absorbed_turn setting v called agreed drafting packet (sent packet refl)));
       calls = refl;
       proposal = refl;
+      job = refl;
     })
     (λ elsewhere. record {
       turn = turn_like setting.layout v.packets (v.nodes brick.0) (v.nodes brick.0) (stopped (v.nodes brick.0)) (stopped (v.nodes brick.0)) (refl, refl) (refl, refl)
           (no_turn setting.layout v.packets (v.nodes brick.0) (v.nodes brick.0) (refl, refl));
       calls = refl;
       proposal = refl;
+      job = refl;
     })
   where
     same_brick : nat_eq packet.to.0 brick.0 ≡ true → packet.to ≡ brick
@@ -239,7 +248,8 @@ received_says setting limits v called agreed drafting now packet sent = by packe
     quiet : StepSays setting.layout v packet.to.0 (v.nodes packet.to.0) []
     quiet =
         quiet_step setting.layout v packet.to.0 (v.nodes packet.to.0) [] agreed drafting
-        (no_turn setting.layout v.packets (v.nodes packet.to.0) (v.nodes packet.to.0) (refl, refl)) (λ k c at. drafting.calls packet.to.0 k c at) refl
+        (no_turn setting.layout v.packets (v.nodes packet.to.0) (v.nodes packet.to.0) (refl, refl)) (λ k c at. drafting.calls packet.to.0 k c at)
+        (λ j at. drafting.jobs packet.to.0 j at) refl
         (each_none (IsQuiet setting.layout))
 
     by : (message : Message) → packet.message ≡ message
@@ -254,7 +264,7 @@ received_says setting limits v called agreed drafting now packet sent = by packe
     by (Message.Learn group view) is =
         learn_says setting v agreed drafting packet.from packet.to group view
         (subst (λ (z : Message). IsSent v.packets (record { from = packet.from; to = packet.to; message = z })) is sent)
-    by (Message.Synced group view) is = quiet
+    by (Message.Synced group number) is = synced_says setting v agreed drafting packet.to group number
     by (Message.Client ask) is = quiet
     by (Message.ClientReply id answered) is = quiet
 
@@ -286,7 +296,7 @@ restarted_agreement : (setting : Setting) (packets : List Packet) (votes : ℕ �
 unfolding restarted
 restarted_agreement setting packets votes nodes i openings agreed drafting = (
   placed_agrees setting.layout (record { packets = packets; votes = votes; nodes = nodes }) i (restarted openings (nodes i)) (refl, refl) agreed,
-  placed_drafting setting.layout (record { packets = packets; votes = votes; nodes = nodes }) i (restarted openings (nodes i)) (refl, refl) refl refl drafting,
+  placed_drafting setting.layout (record { packets = packets; votes = votes; nodes = nodes }) i (restarted openings (nodes i)) (refl, refl) refl refl refl drafting,
 )
 
 -- a brick that stops too
@@ -295,7 +305,7 @@ stopped_agreement : (setting : Setting) (v : ViewWorld) (i : ℕ) → Agreed set
 unfolding stopped
 stopped_agreement setting v i agreed drafting = (
   placed_agrees setting.layout v i (stopped (v.nodes i)) (refl, refl) agreed,
-  placed_drafting setting.layout v i (stopped (v.nodes i)) (refl, refl) refl refl drafting,
+  placed_drafting setting.layout v i (stopped (v.nodes i)) (refl, refl) refl refl refl drafting,
 )
 
 -- an operation that begins leaves what its brick keeps of views
@@ -330,6 +340,10 @@ agreement_cases setting limits w calls was = record {
       stepped_agreement setting w brick (proposed setting brick (w.nodes brick.0) group members)
       (up_not_down setting.layout w brick (and_parts (is_up setting.layout w brick) _ may).0) calls.called was
       (proposed_says setting (view_world w) calls.called was.agreed was.drafting brick group members);
+  syncs = λ brick group may.
+      stepped_agreement setting w brick (synced_at setting brick (w.clocks brick.0) (w.nodes brick.0) group)
+      (up_not_down setting.layout w brick (and_parts (is_up setting.layout w brick) _ may).0) calls.called was
+      (sync_says setting (view_world w) was.agreed was.drafting brick (w.clocks brick.0) group);
   handles = λ number packet at up.
       stepped_agreement setting (world_counting setting w number packet) packet.to (step_on setting w packet) (up_not_down setting.layout w packet.to up)
       calls.called (record { agreed = was.agreed; drafting = was.drafting; left = was.left })
@@ -366,7 +380,7 @@ agreement_cases setting limits w calls was = record {
       let before_is = restarted_agreement setting w.packets w.choices.votes w.nodes brick.0 openings was.agreed was.drafting in
       let after_is = restarted_agreement setting w.packets (turned (view_world w) brick.0 after).votes (put w.nodes brick.0 after) brick.0 openings
       (turn_agrees setting.layout (view_world w) brick.0 after was.agreed left.turn)
-      (turned_drafting setting.layout (view_world w) brick.0 after was.agreed left.turn left.calls left.proposal was.drafting) in
+      (turned_drafting setting.layout (view_world w) brick.0 after was.agreed left.turn left.calls left.proposal left.job was.drafting) in
       started_each (Agreement setting.layout) w brick openings
       (record {
         agreed = before_is.0;
@@ -414,6 +428,7 @@ first_agreement layout = record {
   drafting = record {
     drafts = λ i p is. absurd (let never : None ≡ Some p = is in cc);
     calls = λ i k c is. absurd (let never : None ≡ Some c = is in cc);
+    jobs = λ i j is. absurd (let never : None ≡ Some j = is in cc);
   };
   left = λ i down. absurd (false≢true (sym down));
 }

@@ -16,27 +16,31 @@ use Rattle.messages.specs.declared.requests.Request.{Request}
 use Rattle.quorum.specs.Memberships.{is_membership}
 use Rattle.protocol.specs.Settings.{Setting}
 use Rattle.protocol.specs.Proposals.{Proposal, ballot_request, ballot_packets}
-use Rattle.protocol.specs.Coordinators.{Coordinator, request_of}
-use Rattle.protocol.specs.Nodes.{Node, NodeStep, sending, phase_packets, group_at, new_coordinator, opened, began, invoked, view_in, resent_up_to, ballot_resent, ticked, new_proposal, proposing, proposed_in, proposed}
+use Rattle.protocol.specs.Coordinators.{Coordinator, request_of, asked_group}
+use Rattle.protocol.specs.Nodes.{Node, NodeStep, sending, phase_packets, group_at, new_coordinator, coordinator_in, reading, synced_at, opened, began, invoked, view_in, resent, resent_up_to, calls_but_read, job_call, ballot_resent, ticked, new_proposal, proposing, proposed_in, proposed}
 use Rattle.protocol.proofs.Packets.{OfEach, each_none, each_both, each_member, each_ballot, each_ticked, each_ballot_resent}
 use Rattle.protocol.proofs.Tables.{put_each}
 use Rattle.view_laws.proofs.FirstTold.{first_told}
 use Rattle.view_laws.proofs.Histories.{ViewWorld, IsNamed, accept_in, accept_is, history, PacketSays, MessageSays, Extends, name_stays, known_taught, taught_stays, kept_is}
 use Rattle.view_laws.proofs.Agreeing.{Agreed, Turn, turned, sending_more}
 use Rattle.view_laws.proofs.Calling.{Called, unproposed}
+use Rattle.protocol.specs.Jobs.{Job, begun_job, job_ask}
+use Rattle.view_laws.proofs.SyncReads.{each_tick, synced_at_each}
 use Rattle.view_laws.proofs.Drafting.{DraftSays, Drafting, draft_stays, still_unproposed, StepSays, step_extends}
 use Rattle.view_laws.proofs.Requesting.{no_turn}
-use Rattle.view_laws.proofs.Replying.{IsQuiet, phase_quiet, same_accept, view_from}
+use Rattle.view_laws.proofs.Replying.{IsQuiet, phase_quiet, same_accept, view_from, read_named}
 
 -- a step that leaves the proposal as it was, and sends what owes nothing
 pub quiet_step : (layout : Layout) (v : ViewWorld) (i : ℕ) (next : Node) (new : List Packet) → Agreed layout v → Drafting layout v
     → Turn layout v.packets (v.nodes i) next
     → ((k : ℕ) (c : Coordinator) → next.calls k ≡ Some c → IsNamed layout v.packets c.call.group.0 (view_in c))
+    → ((j : Job) → next.job ≡ Some j → IsNamed layout v.packets j.group.0 j.view)
     → next.proposal ≡ (v.nodes i).proposal → OfEach (IsQuiet layout) new → StepSays layout v i next new
-quiet_step layout v i next new agreed drafting turn calls proposal quiet = record {
+quiet_step layout v i next new agreed drafting turn calls jobs proposal quiet = record {
   turn = turn;
   body = record {
     calls = calls;
+    jobs = jobs;
     drafts = λ q is. draft_stays layout v (sending_more (turned v i next) new) i q (step_extends layout v i next new agreed turn)
         (λ unasked. still_unproposed v.packets new q.call.group.0 q.view.number.0 q.ballot ((drafting.drafts i q (sym proposal ∙ is)).unasked unasked)
         (λ k packet members at asks. (quiet k packet at).none q.call.group.0 q.view.number.0 q.ballot members asks))
@@ -56,7 +60,7 @@ invoked_says setting v agreed drafting me now ask = by (group_at setting.layout 
         → (let step = began setting me now (v.nodes me.0) ask z in StepSays setting.layout v me.0 step.node step.packets)
     by None is =
         quiet_step setting.layout v me.0 (v.nodes me.0) [] agreed drafting (no_turn setting.layout v.packets (v.nodes me.0) (v.nodes me.0) (refl, refl))
-        (λ k c at. drafting.calls me.0 k c at) refl (each_none (IsQuiet setting.layout))
+        (λ k c at. drafting.calls me.0 k c at) (λ j at. drafting.jobs me.0 j at) refl (each_none (IsQuiet setting.layout))
     by (Some group) is =
         let node : Node = v.nodes me.0 in
         let c : Coordinator = new_coordinator group me now node ask in
@@ -71,9 +75,38 @@ invoked_says setting v agreed drafting me now ask = by (group_at setting.layout 
         c.call.seq (Some c)
         (λ d same. subst (λ (z : Coordinator). IsNamed setting.layout v.packets z.call.group.0 (view_in z)) (same_Some c d same) named)
         (λ k other d at. drafting.calls me.0 k d at))
-        refl
+        (λ j at. drafting.jobs me.0 j at) refl
         (each_member (IsQuiet setting.layout) me c.call (request_of setting.code c) (λ seat to. phase_quiet setting.layout setting.code me to c.call c seat) 0
-        c.group.members)
+        (asked_group c).members)
+
+-- a synchronisation begins in the view that its brick has learnt
+pub sync_says : (setting : Setting) (v : ViewWorld) → Agreed setting.layout v → Drafting setting.layout v → (me : BrickId) (now : ℕ) (group : GroupId)
+    → (let step = synced_at setting me now (v.nodes me.0) group in StepSays setting.layout v me.0 step.node step.packets)
+sync_says setting v agreed drafting me now group =
+    synced_at_each (λ (step : NodeStep). StepSays setting.layout v me.0 step.node step.packets) setting me now (v.nodes me.0) group quiet (λ answer. quiet)
+    (λ answer. quiet_step setting.layout v me.0 _ [] agreed drafting (no_turn setting.layout v.packets (v.nodes me.0) _ (refl, refl))
+    (λ k c at. drafting.calls me.0 k c at) (λ j same. absurd (let never : None ≡ Some j = same in cc)) refl (each_none (IsQuiet setting.layout)))
+    (λ kept is.
+    let node : Node = v.nodes me.0 in
+    let job : Job = begun_job group (node.learnt group.0).view in
+    let d : Coordinator = coordinator_in kept job.view me now node (job_ask job) in
+    quiet_step setting.layout v me.0 (reading node job d) (phase_packets setting me d) agreed drafting
+    (no_turn setting.layout v.packets node (reading node job d) (refl, refl))
+    (put_each (λ k (o : Option Coordinator). (c : Coordinator) → o ≡ Some c → IsNamed setting.layout v.packets c.call.group.0 (view_in c)) node.calls
+    d.call.seq (Some d)
+    (λ c same. subst (λ (z : Coordinator). IsNamed setting.layout v.packets z.call.group.0 (view_in z)) (same_Some d c same)
+    (read_named setting.layout v.packets job kept is me now node job.attempt (agreed.learnt me.0 group.0)))
+    (λ k other c at. drafting.calls me.0 k c at))
+    (λ j same. subst (λ (z : Job). IsNamed setting.layout v.packets z.group.0 z.view) (same_Some (record job { seq = d.call.seq }) j same)
+    (agreed.learnt me.0 group.0))
+    refl
+    (each_member (IsQuiet setting.layout) me d.call (request_of setting.code d) (λ seat to. phase_quiet setting.layout setting.code me to d.call d seat) 0
+    (asked_group d).members))
+  where
+    quiet : StepSays setting.layout v me.0 (v.nodes me.0) []
+    quiet =
+        quiet_step setting.layout v me.0 (v.nodes me.0) [] agreed drafting (no_turn setting.layout v.packets (v.nodes me.0) (v.nodes me.0) (refl, refl))
+        (λ k c at. drafting.calls me.0 k c at) (λ j at. drafting.jobs me.0 j at) refl (each_none (IsQuiet setting.layout))
 
 -- a request to promise asks to accept nothing
 never_accept : (call other : Call) (b c : Ballot) (members : List BrickId)
@@ -90,7 +123,7 @@ proposed_says setting v called agreed drafting me group members = by (group_of s
     quiet : StepSays setting.layout v me.0 (v.nodes me.0) []
     quiet =
         quiet_step setting.layout v me.0 (v.nodes me.0) [] agreed drafting (no_turn setting.layout v.packets (v.nodes me.0) (v.nodes me.0) (refl, refl))
-        (λ k c at. drafting.calls me.0 k c at) refl (each_none (IsQuiet setting.layout))
+        (λ k c at. drafting.calls me.0 k c at) (λ j at. drafting.jobs me.0 j at) refl (each_none (IsQuiet setting.layout))
 
     none_before : (base : Group) (e : ℕ) (z : Option (List BrickId))
         → first_told (λ packet. accept_in group.0 e (new_proposal me (v.nodes me.0) base.m group members).ballot packet.message) v.packets ≡ z → z ≡ None
@@ -119,6 +152,7 @@ proposed_says setting v called agreed drafting me group members = by (group_of s
           turn = turn;
           body = record {
             calls = λ k c at. drafting.calls me.0 k c at;
+            jobs = λ j at. drafting.jobs me.0 j at;
             drafts = λ q same. subst (λ (z : Proposal). DraftSays setting.layout (sending_more (turned v me.0 next) new) me.0 z) (same_Some p q same)
                 (record {
                   group = base;
@@ -153,13 +187,13 @@ pub ticked_says : (setting : Setting) (v : ViewWorld) → Agreed setting.layout 
 unfolding ticked
 ticked_says setting v agreed drafting me =
     let node : Node = v.nodes me.0 in
-    let new : List Packet = resent_up_to setting me node.calls node.seq ++ ballot_resent me node.proposal in
+    let new : List Packet = resent_up_to setting me (calls_but_read node.calls node.job) node.seq
+    ++ (ballot_resent me node.proposal ++ resent setting me (job_call node.calls node.job)) in
     let turn : Turn setting.layout v.packets node node = no_turn setting.layout v.packets node node (refl, refl) in
     let extends : Extends setting.layout v (sending_more (turned v me.0 node) new) = step_extends setting.layout v me.0 node new agreed turn in
-    let accepts : OfEach Accepts new = each_both Accepts (resent_up_to setting me node.calls node.seq) (ballot_resent me node.proposal)
-    (each_ticked Accepts setting me node.calls node.seq
+    let accepts : OfEach Accepts new = each_tick Accepts setting me node.calls
     (λ j c is seat to g e b members asks. absurd ((phase_quiet setting.layout setting.code me to c.call c seat).none g e b members asks))
-    (λ j c is later from to g e b members asks. absurd (let never : None ≡ Some members = asks in cc)))
+    (λ j c is later from to g e b members asks. absurd (let never : None ≡ Some members = asks in cc)) node.job node.seq node.proposal
     (each_ballot_resent Accepts me node.proposal
     (λ p is to. ballot_accepts p.asks p refl (drafting.drafts me.0 p is) to)
     (λ p is later from to g e b members asks. absurd (let never : None ≡ Some members = asks in cc))) in
@@ -167,6 +201,7 @@ ticked_says setting v agreed drafting me =
       turn = turn;
       body = record {
         calls = λ k c at. drafting.calls me.0 k c at;
+        jobs = λ j at. drafting.jobs me.0 j at;
         drafts = λ q is. draft_stays setting.layout v (sending_more (turned v me.0 node) new) me.0 q extends
             (λ unasked. still_unproposed v.packets new q.call.group.0 q.view.number.0 q.ballot ((drafting.drafts me.0 q is).unasked unasked)
             (λ k packet members at asks.
@@ -174,12 +209,11 @@ ticked_says setting v agreed drafting me =
             ∙ accepts k packet at q.call.group.0 q.view.number.0 q.ballot members asks in cc))
             (drafting.drafts me.0 q is);
         accepts = λ k packet at g e b members asks. inl (accepts k packet at g e b members asks);
-        says = each_both (PacketSays setting.layout (sending_more (turned v me.0 node) new)) (resent_up_to setting me node.calls node.seq)
-            (ballot_resent me node.proposal)
-            (each_ticked (PacketSays setting.layout (sending_more (turned v me.0 node) new)) setting me node.calls node.seq
+        says = each_tick (PacketSays setting.layout (sending_more (turned v me.0 node) new)) setting me node.calls
             (λ j c is seat to. (phase_quiet setting.layout setting.code me to c.call c seat).says (sending_more (turned v me.0 node) new))
             (λ j c is later from to. taught_stays setting.layout v (sending_more (turned v me.0 node) new) c.call.group.0 (view_in c) extends
-            (known_taught setting.layout v c.call.group.0 (view_in c) agreed.says (drafting.calls me.0 j c is) later)))
+            (known_taught setting.layout v c.call.group.0 (view_in c) agreed.says (drafting.calls me.0 j c is) later))
+            node.job node.seq node.proposal
             (each_ballot_resent (PacketSays setting.layout (sending_more (turned v me.0 node) new)) me node.proposal
             (λ p is to. ballot_says (sending_more (turned v me.0 node) new) extends p.asks p refl (drafting.drafts me.0 p is) to)
             (λ p is later from to. taught_stays setting.layout v (sending_more (turned v me.0 node) new) p.call.group.0 p.view extends

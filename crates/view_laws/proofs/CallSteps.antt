@@ -18,22 +18,24 @@ use Rattle.messages.specs.declared.requests.Request.{Request}
 use Rattle.messages.specs.declared.replies.Reply.{Reply}
 use Rattle.quorum.specs.Memberships.{is_membership}
 use Rattle.protocol.specs.declared.phases.Phase.{Phase}
-use Rattle.protocol.specs.declared.phases.Phase.TheVariants.{Looks, LooksAt, Orders, OrdersAt, Recovers, Descends, Modifies, Bases, Stores}
+use Rattle.protocol.specs.declared.phases.Phase.TheVariants.{Looks, LooksAt, Orders, OrdersAt, Recovers, Descends, Modifies, Bases, Stores, LooksBack}
 use Rattle.protocol.specs.declared.tellings.ViewAnswer.{ViewAnswer}
 use Rattle.protocol.specs.declared.tellings.ViewAnswer.TheVariants as answer
 use Rattle.protocol.specs.Settings.{Setting, Code}
 use Rattle.synod_laws.specs.Synods.{value_or}
 use Rattle.protocol.specs.Replicas.{handle}
 use Rattle.protocol.specs.Proposals.{Proposal, Voting, ballot_request, ballot_packets, round_after, with_voice, asking, greatest_choice, voted}
-use Rattle.protocol.specs.Coordinators.{Coordinator, Next, Ignores, Waits, Sends, Makes, Ends, request_of, on_reply}
-use Rattle.protocol.specs.Nodes.{Node, NodeStep, put, no_step, sending, with_known, with_round, known_after, phase_packets, invoked, began, group_at, new_coordinator, fresh_stamp, requested, full_at, replica_at, vote_at, carried_out, ended_packets, carried_ballot, replied_ballot, replied_at, view_counted, replied, lists_fit, heard, received, absorbed, ticked, resent_up_to, ballot_resent, proposed, proposed_in, new_proposal, proposing, stopped, restarted, may_open}
+use Rattle.protocol.specs.Coordinators.{Coordinator, Next, Ignores, Waits, Sends, Makes, Ends, request_of, on_reply, asked_group}
+use Rattle.protocol.specs.Nodes.{Node, NodeStep, put, no_step, sending, with_known, with_round, known_after, carried_for, job_reading, synced_at, collect_packets, phase_packets, invoked, began, group_at, new_coordinator, fresh_stamp, requested, full_at, replica_at, vote_at, carried_out, ended_packets, carried_ballot, replied_ballot, replied_at, view_counted, replied, lists_fit, heard, received, absorbed, ticked, resent_up_to, ballot_resent, proposed, proposed_in, new_proposal, proposing, stopped, restarted, may_open, read_closed, synced_packets}
 use Rattle.protocol.specs.Worlds.{World, Event, first_world, is_up, packet_during, left_after, world_stepped, run}
 use Rattle.protocol.proofs.Events.{EventCases, step_on, world_counting, always, started_each, stepped_each}
 use Rattle.protocol.proofs.Packets.{OfEach, each_none, each_both, each_member, each_collect, each_reply, each_learn, each_ticked, each_ballot, each_ballot_resent}
 use Rattle.protocol.proofs.Served.{request_each}
 use Rattle.protocol.proofs.Tables.{put_each, put_twice}
+use Rattle.protocol.specs.Jobs.{Job, begun_job}
+use Rattle.view_laws.proofs.SyncReads.{carried_each, synced_at_each, each_synced, each_tick, read_call}
 use Rattle.view_laws.proofs.Calling.{OfBallot, OfBallots, ballots_map, IsOldDraft, IsNewDraft, IsOfDraft, StepCalls, Called, own_calls, called_after}
-use Rattle.view_laws.proofs.Owning.{taught_own, learnt_own, absorbed_own}
+use Rattle.view_laws.proofs.Owning.{taught_own, learnt_own, absorbed_own, synced_own}
 use Rattle.view_laws.proofs.Votings.{voting_each}
 
 -- what a phase of an operation asks for names no ballot
@@ -48,6 +50,7 @@ phase_names_none Q call code c seat = by c.phase
     by (OrdersAt j) = tt
     by Recovers = tt
     by (Descends bound) = tt
+    by (LooksBack bound) = tt
     by (Modifies base j) = tt
     by (Bases base) = tt
     by Stores = tt
@@ -96,7 +99,7 @@ ends_calls i node next new boot seq round proposal none = record {
 -- nor does what a phase of an operation sends
 phase_none : (setting : Setting) (me : BrickId) (c : Coordinator) → OfEach NamesNone (phase_packets setting me c)
 phase_none setting me c =
-    each_member NamesNone me c.call (request_of setting.code c) (λ seat to. phase_names_none (λ call b. ⊥) c.call setting.code c seat) 0 c.group.members
+    each_member NamesNone me c.call (request_of setting.code c) (λ seat to. phase_names_none (λ call b. ⊥) c.call setting.code c seat) 0 (asked_group c).members
 
 -- an operation begins
 pub invoked_calls : (setting : Setting) (me : BrickId) (now : ℕ) (node : Node) (ask : Ask)
@@ -131,6 +134,38 @@ carried_calls setting me node known c (Sends d) = still_calls me.0 node _ _ refl
 carried_calls setting me node known c (Makes d) = still_calls me.0 node _ _ refl (omega arith) (omega arith) refl (phase_none setting me d)
 carried_calls setting me node known c (Ends answered seen stored) =
     still_calls me.0 node _ _ refl (omega arith) (omega arith) refl (each_collect NamesNone me c stored (λ t to. tt))
+
+-- so is what the coordinator of a synchronisation's read decided
+carried_for_calls : (setting : Setting) (me : BrickId) (now : ℕ) (node : Node) (known : ℕ) (c : Coordinator) (next : Next) (reading : Option Job)
+    → StepCalls me.0 node (carried_for setting me now node known c next reading).node (carried_for setting me now node known c next reading).packets
+carried_for_calls setting me now node known c next reading =
+    carried_each (λ (step : NodeStep). StepCalls me.0 node step.node step.packets) setting me now node known c next reading
+    (carried_calls setting me node known c next)
+    (λ job is answered seen stored ends.
+    let collects = each_collect NamesNone me c stored (λ t to. tt) in
+    let closed : NodeStep = read_closed me node known c answered seen stored in
+    record {
+      stays = still_calls me.0 node _ _ refl (omega arith) (omega arith) refl (each_both NamesNone (collect_packets me c stored) [] collects (each_none NamesNone));
+      ends = λ answer. still_calls me.0 node _ _ refl (omega arith) (omega arith) refl
+          (each_both NamesNone (collect_packets me c stored) [] collects (each_none NamesNone));
+      finishes = still_calls me.0 node _ _ refl (omega arith) (omega arith) refl
+          (each_both NamesNone (collect_packets me c stored) (synced_packets me job.group job.view.number setting.layout.bricks 0) collects
+          (each_synced NamesNone me job.group job.view.number (λ to. tt) setting.layout.bricks 0));
+      reads = λ attempt group kept. still_calls me.0 node _ _ refl (omega arith) (omega arith) refl
+          (each_both NamesNone (collect_packets me c stored) (phase_packets setting me (read_call group (record job { attempt = attempt }) me now closed.node)) collects
+          (phase_none setting me (read_call group (record job { attempt = attempt }) me now closed.node)));
+    })
+
+-- a synchronisation begins
+pub synced_calls : (setting : Setting) (me : BrickId) (now : ℕ) (node : Node) (group : GroupId)
+    → StepCalls me.0 node (synced_at setting me now node group).node (synced_at setting me now node group).packets
+synced_calls setting me now node group =
+    synced_at_each (λ (step : NodeStep). StepCalls me.0 node step.node step.packets) setting me now node group
+    (still_calls me.0 node node [] refl (omega arith) (omega arith) refl (each_none NamesNone))
+    (λ answer. still_calls me.0 node node [] refl (omega arith) (omega arith) refl (each_none NamesNone))
+    (λ answer. still_calls me.0 node _ [] refl (omega arith) (omega arith) refl (each_none NamesNone))
+    (λ kept is. still_calls me.0 node _ _ refl (omega arith) (omega arith) refl
+    (phase_none setting me (read_call kept (begun_job group (node.learnt group.0).view) me now node)))
 
 -- an end of a proposal names no ballot
 ended_none : (layout : Layout) (me : BrickId) (p : Proposal) (ended : ViewAnswer) → OfEach NamesNone (ended_packets layout me p ended)
@@ -261,8 +296,9 @@ heard_calls setting me from now node call reply =
     at_call None = at_proposal node.proposal refl
     at_call (Some c) =
         from_round me.0 node (with_round node reply) _ _ refl refl (round_rises node.round reply) refl
-        (carried_calls setting me (with_round node reply) (known_after node.known reply) c
-        (on_reply setting.layout.block setting.code (fresh_stamp me c.call.view now node.boot (known_after node.known reply)) c from call reply))
+        (carried_for_calls setting me now (with_round node reply) (known_after node.known reply) c
+        (on_reply setting.layout.block setting.code (fresh_stamp me c.stamp.view now node.boot (known_after node.known reply)) c from call reply)
+        (job_reading node.job c.call.seq))
 
 -- a message is handled
 pub received_calls : (setting : Setting) (me : BrickId) (now : ℕ) (node : Node) (packet : Packet)
@@ -278,7 +314,7 @@ received_calls setting me now node packet = by packet.message
     by (Message.Request call request) = requested_calls setting me packet.from node call request
     by (Message.Reply call reply) = heard_calls setting me packet.from now node call reply
     by (Message.Learn group view) = own_calls me.0 node node _ [] (learnt_own setting.layout node group view) quiet
-    by (Message.Synced group view) = quiet
+    by (Message.Synced group number) = own_calls me.0 node node _ [] (synced_own setting.layout node group number) quiet
     by (Message.Client ask) = quiet
     by (Message.ClientReply id answered) = quiet
 
@@ -331,9 +367,8 @@ ticked_calls setting me node = record {
     seq = omega arith;
     round = omega arith;
   });
-  packets = each_both P (resent_up_to setting me node.calls node.seq) (ballot_resent me node.proposal)
-      (each_ticked P setting me node.calls node.seq (λ j c is seat to. phase_names_none (IsOfDraft me.0 node me.0) c.call setting.code c seat)
-      (λ j c is later from to. tt))
+  packets = each_tick P setting me node.calls (λ j c is seat to. phase_names_none (IsOfDraft me.0 node me.0) c.call setting.code c seat)
+      (λ j c is later from to. tt) node.job node.seq node.proposal
       (each_ballot_resent P me node.proposal
       (λ p is to. phase_names (IsOfDraft me.0 node me.0) p.call p (record { from_is = refl; draft = p; is = is; boot = refl; seq = refl; ballot = refl }))
       (λ p is later from to. tt));
@@ -374,7 +409,7 @@ pub stepped_up : (setting : Setting) (w : World) (me : BrickId) (step : NodeStep
     → ((world_stepped setting w me step).up ≡ w.up) × ((world_stepped setting w me step).after ≡ w.after)
 stepped_up setting w me step =
     stepped_each (λ (x : World). (x.up ≡ w.up) × (x.after ≡ w.after)) setting me step (λ x seq t base holds. holds) (λ x seq t holds. holds)
-    (λ x answered holds. holds) (λ x nodes held packets choices holds. holds) w (refl, refl)
+    (λ x nodes call holds. holds) (λ x seq cause holds. holds) (λ x answered holds. holds) (λ x nodes held packets choices holds. holds) w (refl, refl)
 
 -- what holds of each stopped brick and what it left holds after a brick that is up has changed
 pub left_stays : (P : Node → Node → Type 0) (up : ℕ → Bool) (nodes after : ℕ → Node) (i : ℕ) (next : Node) → up i ≡ true
@@ -456,6 +491,10 @@ calls_cases setting w calls = record {
       let up = up_not_down setting.layout w brick (and_parts (is_up setting.layout w brick) _ may).0 in
       stepped w brick (proposed setting brick (w.nodes brick.0) group members) up calls.called calls.left
       (proposed_calls setting brick (w.nodes brick.0) group members);
+  syncs = λ brick group may.
+      let up = up_not_down setting.layout w brick (and_parts (is_up setting.layout w brick) _ may).0 in
+      stepped w brick (synced_at setting brick (w.clocks brick.0) (w.nodes brick.0) group) up calls.called calls.left
+      (synced_calls setting brick (w.clocks brick.0) (w.nodes brick.0) group);
   handles = λ number packet at is_up_now.
       stepped (world_counting setting w number packet) packet.to (step_on setting w packet) (up_not_down setting.layout w packet.to is_up_now) calls.called calls.left
       (received_calls setting packet.to (w.clocks packet.to.0) (w.nodes packet.to.0) packet);

@@ -1,4 +1,8 @@
 -- A brick that has closed a view keeps it closed, takes nothing for a stripe of it, and serves it no more.
+use Rattle.view_laws.proofs.SyncReads.{carried_each, synced_at_each, each_synced, each_tick, read_call}
+use Rattle.protocol.specs.Jobs.{Job, begun_job}
+use Rattle.fab_base.specs.declared.identities.ViewNo.{ViewNo}
+use Rattle.view_laws.proofs.Syncing.{synced_each, synced_of}
 use Rattle.std.proofs.Common.{◌≡◌, ℕ, zero, suc, ◌+◌, ◌-◌, ◌<◌, ◌≤◌, Bool, true, false, ◌&&◌, ◌||◌, ◌⊎◌, inl, inr, ⊎_elim, List, [], ◌∷◌, Option, Some, None, refl, sym, ap, ◌∙◌, subst, arith, nat_lt, nat_eq, is_some}
 use Rattle.std.specs.Prelude.{slice_get, filter, ◌^◌}
 use Rattle.std.specs.Option.{option_map}
@@ -24,15 +28,15 @@ use Rattle.protocol.specs.declared.tellings.ViewAnswer.{ViewAnswer}
 use Rattle.protocol.specs.declared.tellings.ViewAnswer.TheVariants as answer
 use Rattle.protocol.specs.Settings.{Setting}
 use Rattle.protocol.specs.Views.{Learnt, first_kept, is_later, learns}
-use Rattle.protocol.specs.Replicas.{Replica, Reaction, fresh_replica, is_held, ignored, collected, handle}
+use Rattle.protocol.specs.Replicas.{Replica, Reaction, fresh_replica, is_held, ignored, collected, handle, newest_of, under}
 use Rattle.protocol.specs.Ballots.{moved_to, outbidding, granting, unless_barred, voting}
 use Rattle.protocol.specs.Proposals.{Proposal, Voting, Ignored, Waited, Asks, Ended, voted}
-use Rattle.protocol.specs.Coordinators.{Coordinator, Next, Ignores, Waits, Sends, Makes, Ends, request_of, on_reply}
-use Rattle.protocol.specs.Nodes.{Node, NodeStep, view_at, has_accepted, put, no_step, sending, with_known, with_round, known_after, fresh_stamp, group_at, began, invoked, phase_packets, replica_at, full_at, moved_at, vote_at, voted_on, requested, with_learnt, node_taught, node_taught_by, may_teach, node_learnt, view_counted, carried_out, ended_packets, carried_ballot, replied_ballot, replied_at, replied, lists_fit, heard, received, absorbed, resent_up_to, ballot_resent, ticked, new_proposal, proposing, proposed_in, proposed, stopped, restarted}
+use Rattle.protocol.specs.Coordinators.{Coordinator, Next, Ignores, Waits, Sends, Makes, Ends, request_of, on_reply, asked_group}
+use Rattle.protocol.specs.Nodes.{Node, NodeStep, view_at, has_accepted, put, no_step, sending, with_known, with_round, known_after, fresh_stamp, group_at, began, invoked, phase_packets, replica_at, full_at, moved_at, vote_at, voted_on, requested, with_learnt, node_taught, node_taught_by, may_teach, node_learnt, view_counted, carried_out, ended_packets, carried_ballot, replied_ballot, replied_at, replied, lists_fit, heard, received, absorbed, resent_up_to, ballot_resent, ticked, new_proposal, proposing, proposed_in, proposed, stopped, restarted, node_synced, old_reply, new_coordinator, synced_at, carried_for, job_reading, collect_packets, read_closed, synced_packets}
 use Rattle.protocol.specs.Worlds.{World, Event, first_world, is_up, packet_during, left_after, world_stepped, run}
 use Rattle.protocol.proofs.Events.{EventCases, step_on, world_counting, always, started_each}
 use Rattle.protocol.proofs.Packets.{OfEach, each_none, each_both, each_member, each_collect, each_reply, each_learn, each_ticked, each_ballot, each_ballot_resent}
-use Rattle.protocol.proofs.Served.{IsCollect, IsServed, request_each, parts_each}
+use Rattle.protocol.proofs.Served.{IsCollect, IsServed, request_each, parts_each, IsTold, TellsOld}
 use Rattle.protocol.proofs.Tables.{put_each, put_twice}
 use Rattle.view_laws.specs.Successors.{has_closed, IsKeptIn, TakesNothing, is_serving}
 use Rattle.view_laws.proofs.Agreeing.{StaysAt, VotesAt, LearnsAt, Turn}
@@ -161,6 +165,20 @@ learnt_takes layout node group view =
     cond_both (may_teach layout (Some view) (group_of layout group.0)) (node_taught layout.block group.0 node view) node (λ (n : Node). PartsTake layout node n)
     (λ may. taught_takes layout group.0 node node (Some view) refl) (λ isnt. parts_same layout node node refl)
 
+-- so does a message that all stripes are kept in a view, for it may drop what it kept before that
+synced_takes : (layout : Layout) (node : Node) (group : GroupId) (number : ViewNo) → PartsTake layout node (node_synced layout node group number)
+synced_takes layout node group number =
+    synced_each (λ (n : Node). PartsTake layout node n) layout node group number (parts_same layout node node refl)
+    (λ now unsynced. put_each
+    (λ h (t : ℕ → ℕ → Replica). (e s : ℕ) → has_closed node h e ≡ true → TakesNothing (fresh_replica layout.block e) (node.replicas h e s) (t e s))
+    node.replicas group.0 _
+    (λ e s closed.
+    cond_both (nat_lt e (first_kept (synced_of node group.0))) (fresh_replica layout.block e) (node.replicas group.0 e s)
+    (λ (z : Replica). TakesNothing (fresh_replica layout.block e) (node.replicas group.0 e s) z)
+    (λ dropped. takes_fresh (fresh_replica layout.block e) (node.replicas group.0 e s))
+    (λ kept. takes_same (fresh_replica layout.block e) (node.replicas group.0 e s)))
+    (λ h other e s closed. takes_same (fresh_replica layout.block e) (node.replicas h e s)))
+
 -- and so does what is kept of a message whose handling was cut short
 absorbed_takes : (setting : Setting) (me : BrickId) (node : Node) (packet : Packet) → PartsTake setting.layout node (absorbed setting me node packet)
 unfolding absorbed
@@ -175,7 +193,7 @@ absorbed_takes setting me node packet = by packet.message
         (λ fit. taught_takes setting.layout call.group.0 node node (view_counted setting.layout packet.from node call said) refl)
         (λ isnt. parts_same setting.layout node node refl)
     by (Message.Learn group view) = learnt_takes setting.layout node group view
-    by (Message.Synced group view) = parts_same setting.layout node node refl
+    by (Message.Synced group number) = synced_takes setting.layout node group number
     by (Message.Client ask) = parts_same setting.layout node node refl
     by (Message.ClientReply id answered) = parts_same setting.layout node node refl
 
@@ -223,6 +241,26 @@ moved_serves node call said =
     (λ has some. ap is_serving (sym (same_Some (reply.Moved (record { 0 = call.view.0 + 1 }) None) said some)))
     (λ hasnt none. absurd (let never : None ≡ Some said = none in cc)))
 
+-- nor does what it keeps in a view
+old_serves : (node : Node) (call : Call) (bound : Option Stamp) (said : Reply) → old_reply node call bound ≡ Some said → is_serving said ≡ false
+old_serves node call bound said =
+    cond_both (nat_lt call.view.0 (first_kept (node.learnt call.group.0))) (Some reply.Retired) _ Serves
+    (λ dropped some. ap is_serving (sym (same_Some reply.Retired said some)))
+    (λ kept.
+    cond_both (is_some (moved_at node call)) (Some (reply.Old (newest_of (under bound (replica_at node call).log)))) None Serves
+    (λ moved some. ap is_serving (sym (same_Some (reply.Old (newest_of (under bound (replica_at node call).log))) said some)))
+    (λ serves none. absurd (let never : None ≡ Some said = none in cc)))
+  where
+    Serves : Option Reply → Type 0
+    Serves z = z ≡ Some said → is_serving said ≡ false
+
+-- so nothing that a brick tells without a change serves anything
+told_serves : (node : Node) (call : Call) (request : Request) (said : Reply) → IsTold node call request said → is_serving said ≡ false
+told_serves node call request said is = ⊎_elim
+    (λ (moved : moved_at node call ≡ Some said). moved_serves node call said moved)
+    (λ (old : TellsOld node call request said). old_serves node call old.bound said old.says)
+    is
+
 -- nor does a vote
 vote_serves : (node : Node) (call : Call) (ballot : Ballot) (asks : Option (List BrickId)) → is_serving (vote_at node call ballot asks).reply ≡ false
 unfolding voting
@@ -252,7 +290,7 @@ unfolding handle
 requested_serves setting me from node call request =
     request_each (λ (step : NodeStep). OfEach (ServesNone me node) step.packets) setting me from node call request (each_none (ServesNone me node))
     (λ said is. each_reply (ServesNone me node) me from call (Some said)
-    (λ one same. reply_serves me from node call one (λ closed. subst (λ (z : Reply). is_serving z ≡ false) (same_Some said one same) (moved_serves node call said is))))
+    (λ one same. reply_serves me from node call one (λ closed. subst (λ (z : Reply). is_serving z ≡ false) (same_Some said one same) (told_serves node call request said is))))
     (λ group seat at served.
     each_reply (ServesNone me node) me from call
     (handle setting.code group.m (full_at setting.layout.records node.live) seat (replica_at node call) request).reply
@@ -282,7 +320,7 @@ sends_closes layout me node next new same tells = record { takes = parts_same la
 phase_serves : (setting : Setting) (me : BrickId) (node : Node) (c : Coordinator) → OfEach (ServesNone me node) (phase_packets setting me c)
 phase_serves setting me node c =
     each_member (ServesNone me node) me c.call (request_of setting.code c) (λ seat to. request_serves me me to node c.call (request_of setting.code c seat)) 0
-    c.group.members
+    (asked_group c).members
 
 -- an operation begins
 pub invoked_closes : (setting : Setting) (me : BrickId) (now : ℕ) (node : Node) (ask : Ask)
@@ -292,7 +330,7 @@ invoked_closes setting me now node ask = by (group_at setting.layout node ask.gr
   where
     by : (z : Option Group) → (let step = began setting me now node ask z in StepCloses setting.layout me node step.node step.packets)
     by None = sends_closes setting.layout me node node [] refl (each_none (ServesNone me node))
-    by (Some group) = sends_closes setting.layout me node _ _ refl (phase_serves setting me node _)
+    by (Some group) = sends_closes setting.layout me node _ _ refl (phase_serves setting me node (new_coordinator group me now node ask))
 
 -- a proposal begins
 pub proposed_closes : (setting : Setting) (me : BrickId) (node : Node) (group : GroupId) (members : List BrickId)
@@ -325,6 +363,49 @@ carried_closes setting me node mid known c (Makes d) same = (same, phase_serves 
 carried_closes setting me node mid known c (Ends answered seen stored) same =
     (same, each_collect (ServesNone me node) me c stored (λ t to. request_serves me me to node c.call (Request.Collect t)))
 
+-- nor is a message that all stripes are kept in a view a reply
+synced_serves : (me from to : BrickId) (node : Node) (group : GroupId) (view : ViewNo)
+    → ServesNone me node (record { from = from; to = to; message = Message.Synced group view })
+synced_serves me from to node group view other said is = cc
+
+-- so is what the coordinator of a synchronisation's read decided
+carried_for_closes : (setting : Setting) (me : BrickId) (now : ℕ) (node mid : Node) (known : ℕ) (c : Coordinator) (decision : Next) (reading : Option Job)
+    → mid.replicas ≡ node.replicas
+    → (let step = carried_for setting me now mid known c decision reading in
+    (step.node.replicas ≡ node.replicas) × OfEach (ServesNone me node) step.packets)
+carried_for_closes setting me now node mid known c decision reading same =
+    carried_each (λ (step : NodeStep). (step.node.replicas ≡ node.replicas) × OfEach (ServesNone me node) step.packets) setting me now mid known c decision reading
+    (carried_closes setting me node mid known c decision same)
+    (λ job is answered seen stored ends.
+    let collects = each_collect (ServesNone me node) me c stored (λ t to. request_serves me me to node c.call (Request.Collect t)) in
+    let closed : NodeStep = read_closed me mid known c answered seen stored in
+    record {
+      stays = (same, each_both (ServesNone me node) (collect_packets me c stored) [] collects (each_none (ServesNone me node)));
+      ends = λ answer. (same, each_both (ServesNone me node) (collect_packets me c stored) [] collects (each_none (ServesNone me node)));
+      finishes = (
+        same,
+        each_both (ServesNone me node) (collect_packets me c stored) (synced_packets me job.group job.view.number setting.layout.bricks 0) collects
+            (each_synced (ServesNone me node) me job.group job.view.number (λ to. synced_serves me me to node job.group job.view.number)
+            setting.layout.bricks 0),
+      );
+      reads = λ attempt group kept. (
+        same,
+        each_both (ServesNone me node) (collect_packets me c stored) (phase_packets setting me (read_call group (record job { attempt = attempt }) me now closed.node))
+            collects (phase_serves setting me node (read_call group (record job { attempt = attempt }) me now closed.node)),
+      );
+    })
+
+-- a synchronisation begins
+pub sync_closes : (setting : Setting) (me : BrickId) (now : ℕ) (node : Node) (group : GroupId)
+    → (let step = synced_at setting me now node group in StepCloses setting.layout me node step.node step.packets)
+sync_closes setting me now node group =
+    synced_at_each (λ (step : NodeStep). StepCloses setting.layout me node step.node step.packets) setting me now node group
+    (sends_closes setting.layout me node node [] refl (each_none (ServesNone me node)))
+    (λ answer. sends_closes setting.layout me node node [] refl (each_none (ServesNone me node)))
+    (λ answer. sends_closes setting.layout me node _ [] refl (each_none (ServesNone me node)))
+    (λ kept is. sends_closes setting.layout me node _ _ refl
+    (phase_serves setting me node (read_call kept (begun_job group (node.learnt group.0).view) me now node)))
+
 -- what a proposal decided is carried out
 ended_serves : (layout : Layout) (me : BrickId) (node : Node) (p : Proposal) (ended : ViewAnswer) → OfEach (ServesNone me node) (ended_packets layout me p ended)
 ended_serves layout me node p (answer.Decided number members) =
@@ -355,8 +436,9 @@ replied_closes setting me from now node call said None = by node.proposal
     by (Some p) =
         ballot_closes setting.layout me node (with_known (with_round node said) (known_after node.known said)) p (voted setting.layout.bricks p from call said) refl
 replied_closes setting me from now node call said (Some c) =
-    carried_closes setting me node (with_round node said) (known_after node.known said) c
-    (on_reply setting.layout.block setting.code (fresh_stamp me c.call.view now node.boot (known_after node.known said)) c from call said) refl
+    carried_for_closes setting me now node (with_round node said) (known_after node.known said) c
+    (on_reply setting.layout.block setting.code (fresh_stamp me c.stamp.view now node.boot (known_after node.known said)) c from call said)
+    (job_reading node.job c.call.seq) refl
 
 -- so a reply has a brick take nothing, and serve nothing
 heard_closes : (setting : Setting) (me from : BrickId) (now : ℕ) (node : Node) (call : Call) (said : Reply)
@@ -392,7 +474,7 @@ received_closes setting me now node packet = by packet.message
     }
     by (Message.Reply call said) = heard_closes setting me packet.from now node call said
     by (Message.Learn group view) = record { takes = learnt_takes setting.layout node group view; tells = each_none (ServesNone me node) }
-    by (Message.Synced group view) = quiet
+    by (Message.Synced group number) = record { takes = synced_takes setting.layout node group number; tells = each_none (ServesNone me node) }
     by (Message.Client ask) = quiet
     by (Message.ClientReply id answered) = quiet
 
@@ -400,9 +482,8 @@ received_closes setting me now node packet = by packet.message
 pub ticked_serves : (setting : Setting) (me : BrickId) (node : Node) → OfEach (ServesNone me node) (ticked setting me node)
 unfolding ticked
 ticked_serves setting me node =
-    each_both (ServesNone me node) (resent_up_to setting me node.calls node.seq) (ballot_resent me node.proposal)
-    (each_ticked (ServesNone me node) setting me node.calls node.seq (λ j c is seat to. request_serves me me to node c.call (request_of setting.code c seat))
-    (λ j c is later from to. learn_serves me from to node c.call.group _))
+    each_tick (ServesNone me node) setting me node.calls (λ j c is seat to. request_serves me me to node c.call (request_of setting.code c seat))
+    (λ j c is later from to. learn_serves me from to node c.call.group _) node.job node.seq node.proposal
     (each_ballot_resent (ServesNone me node) me node.proposal (λ p is to. request_serves me me to node p.call _)
     (λ p is later from to. learn_serves me from to node p.call.group p.view))
 
@@ -419,7 +500,7 @@ pub turn_closes : (layout : Layout) (packets : List Packet) (node next : Node) �
     → has_closed next g e ≡ true
 turn_closes layout packets node next turn g e closed = ⊎_elim
     (λ (stays : StaysAt node next g).
-    ap (λ (l : Learnt). closed_by l (next.ballots g)) stays.0 ∙ ap (λ (z : Kept (List BrickId)). closed_by (node.learnt g) z) stays.1 ∙ closed)
+    ap (λ (v : View). closed_in v (next.ballots g)) stays.0 ∙ ap (λ (z : Kept (List BrickId)). closed_by (node.learnt g) z) stays.1 ∙ closed)
     (λ (changes : VotesAt layout packets node next g ⊎ LearnsAt layout packets node next g). ⊎_elim
     (λ (x : VotesAt layout packets node next g).
     ap (λ (l : Learnt). closed_by l (next.ballots g)) x.learnt ∙ ap (λ (z : Kept (List BrickId)). closed_by (node.learnt g) z) x.ballots
@@ -444,10 +525,12 @@ turn_closes layout packets node next turn g e closed = ⊎_elim
     changes)
     (turn g)
   where
+    closed_in : View → Kept (List BrickId) → Bool
+    closed_in view kept =
+        nat_lt e view.number.0 || (nat_eq e view.number.0 && (nat_lt view.number.0 (2 ^ 32 - 1) && is_some (last_of kept)))
+
     closed_by : Learnt → Kept (List BrickId) → Bool
-    closed_by learnt kept =
-        nat_lt e learnt.view.number.0
-        || (nat_eq e learnt.view.number.0 && (nat_lt learnt.view.number.0 (2 ^ 32 - 1) && is_some (last_of kept)))
+    closed_by learnt kept = closed_in learnt.view kept
 
 -- ---- worlds
 
@@ -472,6 +555,9 @@ left_cases setting w left = record {
       (up_not_down setting.layout w brick (and_parts (is_up setting.layout w brick) _ may).0) left;
   proposes = λ brick group members may.
       stepped w brick (proposed setting brick (w.nodes brick.0) group members)
+      (up_not_down setting.layout w brick (and_parts (is_up setting.layout w brick) _ may).0) left;
+  syncs = λ brick group may.
+      stepped w brick (synced_at setting brick (w.clocks brick.0) (w.nodes brick.0) group)
       (up_not_down setting.layout w brick (and_parts (is_up setting.layout w brick) _ may).0) left;
   handles = λ number packet at up.
       stepped (world_counting setting w number packet) packet.to (step_on setting w packet) (up_not_down setting.layout w packet.to up) left;

@@ -12,6 +12,7 @@ use Rattle.synod_laws.proofs.Agreement.{grows_on}
 use Rattle.protocol.specs.declared.phases.Counted.{Counted}
 use Rattle.protocol.specs.Proposals.{Proposal, answers_ballot, promises}
 use Rattle.protocol.specs.Coordinators.{Coordinator}
+use Rattle.protocol.specs.Jobs.{Job}
 use Rattle.protocol.specs.Nodes.{Node, view_in}
 use Rattle.protocol.proofs.Tables.{put_each}
 use Rattle.view_laws.proofs.FirstTold.{first_told, first_found, first_of_later}
@@ -48,10 +49,11 @@ pub record DraftSays (layout : Layout) (v : ViewWorld) (i : ℕ) (p : Proposal) 
   pub distinct : AreDistinctBelow (length p.view.members) (seats_of (promises p.counted))
   pub counted : (k : ℕ) (c : Counted) → slice_get p.counted k ≡ Some c → CountedSays layout v.packets i p c
 
--- this of all open proposals; and the view of each open operation is known
+-- this of all open proposals; and the view of each open operation is known, and that of each synchronisation
 pub record Drafting (layout : Layout) (v : ViewWorld) : Type 0 where
   pub drafts : (i : ℕ) (p : Proposal) → (v.nodes i).proposal ≡ Some p → DraftSays layout v i p
   pub calls : (i k : ℕ) (c : Coordinator) → (v.nodes i).calls k ≡ Some c → IsNamed layout v.packets c.call.group.0 (view_in c)
+  pub jobs : (i : ℕ) (j : Job) → (v.nodes i).job ≡ Some j → IsNamed layout v.packets j.group.0 j.view
 
 -- what is so of a proposal stays so, where its ballot was not proposed by others
 pub draft_stays : (layout : Layout) (v next : ViewWorld) (i : ℕ) (p : Proposal) → Extends layout v next
@@ -80,10 +82,11 @@ still_unproposed packets new g e b none never =
     by (Some members) is =
         let found = first_found (λ packet. accept_in g e b packet.message) new members is in absurd (never found.0 found.1 members found.2 found.3)
 
--- What a step of a brick owes, but for its turn: the views of its operations are known, what is so of its proposal, each list that it asks to accept was proposed so
+-- What a step of a brick owes, but for its turn: the views of its operations and of its synchronisation are known, what is so of its proposal, each list that it asks to accept was proposed so
 -- or is safe at a ballot of its own, and what it sends says what is so.
 pub record BodySays (layout : Layout) (v x : ViewWorld) (i : ℕ) (node : Node) (new : List Packet) : Type 0 where
   pub calls : (k : ℕ) (c : Coordinator) → node.calls k ≡ Some c → IsNamed layout v.packets c.call.group.0 (view_in c)
+  pub jobs : (j : Job) → node.job ≡ Some j → IsNamed layout v.packets j.group.0 j.view
   pub drafts : (q : Proposal) → node.proposal ≡ Some q → DraftSays layout (sending_more x new) i q
   pub accepts : (k : ℕ) (packet : Packet) → slice_get new k ≡ Some packet → (g e : ℕ) (b : Ballot) (members : List BrickId)
       → accept_in g e b packet.message ≡ Some members
@@ -100,6 +103,7 @@ pub body_own : (layout : Layout) (v x : ViewWorld) (i : ℕ) (node next : Node) 
     → BodySays layout v x i next new
 body_own layout v x i node next new own body = record {
   calls = λ k c is. body.calls k c (sym (ap (λ (calls : ℕ → Option Coordinator). calls k) own.calls) ∙ is);
+  jobs = λ j is. body.jobs j (sym own.job ∙ is);
   drafts = λ q is. body.drafts q (sym own.proposal ∙ is);
   accepts = body.accepts;
   says = body.says;
@@ -142,6 +146,9 @@ step_drafting layout v i next new called agreed drafting step = record {
   calls = put_each (λ k (n : Node). (j : ℕ) (c : Coordinator) → n.calls j ≡ Some c → IsNamed layout (v.packets ++ new) c.call.group.0 (view_in c)) v.nodes i next
       (λ j c is. name_stays layout v.packets new c.call.group.0 (view_in c).number.0 (view_in c) (step.body.calls j c is))
       (λ k other j c is. name_stays layout v.packets new c.call.group.0 (view_in c).number.0 (view_in c) (drafting.calls k j c is));
+  jobs = put_each (λ k (n : Node). (j : Job) → n.job ≡ Some j → IsNamed layout (v.packets ++ new) j.group.0 j.view) v.nodes i next
+      (λ j is. name_stays layout v.packets new j.group.0 j.view.number.0 j.view (step.body.jobs j is))
+      (λ k other j is. name_stays layout v.packets new j.group.0 j.view.number.0 j.view (drafting.jobs k j is));
 }
 
 -- no packet of these asks to accept a list
@@ -152,10 +159,11 @@ AcceptsNone new =
 
 -- a step that leaves operations and the proposal as they were, and asks to accept no list, owes what it sends
 pub still_body : (layout : Layout) (v x : ViewWorld) (i : ℕ) (next : Node) (new : List Packet) → Extends layout v (sending_more x new) → x.packets ≡ v.packets
-    → Drafting layout v → next.calls ≡ (v.nodes i).calls → next.proposal ≡ (v.nodes i).proposal → AcceptsNone new
+    → Drafting layout v → next.calls ≡ (v.nodes i).calls → next.proposal ≡ (v.nodes i).proposal → next.job ≡ (v.nodes i).job → AcceptsNone new
     → ((k : ℕ) (packet : Packet) → slice_get new k ≡ Some packet → PacketSays layout (sending_more x new) packet) → BodySays layout v x i next new
-still_body layout v x i next new extends packets drafting calls proposal none says = record {
+still_body layout v x i next new extends packets drafting calls proposal job none says = record {
   calls = λ k c is. drafting.calls i k c (sym (ap (λ (table : ℕ → Option Coordinator). table k) calls) ∙ is);
+  jobs = λ j is. drafting.jobs i j (sym job ∙ is);
   drafts = λ q is. draft_stays layout v (sending_more x new) i q extends
       (λ unasked. ap (λ (l : List Packet). first_told (λ packet. accept_in q.call.group.0 q.view.number.0 q.ballot packet.message) (l ++ new)) packets
       ∙ still_unproposed v.packets new q.call.group.0 q.view.number.0 q.ballot ((drafting.drafts i q (sym proposal ∙ is)).unasked unasked)

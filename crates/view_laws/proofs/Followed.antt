@@ -191,7 +191,7 @@ closed_above node g e s some closed =
     (max_above (view_floor node g) (top_of (node.replicas g (view_at node g) s)))
 
 -- where a view is known, the view after each one before it is known
-below_known : (layout : Layout) (v : ViewWorld) (g e d : ℕ) (view : View) → Agreed layout v → 1 ≤ e → view.number.0 ≡ e + 1 + d → IsNamed layout v.packets g view
+pub below_known : (layout : Layout) (v : ViewWorld) (g e d : ℕ) (view : View) → Agreed layout v → 1 ≤ e → view.number.0 ≡ e + 1 + d → IsNamed layout v.packets g view
     → (next : View) × (IsNamed layout v.packets g next) × (next.number.0 ≡ e + 1)
 below_known layout v g e zero view agreed some number named = (view, named, omega (arith, number))
 below_known layout v g e (suc d) view agreed some number named =

@@ -20,5 +20,8 @@ pub mod Replying
 pub mod ReportSteps
 pub mod Reporting
 pub mod Requesting
+pub mod SyncReads
+pub mod SyncedViews
+pub mod Syncing
 pub mod Voices
 pub mod Votings

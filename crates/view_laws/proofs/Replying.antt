@@ -23,16 +23,18 @@ use Rattle.synod_laws.proofs.Agreement.{two_chosen, chosen_stays}
 use Rattle.protocol.specs.Settings.{Setting, Code}
 use Rattle.protocol.specs.Views.{members_of, view_told, learn_in, group_kept}
 use Rattle.protocol.specs.Proposals.{Proposal, Voting, Ignored, Waited, Asks, Ended, ballot_quorum, ballot_packets, seat_voting, with_voice, refused_by, greatest_choice, asking, voted}
-use Rattle.protocol.specs.Coordinators.{Coordinator, Next, Ignores, Waits, Sends, Makes, Ends, request_of, on_reply}
-use Rattle.protocol.specs.Nodes.{Node, NodeStep, put, no_step, with_known, with_round, known_after, phase_packets, fresh_stamp, view_in, carried_out, resent_to, learn_packets, decided_view, ended_packets, carried_ballot, replied_ballot, replied_at, counts_here, view_counted, node_taught_by, replied, lists_fit, heard}
-use Rattle.protocol.proofs.Packets.{OfEach, each_none, each_member, each_collect, each_ballot, each_learn}
+use Rattle.protocol.specs.Coordinators.{Coordinator, Next, Ignores, Waits, Sends, Makes, Ends, request_of, on_reply, asked_group}
+use Rattle.protocol.specs.Nodes.{Node, NodeStep, put, no_step, with_known, with_round, known_after, carried_for, job_reading, coordinator_in, collect_packets, read_closed, synced_packets, phase_packets, fresh_stamp, view_in, carried_out, resent_to, learn_packets, decided_view, ended_packets, carried_ballot, replied_ballot, replied_at, counts_here, view_counted, node_taught_by, replied, lists_fit, heard}
+use Rattle.protocol.proofs.Packets.{OfEach, each_none, each_both, each_member, each_collect, each_ballot, each_learn}
 use Rattle.protocol.proofs.Tables.{put_each}
+use Rattle.protocol.specs.Jobs.{Job, Attempt, job_ask}
+use Rattle.view_laws.proofs.SyncReads.{carried_each, each_synced}
 use Rattle.view_laws.proofs.FirstTold.{first_told, first_some, first_of_later, first_alike}
-use Rattle.view_laws.proofs.Histories.{ViewWorld, IsSent, IsNamed, named_in, accept_in, accept_is, IsAccept, history, seated, seated_grows, PacketSays, MessageSays, IsDecided, IsTaught, Extends, name_stays, name_has_number, names_once, known_taught, name_is, ballot_called}
+use Rattle.view_laws.proofs.Histories.{ViewWorld, IsSent, IsNamed, named_in, accept_in, accept_is, IsAccept, history, seated, seated_grows, PacketSays, MessageSays, IsDecided, IsTaught, Extends, name_stays, name_has_number, names_once, known_taught, name_is, ballot_called, kept_is}
 use Rattle.view_laws.proofs.Agreeing.{IsSafeIn, Agreed, KeepsViews, Turn, turned, sending_more}
 use Rattle.view_laws.proofs.Calling.{Called, OfBallot}
 use Rattle.view_laws.proofs.CallSteps.{phase_names_none}
-use Rattle.view_laws.proofs.Owning.{SameCall, KeepsView, taught_own, reply_view_kept}
+use Rattle.view_laws.proofs.Owning.{SameCall, KeepsView, taught_own, reply_view_kept, fresh_of}
 use Rattle.view_laws.proofs.Voices.{refused_sends_none}
 use Rattle.view_laws.proofs.Votings.{voting_each}
 use Rattle.view_laws.proofs.Drafting.{DraftSays, Drafting, draft_stays, still_unproposed, AcceptsNone, StepSays, BodySays, body_own, step_extends}
@@ -172,6 +174,28 @@ view_from a b number members prior =
 
 -- ---- what a decision decides
 
+-- a message that all stripes are kept in a view is such
+pub synced_quiet : (layout : Layout) (from to : BrickId) (group : GroupId) (view : ViewNo)
+    → IsQuiet layout (record { from = from; to = to; message = Message.Synced group view })
+synced_quiet layout from to group view = record { none = λ g e b members asks. let never : None ≡ Some members = asks in cc; says = λ v. tt }
+
+-- the synchronisation whose read has a call's number is the brick's
+pub reading_is : (job : Option Job) (seq : ℕ) (found : Job) → job_reading job seq ≡ Some found → job ≡ Some found
+reading_is None seq found is = is
+reading_is (Some job) seq found is =
+    cond_both (nat_eq job.seq seq) (Some job) None (λ (z : Option Job). z ≡ Some found → Some job ≡ Some found) (λ same at. at)
+    (λ other none. absurd (let never : None ≡ Some found = none in cc)) is
+
+-- the view of a read of a synchronisation is that of the synchronisation
+pub read_named : (layout : Layout) (packets : List Packet) (job : Job) (group : Group) → group_kept layout job.view.members job.group.0 ≡ Some group
+    → (me : BrickId) (now : ℕ) (node : Node) (attempt : Attempt) → IsNamed layout packets job.group.0 job.view
+    → (let d = coordinator_in group job.view me now node (job_ask (record job { attempt = attempt })) in IsNamed layout packets d.call.group.0 (view_in d))
+read_named layout packets job group kept me now node attempt named =
+    let d : Coordinator = coordinator_in group job.view me now node (job_ask (record job { attempt = attempt })) in
+    let parts = kept_is layout job.view.members job.group.0 group kept in
+    let view : view_in d ≡ job.view = view_from (view_in d) job.view refl (ap (λ (z : Group). z.members) parts.2) refl in
+    subst (λ (z : View). IsNamed layout packets job.group.0 z) (sym view) named
+
 -- what was decided to follow a known view was chosen by its members
 decided_after : (layout : Layout) (v : ViewWorld) (g : ℕ) (view before : View) (group : Group) → IsDecided layout v g view → IsNamed layout v.packets g before
     → view.number.0 ≡ before.number.0 + 1 → group_kept layout before.members g ≡ Some group
@@ -203,6 +227,18 @@ carried_keeps setting me node known c (Sends d) = (refl, refl)
 carried_keeps setting me node known c (Makes d) = (refl, refl)
 carried_keeps setting me node known c (Ends answered seen stored) = (refl, refl)
 
+-- so it does as it reads for its synchronisation
+carried_for_keeps : (setting : Setting) (me : BrickId) (now : ℕ) (node : Node) (known : ℕ) (c : Coordinator) (next : Next) (reading : Option Job)
+    → KeepsViews node (carried_for setting me now node known c next reading).node
+carried_for_keeps setting me now node known c next reading =
+    carried_each (λ (step : NodeStep). KeepsViews node step.node) setting me now node known c next reading (carried_keeps setting me node known c next)
+    (λ job is answered seen stored ends. record {
+      stays = (refl, refl);
+      ends = λ answer. (refl, refl);
+      finishes = (refl, refl);
+      reads = λ attempt group kept. (refl, refl);
+    })
+
 -- as it carries out what its proposal decided
 ballot_keeps : (layout : Layout) (me : BrickId) (node : Node) (p : Proposal) (voting : Voting) → KeepsViews node (carried_ballot layout me node p voting).node
 ballot_keeps layout me node p Ignored = (refl, refl)
@@ -217,13 +253,14 @@ proposal_keeps layout me from node call said None = (refl, refl)
 proposal_keeps layout me from node call said (Some p) = ballot_keeps layout me node p (voted layout.bricks p from call said)
 
 -- and as it handles any reply
-replied_keeps : (setting : Setting) (me : BrickId) (now : ℕ) (from : BrickId) (node : Node) (call : Call) (said : Reply) (z : Option Coordinator)
+pub replied_keeps : (setting : Setting) (me : BrickId) (now : ℕ) (from : BrickId) (node : Node) (call : Call) (said : Reply) (z : Option Coordinator)
     → KeepsViews node (replied_at setting me now from (with_round node said) call said z).node
 replied_keeps setting me now from node call said None =
     proposal_keeps setting.layout me from (with_known (with_round node said) (known_after node.known said)) call said node.proposal
 replied_keeps setting me now from node call said (Some c) =
-    carried_keeps setting me (with_round node said) (known_after node.known said) c
-    (on_reply setting.layout.block setting.code (fresh_stamp me c.call.view now node.boot (known_after node.known said)) c from call said)
+    carried_for_keeps setting me now (with_round node said) (known_after node.known said) c
+    (on_reply setting.layout.block setting.code (fresh_stamp me c.stamp.view now node.boot (known_after node.known said)) c from call said)
+    (job_reading node.job c.call.seq)
 
 module _ (setting : Setting) (limits : HasLimits setting.layout) (v : ViewWorld) (called : Called v.packets v.nodes) (agreed : Agreed setting.layout v)
     (drafting : Drafting setting.layout v) (me from : BrickId) (call : Call) (said : Reply)
@@ -247,9 +284,11 @@ module _ (setting : Setting) (limits : HasLimits setting.layout) (v : ViewWorld)
   -- a brick whose operations are of known views, and that sends what owes nothing
   quiet_body : (mid : Node) (new : List Packet)
       → ((k : ℕ) (c : Coordinator) → mid.calls k ≡ Some c → IsNamed setting.layout v.packets c.call.group.0 (view_in c))
+      → ((j : Job) → mid.job ≡ Some j → IsNamed setting.layout v.packets j.group.0 j.view)
       → mid.proposal ≡ (v.nodes me.0).proposal → OfEach (IsQuiet setting.layout) new → BodySays setting.layout v x me.0 mid new
-  quiet_body mid new calls proposal quiet = record {
+  quiet_body mid new calls jobs proposal quiet = record {
     calls = calls;
+    jobs = jobs;
     drafts = λ q is. still_drafts new (λ k packet at. (quiet k packet at).none) q (sym proposal ∙ is);
     accepts = λ k packet at g e b members asks. absurd ((quiet k packet at).none g e b members asks);
     says = λ k packet at. (quiet k packet at).says (sending_more x new);
@@ -258,6 +297,10 @@ module _ (setting : Setting) (limits : HasLimits setting.layout) (v : ViewWorld)
   -- the views of its operations are known
   known_calls : (k : ℕ) (c : Coordinator) → (v.nodes me.0).calls k ≡ Some c → IsNamed setting.layout v.packets c.call.group.0 (view_in c)
   known_calls k c is = drafting.calls me.0 k c is
+
+  -- the view of its synchronisation is
+  known_jobs : (mid : Node) → mid.job ≡ (v.nodes me.0).job → (j : Job) → mid.job ≡ Some j → IsNamed setting.layout v.packets j.group.0 j.view
+  known_jobs mid same j is = drafting.jobs me.0 j (sym same ∙ is)
 
   -- and with one that is as it was, or gone
   one_call : (seq : ℕ) (changed : Option Coordinator)
@@ -291,26 +334,62 @@ module _ (setting : Setting) (limits : HasLimits setting.layout) (v : ViewWorld)
   phase_sends : (d : Coordinator) → OfEach (IsQuiet setting.layout) (phase_packets setting me d)
   phase_sends d =
       each_member (IsQuiet setting.layout) me d.call (request_of setting.code d) (λ seat to. phase_quiet setting.layout setting.code me to d.call d seat) 0
-      d.group.members
+      (asked_group d).members
 
   -- what an operation decided is carried out
-  carried_body : (mid : Node) → mid.calls ≡ (v.nodes me.0).calls → mid.proposal ≡ (v.nodes me.0).proposal → (known : ℕ) (c : Coordinator)
+  carried_body : (mid : Node) → mid.calls ≡ (v.nodes me.0).calls → mid.job ≡ (v.nodes me.0).job → mid.proposal ≡ (v.nodes me.0).proposal → (known : ℕ)
+      (c : Coordinator)
       → IsNamed setting.layout v.packets c.call.group.0 (view_in c) → (decision : Next) → KeepsView c decision
       → (let step = carried_out setting me mid known c decision in BodySays setting.layout v x me.0 step.node step.packets)
-  carried_body mid calls proposal known c named Ignores keeps =
-      quiet_body _ [] (λ k d is. known_calls k d (sym (ap (λ (t : ℕ → Option Coordinator). t k) calls) ∙ is)) proposal (each_none (IsQuiet setting.layout))
-  carried_body mid calls proposal known c named (Waits d) keeps =
-      quiet_body _ [] (kept_calls mid calls c.call.seq (Some d) (goes_on_known c d named keeps)) proposal
+  carried_body mid calls jobs proposal known c named Ignores keeps =
+      quiet_body _ [] (λ k d is. known_calls k d (sym (ap (λ (t : ℕ → Option Coordinator). t k) calls) ∙ is)) (known_jobs mid jobs) proposal (each_none (IsQuiet setting.layout))
+  carried_body mid calls jobs proposal known c named (Waits d) keeps =
+      quiet_body _ [] (kept_calls mid calls c.call.seq (Some d) (goes_on_known c d named keeps)) (known_jobs mid jobs) proposal
       (each_none (IsQuiet setting.layout))
-  carried_body mid calls proposal known c named (Sends d) keeps =
-      quiet_body _ _ (kept_calls mid calls c.call.seq (Some d) (goes_on_known c d named keeps)) proposal
+  carried_body mid calls jobs proposal known c named (Sends d) keeps =
+      quiet_body _ _ (kept_calls mid calls c.call.seq (Some d) (goes_on_known c d named keeps)) (known_jobs mid jobs) proposal
       (phase_sends d)
-  carried_body mid calls proposal known c named (Makes d) keeps =
-      quiet_body _ _ (kept_calls mid calls c.call.seq (Some d) (goes_on_known c d named keeps)) proposal
+  carried_body mid calls jobs proposal known c named (Makes d) keeps =
+      quiet_body _ _ (kept_calls mid calls c.call.seq (Some d) (goes_on_known c d named keeps)) (known_jobs mid jobs) proposal
       (phase_sends d)
-  carried_body mid calls proposal known c named (Ends answered seen stored) keeps =
-      quiet_body _ _ (kept_calls mid calls c.call.seq None (λ z is. absurd (let never : None ≡ Some z = is in cc))) proposal
+  carried_body mid calls jobs proposal known c named (Ends answered seen stored) keeps =
+      quiet_body _ _ (kept_calls mid calls c.call.seq None (λ z is. absurd (let never : None ≡ Some z = is in cc))) (known_jobs mid jobs) proposal
       (each_collect (IsQuiet setting.layout) me c stored (λ t to. request_quiet setting.layout me to c.call (Request.Collect t) tt))
+
+  -- so is what the coordinator of a synchronisation's read decided, where the view of that is known
+  carried_for_body : (now : ℕ) (mid : Node) → mid.calls ≡ (v.nodes me.0).calls → mid.job ≡ (v.nodes me.0).job → mid.proposal ≡ (v.nodes me.0).proposal
+      → (known : ℕ) (c : Coordinator) → IsNamed setting.layout v.packets c.call.group.0 (view_in c) → (decision : Next) → KeepsView c decision
+      → (reading : Option Job) → ((job : Job) → reading ≡ Some job → IsNamed setting.layout v.packets job.group.0 job.view)
+      → (let step = carried_for setting me now mid known c decision reading in BodySays setting.layout v x me.0 step.node step.packets)
+  carried_for_body now mid calls jobs proposal known c named decision keeps reading read =
+      carried_each (λ (step : NodeStep). BodySays setting.layout v x me.0 step.node step.packets) setting me now mid known c decision reading
+      (carried_body mid calls jobs proposal known c named decision keeps)
+      (λ job is answered seen stored ends.
+      let gone = kept_calls mid calls c.call.seq None (λ z same. absurd (let never : None ≡ Some z = same in cc)) in
+      let collects = each_collect (IsQuiet setting.layout) me c stored (λ t to. request_quiet setting.layout me to c.call (Request.Collect t) tt) in
+      let none : (j : Job) → None ≡ Some j → IsNamed setting.layout v.packets j.group.0 j.view = λ j same. absurd (let never : None ≡ Some j = same in cc) in
+      record {
+        stays = quiet_body _ _ gone (known_jobs mid jobs) proposal
+            (each_both (IsQuiet setting.layout) (collect_packets me c stored) [] collects (each_none (IsQuiet setting.layout)));
+        ends = λ answer. quiet_body _ _ gone none proposal
+            (each_both (IsQuiet setting.layout) (collect_packets me c stored) [] collects (each_none (IsQuiet setting.layout)));
+        finishes = quiet_body _ _ gone none proposal
+            (each_both (IsQuiet setting.layout) (collect_packets me c stored) (synced_packets me job.group job.view.number setting.layout.bricks 0) collects
+            (each_synced (IsQuiet setting.layout) me job.group job.view.number (λ to. synced_quiet setting.layout me to job.group job.view.number)
+            setting.layout.bricks 0));
+        reads = λ attempt group kept.
+            let d : Coordinator = coordinator_in group job.view me now (read_closed me mid known c answered seen stored).node (job_ask (record job { attempt = attempt })) in
+            quiet_body _ _
+            (put_each (λ k (o : Option Coordinator). (z : Coordinator) → o ≡ Some z → IsNamed setting.layout v.packets z.call.group.0 (view_in z))
+            (put mid.calls c.call.seq None) d.call.seq (Some d)
+            (λ z same. subst (λ (y : Coordinator). IsNamed setting.layout v.packets y.call.group.0 (view_in y)) (same_Some d z same)
+            (read_named setting.layout v.packets job group kept me now (read_closed me mid known c answered seen stored).node attempt (read job is)))
+            (λ k other z same. gone k z same))
+            (λ j same. subst (λ (y : Job). IsNamed setting.layout v.packets y.group.0 y.view)
+            (same_Some (record job { attempt = attempt; seq = d.call.seq }) j same) (read job is))
+            proposal
+            (each_both (IsQuiet setting.layout) (collect_packets me c stored) (phase_packets setting me d) collects (phase_sends d));
+      })
 
   -- ---- the proposal
 
@@ -320,11 +399,12 @@ module _ (setting : Setting) (limits : HasLimits setting.layout) (v : ViewWorld)
   other_calls mid calls k c at = known_calls k c (sym (ap (λ (t : ℕ → Option Coordinator). t k) calls) ∙ at)
 
   -- it waits for more replies
-  waits_body : (mid : Node) → mid.calls ≡ (v.nodes me.0).calls → (p : Proposal) → (v.nodes me.0).proposal ≡ Some p → (seat : ℕ)
+  waits_body : (mid : Node) → mid.calls ≡ (v.nodes me.0).calls → mid.job ≡ (v.nodes me.0).job → (p : Proposal) → (v.nodes me.0).proposal ≡ Some p → (seat : ℕ)
       → seat_voting setting.layout.bricks p from.0 call said ≡ Some seat
       → BodySays setting.layout v x me.0 (record mid { proposal = Some (with_voice p seat from said) }) []
-  waits_body mid calls p is seat counts = record {
+  waits_body mid calls jobs p is seat counts = record {
     calls = other_calls mid calls;
+    jobs = known_jobs mid jobs;
     drafts = λ q same. subst (λ (z : Proposal). DraftSays setting.layout (sending_more x []) me.0 z) (same_Some (with_voice p seat from said) q same)
         (draft_stays setting.layout v (sending_more x []) me.0 (with_voice p seat from said) (extends [])
         (λ unasked. still_unproposed v.packets [] p.call.group.0 p.view.number.0 p.ballot ((drafting.drafts me.0 p is).unasked unasked)
@@ -335,12 +415,13 @@ module _ (setting : Setting) (limits : HasLimits setting.layout) (v : ViewWorld)
   }
 
   -- it ends and sends nothing
-  gone_body : (mid : Node) → mid.calls ≡ (v.nodes me.0).calls → (new : List Packet) → new ≡ []
+  gone_body : (mid : Node) → mid.calls ≡ (v.nodes me.0).calls → mid.job ≡ (v.nodes me.0).job → (new : List Packet) → new ≡ []
       → BodySays setting.layout v x me.0 (record mid { proposal = None }) new
-  gone_body mid calls new none =
+  gone_body mid calls jobs new none =
       subst (λ (l : List Packet). BodySays setting.layout v x me.0 (record mid { proposal = None }) l) (sym none)
       (record {
         calls = other_calls mid calls;
+        jobs = known_jobs mid jobs;
         drafts = λ q same. absurd (let never : None ≡ Some q = same in cc);
         accepts = λ k packet at g e b members asks. absurd (let never : None ≡ Some packet = at in cc);
         says = λ k packet at. absurd (let never : None ≡ Some packet = at in cc);
@@ -413,10 +494,10 @@ module _ (setting : Setting) (limits : HasLimits setting.layout) (v : ViewWorld)
         ∙ first.1 ∙ ap (λ (l : List BrickId). Some l) same
 
     -- so a proposal that asks for a list owes no more
-    asks_body : (mid : Node) → mid.calls ≡ (v.nodes me.0).calls → p.asks ≡ None
+    asks_body : (mid : Node) → mid.calls ≡ (v.nodes me.0).calls → mid.job ≡ (v.nodes me.0).job → p.asks ≡ None
         → BodySays setting.layout v x me.0 (record mid { proposal = Some (asked (value_or p.own (greatest_choice q.counted))) })
         (ballot_packets me (asked (value_or p.own (greatest_choice q.counted))))
-    asks_body mid calls prepares =
+    asks_body mid calls jobs prepares =
         let members : List BrickId = value_or p.own (greatest_choice q.counted) in
         let new : List Packet = ballot_packets me (asked members) in
         let view : p.call.view.0 ≡ p.view.number.0 = ap (λ (z : ViewNo). z.0) q_says.view_is in
@@ -424,6 +505,7 @@ module _ (setting : Setting) (limits : HasLimits setting.layout) (v : ViewWorld)
         = asks_safely setting.layout limits v agreed me.0 q q_says q_called enough free prepares in
         record {
           calls = other_calls mid calls;
+          jobs = known_jobs mid jobs;
           drafts = λ r same. subst (λ (z : Proposal). DraftSays setting.layout (sending_more x new) me.0 z) (same_Some (asked members) r same)
               (record {
                 group = q_says.group;
@@ -539,9 +621,10 @@ module _ (setting : Setting) (limits : HasLimits setting.layout) (v : ViewWorld)
       }
 
       -- so a proposal that ends with a decision owes no more
-      decides_body : (mid : Node) → mid.calls ≡ (v.nodes me.0).calls → BodySays setting.layout v x me.0 (record mid { proposal = None }) new
-      decides_body mid calls = record {
+      decides_body : (mid : Node) → mid.calls ≡ (v.nodes me.0).calls → mid.job ≡ (v.nodes me.0).job → BodySays setting.layout v x me.0 (record mid { proposal = None }) new
+      decides_body mid calls jobs = record {
         calls = other_calls mid calls;
+        jobs = known_jobs mid jobs;
         drafts = λ r same. absurd (let never : None ≡ Some r = same in cc);
         accepts = λ k packet at h f b named told. absurd (let never : None ≡ Some named = sym (ap (λ (z : Message). accept_in h f b z) (teaches k packet at)) ∙ told in cc);
         says = λ k packet at.
@@ -550,41 +633,43 @@ module _ (setting : Setting) (limits : HasLimits setting.layout) (v : ViewWorld)
       }
 
   -- what the proposal decided is carried out
-  proposal_body : (mid : Node) → mid.calls ≡ (v.nodes me.0).calls → mid.proposal ≡ (v.nodes me.0).proposal → (p : Proposal)
+  proposal_body : (mid : Node) → mid.calls ≡ (v.nodes me.0).calls → mid.job ≡ (v.nodes me.0).job → mid.proposal ≡ (v.nodes me.0).proposal → (p : Proposal)
       → (v.nodes me.0).proposal ≡ Some p
       → (let step = carried_ballot setting.layout me mid p (voted setting.layout.bricks p from call said) in
       BodySays setting.layout v x me.0 step.node step.packets)
-  proposal_body mid calls proposal p is =
+  proposal_body mid calls jobs proposal p is =
       voting_each
       (λ (at : Option ℕ) (decision : Voting).
       BodySays setting.layout v x me.0 (carried_ballot setting.layout me mid p decision).node (carried_ballot setting.layout me mid p decision).packets)
       setting.layout.bricks p from call said
       (record {
-        ignores = λ none. quiet_body mid [] (other_calls mid calls) proposal (each_none (IsQuiet setting.layout));
-        waits = λ seat counts. waits_body mid calls p is seat counts;
-        asks = λ seat counts enough free prepares. asks_body p is seat counts enough free mid calls prepares;
-        decides = λ seat members counts enough free some. decides_body p is seat counts enough free members some mid calls;
+        ignores = λ none. quiet_body mid [] (other_calls mid calls) (known_jobs mid jobs) proposal (each_none (IsQuiet setting.layout));
+        waits = λ seat counts. waits_body mid calls jobs p is seat counts;
+        asks = λ seat counts enough free prepares. asks_body p is seat counts enough free mid calls jobs prepares;
+        decides = λ seat members counts enough free some. decides_body p is seat counts enough free members some mid calls jobs;
         refuses = λ seat refused counts enough some.
-            gone_body mid calls (ended_packets setting.layout me p refused)
+            gone_body mid calls jobs (ended_packets setting.layout me p refused)
             (refused_sends_none setting.layout me p (with_voice p seat from said).counted refused some);
       })
 
   -- a reply to the proposal, if there is one
-  ballot_body : (mid : Node) → mid.calls ≡ (v.nodes me.0).calls → mid.proposal ≡ (v.nodes me.0).proposal → (z : Option Proposal)
+  ballot_body : (mid : Node) → mid.calls ≡ (v.nodes me.0).calls → mid.job ≡ (v.nodes me.0).job → mid.proposal ≡ (v.nodes me.0).proposal → (z : Option Proposal)
       → (v.nodes me.0).proposal ≡ z
       → (let step = replied_ballot setting.layout me from mid call said z in BodySays setting.layout v x me.0 step.node step.packets)
-  ballot_body mid calls proposal None is = quiet_body mid [] (other_calls mid calls) proposal (each_none (IsQuiet setting.layout))
-  ballot_body mid calls proposal (Some p) is = proposal_body mid calls proposal p is
+  ballot_body mid calls jobs proposal None is = quiet_body mid [] (other_calls mid calls) (known_jobs mid jobs) proposal (each_none (IsQuiet setting.layout))
+  ballot_body mid calls jobs proposal (Some p) is = proposal_body mid calls jobs proposal p is
 
   -- a reply to an open operation, if there is one, or else to the proposal
   call_body : (now : ℕ) (z : Option Coordinator) → (v.nodes me.0).calls call.seq ≡ z
       → (let step = replied_at setting me now from (with_round (v.nodes me.0) said) call said z in BodySays setting.layout v x me.0 step.node step.packets)
   call_body now None is =
-      ballot_body (with_known (with_round (v.nodes me.0) said) (known_after (v.nodes me.0).known said)) refl refl (v.nodes me.0).proposal refl
+      ballot_body (with_known (with_round (v.nodes me.0) said) (known_after (v.nodes me.0).known said)) refl refl refl (v.nodes me.0).proposal refl
   call_body now (Some c) is =
-      carried_body (with_round (v.nodes me.0) said) refl refl (known_after (v.nodes me.0).known said) c (known_calls call.seq c is)
-      (on_reply setting.layout.block setting.code (fresh_stamp me c.call.view now (v.nodes me.0).boot (known_after (v.nodes me.0).known said)) c from call said)
-      (reply_view_kept setting.layout.block setting.code (fresh_stamp me c.call.view now (v.nodes me.0).boot (known_after (v.nodes me.0).known said)) c from call said)
+      carried_for_body now (with_round (v.nodes me.0) said) refl refl refl (known_after (v.nodes me.0).known said) c (known_calls call.seq c is)
+      (on_reply setting.layout.block setting.code (fresh_stamp me c.stamp.view now (v.nodes me.0).boot (known_after (v.nodes me.0).known said)) c from call said)
+      (reply_view_kept setting.layout.block setting.code (fresh_stamp me c.stamp.view now (v.nodes me.0).boot (known_after (v.nodes me.0).known said)) c from call said
+      (fresh_of me c.stamp.view now (v.nodes me.0).boot (known_after (v.nodes me.0).known said)))
+      (job_reading (v.nodes me.0).job c.call.seq) (λ job is. drafting.jobs me.0 job (reading_is (v.nodes me.0).job c.call.seq job is))
 
 -- what a brick owes when it handles a reply
 pub heard_says : (setting : Setting) → HasLimits setting.layout → (v : ViewWorld) → Called v.packets v.nodes → Agreed setting.layout v → Drafting setting.layout v
@@ -614,6 +699,7 @@ heard_says setting limits v called agreed drafting me from now call said sent =
     let turn : Turn setting.layout v.packets node next = no_turn setting.layout v.packets node next (refl, refl) in
     record {
       turn = turn;
-      body = quiet_body setting limits v called agreed drafting me from call said sent next turn next [] (λ k c is. drafting.calls me.0 k c is) refl
+      body = quiet_body setting limits v called agreed drafting me from call said sent next turn next [] (λ k c is. drafting.calls me.0 k c is)
+          (λ j is. drafting.jobs me.0 j is) refl
           (each_none (IsQuiet setting.layout));
     })

@@ -1,4 +1,6 @@
 -- What a brick owes when it handles a request, or a message that teaches a view.
+use Rattle.view_laws.proofs.Syncing.{synced_each, synced_views}
+use Rattle.fab_base.specs.declared.identities.ViewNo.{ViewNo}
 use Rattle.std.proofs.Common.{◌≡◌, ℕ, ◌+◌, ◌-◌, ◌<◌, ◌≤◌, Bool, true, false, cond, ◌&&◌, ◌||◌, ◌⊎◌, inl, inr, ⊎_elim, List, [], Option, Some, None, refl, sym, ap, ◌∙◌, subst, arith, nat_lt, nat_eq}
 use Rattle.std.specs.Prelude.{not, is_some, ◌^◌}
 use Rattle.std.specs.Option.{option_map}
@@ -23,11 +25,11 @@ use Rattle.quorum.specs.Memberships.{is_membership}
 use Rattle.synod_laws.specs.Synods.{SaysPromise, Kept, is_promised_above, last_of}
 use Rattle.synod_laws.proofs.Acceptors.{said_stays}
 use Rattle.protocol.specs.Settings.{Setting, Code}
-use Rattle.protocol.specs.Views.{Learnt, is_later, learns}
-use Rattle.protocol.specs.Replicas.{Replica, Reaction, is_held, top_of, stays, unless_full, promised, stored, modified_on, newest_of, handle}
+use Rattle.protocol.specs.Views.{Learnt, is_later, learns, first_kept}
+use Rattle.protocol.specs.Replicas.{Replica, Reaction, is_held, top_of, stays, unless_full, promised, stored, modified_on, newest_of, handle, under}
 use Rattle.protocol.specs.Ballots.{choice_of, moved_to, outbidding, ballot_refusal, granting, unless_barred, voting}
 use Rattle.protocol.specs.Proposals.{told_choice}
-use Rattle.protocol.specs.Nodes.{Node, NodeStep, view_at, has_accepted, group_at, put, no_step, full_at, replica_at, reply_packets, reacted, requested_at, is_now, has_successor, fits, seat_now, is_void, moved_at, served_unless, vote_at, voted_on, requested_as, requested_in, requested, with_learnt, node_taught, may_teach, node_learnt}
+use Rattle.protocol.specs.Nodes.{Node, NodeStep, view_at, has_accepted, group_at, put, no_step, full_at, replica_at, reply_packets, reacted, requested_at, is_now, has_successor, fits, seat_now, is_void, moved_at, served_unless, vote_at, voted_on, requested_as, requested_in, requested, with_learnt, node_taught, may_teach, node_learnt, node_synced, old_reply, sending}
 use Rattle.protocol.proofs.Packets.{each_reply}
 use Rattle.protocol.proofs.Puts.{put_other}
 use Rattle.protocol.proofs.Tables.{put_same}
@@ -36,7 +38,7 @@ use Rattle.view_laws.proofs.Histories.{ViewWorld, IsSent, IsNamed, accept_in, ba
 use Rattle.view_laws.proofs.Agreeing.{Agreed, KeepsViews, StaysAt, vote_request, VotesAt, LearnsAt, Turn, turned, last_noted, promise_says, accepted_says, sending_more, sent_grows}
 use Rattle.view_laws.proofs.Calling.{Called}
 use Rattle.view_laws.proofs.CallSteps.{put_back}
-use Rattle.view_laws.proofs.Owning.{learnt_own}
+use Rattle.view_laws.proofs.Owning.{learnt_own, synced_own}
 use Rattle.view_laws.proofs.Drafting.{Drafting, StepSays, BodySays, body_own, step_extends, still_body}
 
 -- ---- turns
@@ -44,7 +46,7 @@ use Rattle.view_laws.proofs.Drafting.{Drafting, StepSays, BodySays, body_own, st
 -- a brick that keeps what it kept of views takes no turn
 pub no_turn : (layout : Layout) (packets : List Packet) (node next : Node) → KeepsViews node next → Turn layout packets node next
 no_turn layout packets node next keeps g =
-    inl (ap (λ (l : ℕ → Learnt). l g) keeps.0, ap (λ (l : ℕ → Kept (List BrickId)). l g) keeps.1)
+    inl (ap (λ (l : ℕ → Learnt). (l g).view) keeps.0, ap (λ (l : ℕ → Kept (List BrickId)). l g) keeps.1)
 
 -- a brick that is taught a known view stays, or learns it
 pub taught_turn : (layout : Layout) (packets : List Packet) (node mid : Node) (block g : ℕ) (view : View) → KeepsViews node mid → IsNamed layout packets g view
@@ -61,7 +63,7 @@ taught_turn layout packets node mid block g view keeps named =
         → StaysAt node taught h ⊎ (VotesAt layout packets node taught h ⊎ LearnsAt layout packets node taught h)
     at later h false isnt =
         inl (
-          put_other mid.learnt g (learns (mid.learnt g) view) h (eqb-false h g isnt) ∙ ap (λ (l : ℕ → Learnt). l h) keeps.0,
+          ap (λ (l : Learnt). l.view) (put_other mid.learnt g (learns (mid.learnt g) view) h (eqb-false h g isnt)) ∙ ap (λ (l : ℕ → Learnt). (l h).view) keeps.0,
           put_other mid.ballots g _ h (eqb-false h g isnt) ∙ ap (λ (l : ℕ → Kept (List BrickId)). l h) keeps.1,
         )
     at later h true is =
@@ -261,15 +263,15 @@ module _ (setting : Setting) (v : ViewWorld) (called : Called v.packets v.nodes)
   node = v.nodes me.0
 
   -- what a brick owes that keeps its own and what it kept of views, and may reply
-  replies_says : (next : Node) → KeepsViews node next → next.calls ≡ node.calls → next.proposal ≡ node.proposal → (said : Option Reply)
+  replies_says : (next : Node) → KeepsViews node next → next.calls ≡ node.calls → next.proposal ≡ node.proposal → next.job ≡ node.job → (said : Option Reply)
       → ((one : Reply) → said ≡ Some one → (last : ViewWorld) → Extends setting.layout v last → ReplySays setting.layout last me.0 from.0 call one)
       → StepSays setting.layout v me.0 next (reply_packets me from call said)
-  replies_says next keeps calls proposal said says =
+  replies_says next keeps calls proposal job said says =
       let turn : Turn setting.layout v.packets node next = no_turn setting.layout v.packets node next keeps in
       let extends = step_extends setting.layout v me.0 next (reply_packets me from call said) agreed turn in
       record {
         turn = turn;
-        body = still_body setting.layout v (turned v me.0 next) me.0 next (reply_packets me from call said) extends refl drafting calls proposal
+        body = still_body setting.layout v (turned v me.0 next) me.0 next (reply_packets me from call said) extends refl drafting calls proposal job
             (each_reply (λ (packet : Packet). (g e : ℕ) (b : Ballot) (members : List BrickId) → accept_in g e b packet.message ≡ Some members → ⊥) me from call said
             (λ one is g e b members asks. let never : None ≡ Some members = asks in cc))
             (each_reply (PacketSays setting.layout (sending_more (turned v me.0 next) (reply_packets me from call said))) me from call said
@@ -279,7 +281,7 @@ module _ (setting : Setting) (v : ViewWorld) (called : Called v.packets v.nodes)
   -- one that does nothing
   quiet_says : StepSays setting.layout v me.0 node []
   quiet_says =
-      replies_says node (refl, refl) refl refl None (λ one is last extends. absurd (let never : None ≡ Some one = is in cc))
+      replies_says node (refl, refl) refl refl refl None (λ one is last extends. absurd (let never : None ≡ Some one = is in cc))
 
   -- a view that it has learnt, and that is later than the call's, is taught
   learnt_taught : 1 ≤ call.view.0 → nat_lt call.view.0 (view_at node call.group.0) ≡ true → (last : ViewWorld) → Extends setting.layout v last
@@ -333,7 +335,7 @@ module _ (setting : Setting) (v : ViewWorld) (called : Called v.packets v.nodes)
   seat_says m request None = quiet_says
   seat_says m request (Some seat) =
       let reaction : Reaction = handle setting.code m (full_at setting.layout.records node.live) seat (replica_at node call) request in
-      replies_says (reacted me from node call reaction).node (refl, refl) refl refl reaction.reply
+      replies_says (reacted me from node call reaction).node (refl, refl) refl refl refl reaction.reply
       (λ one is last extends. plain_says setting.layout last me.0 from.0 call one
       (handle_plain setting.code m (full_at setting.layout.records node.live) seat (replica_at node call) request one is))
 
@@ -346,7 +348,7 @@ module _ (setting : Setting) (v : ViewWorld) (called : Called v.packets v.nodes)
           → (let step = served_unless setting m me from node call request seat z in StepSays setting.layout v me.0 step.node step.packets)
       by None is = seat_says m request seat
       by (Some said) is =
-          replies_says node (refl, refl) refl refl (Some said)
+          replies_says node (refl, refl) refl refl refl (Some said)
           (λ one same last extends. moved_says positive known one (is ∙ same) last extends)
 
   -- the ballot of a request that asks for a vote is its call's
@@ -447,7 +449,7 @@ module _ (setting : Setting) (v : ViewWorld) (called : Called v.packets v.nodes)
       record {
         turn = turn;
         body = still_body setting.layout v (turned v me.0 (granted ballot asks)) me.0 (granted ballot asks) new
-            (step_extends setting.layout v me.0 (granted ballot asks) new agreed turn) refl drafting refl refl
+            (step_extends setting.layout v me.0 (granted ballot asks) new agreed turn) refl drafting refl refl refl
             (each_reply (λ (packet : Packet). (g e : ℕ) (b : Ballot) (members : List BrickId) → accept_in g e b packet.message ≡ Some members → ⊥) me from call
             (Some (granting (node.ballots call.group.0) ballot asks).reply)
             (λ one is g e b members asked. let never : None ≡ Some members = asked in cc))
@@ -464,7 +466,7 @@ module _ (setting : Setting) (v : ViewWorld) (called : Called v.packets v.nodes)
       → StepSays setting.layout v me.0 (record node { ballots = put node.ballots call.group.0 (node.ballots call.group.0) })
       (reply_packets me from call (Some refused))
   refuses_says ballot asks refused sent positive is =
-      replies_says (record node { ballots = put node.ballots call.group.0 (node.ballots call.group.0) }) (refl, put_back node.ballots call.group.0) refl refl
+      replies_says (record node { ballots = put node.ballots call.group.0 (node.ballots call.group.0) }) (refl, put_back node.ballots call.group.0) refl refl refl
       (Some refused)
       (λ one same last extends.
       subst (λ (z : Reply). ReplySays setting.layout last me.0 from.0 call z) (same_Some refused one same)
@@ -484,6 +486,21 @@ module _ (setting : Setting) (v : ViewWorld) (called : Called v.packets v.nodes)
       (λ (plain : IsPlain refused). plain_says setting.layout last me.0 from.0 call refused plain)
       other)
       (refusal_is call.view.0 (node.learnt call.group.0) (node.ballots call.group.0) ballot refused is)))
+
+  -- a brick tells what it keeps in a view
+  old_says : (bound : Option Stamp) → (let step = sending node (reply_packets me from call (old_reply node call bound)) in StepSays setting.layout v me.0 step.node step.packets)
+  old_says bound =
+      cond_both (nat_lt call.view.0 (first_kept (node.learnt call.group.0))) (Some reply.Retired) _ Says (λ dropped. plain reply.Retired tt)
+      (λ kept.
+      cond_both (is_some (moved_at node call)) (Some (reply.Old (newest_of (under bound (replica_at node call).log)))) None Says
+      (λ moved. plain (reply.Old (newest_of (under bound (replica_at node call).log))) tt) (λ serves. quiet_says))
+    where
+      Says : Option Reply → Type 0
+      Says said = StepSays setting.layout v me.0 node (reply_packets me from call said)
+
+      plain : (said : Reply) → IsPlain said → Says (Some said)
+      plain said is =
+          replies_says node (refl, refl) refl refl refl (Some said) (λ one same last extends. plain_says setting.layout last me.0 from.0 call one (one_plain said one is same))
 
   -- a ballot is voted on
   vote_says : (base : Group) (ballot : Ballot) (asks : Option (List BrickId))
@@ -516,7 +533,7 @@ module _ (setting : Setting) (v : ViewWorld) (called : Called v.packets v.nodes)
   as_says group at (Request.Modify t base j delta) sent opens =
       served_says opens.positive opens.known group.m (Request.Modify t base j delta) (seat_now me node call group)
   as_says group at (Request.Collect t) sent opens = seat_says group.m (Request.Collect t) (seat_now me node call group)
-  as_says group at (Request.OldRead bound) sent opens = quiet_says
+  as_says group at (Request.OldRead bound) sent opens = old_says bound
   as_says group at (Request.Prepare ballot) sent opens =
       let base = kept_is setting.layout (node.learnt call.group.0).view.members call.group.0 group at in
       vote_says base.0 ballot None sent base.1 opens.positive opens.known opens.fitting (λ members is. absurd (let never : None ≡ Some members = is in cc))
@@ -541,7 +558,28 @@ module _ (setting : Setting) (v : ViewWorld) (called : Called v.packets v.nodes)
           (λ (step : NodeStep). StepSays setting.layout v me.0 step.node step.packets) (λ void. quiet_says)
           (λ isnt. as_says group is request sent (open_is setting.layout me node call request group isnt))
 
--- ---- a view is taught
+-- ---- a view is taught, or known to be synced
+
+-- a brick that hears that all stripes are kept in a view stays
+pub synced_turn : (layout : Layout) (packets : List Packet) (node : Node) (group : GroupId) (number : ViewNo)
+    → Turn layout packets node (node_synced layout node group number)
+synced_turn layout packets node group number =
+    synced_each (λ (n : Node). Turn layout packets node n) layout node group number (no_turn layout packets node node (refl, refl))
+    (λ now unsynced g. inl (synced_views layout node group.0 g))
+
+-- what it owes then
+pub synced_says : (setting : Setting) (v : ViewWorld) → Agreed setting.layout v → Drafting setting.layout v → (me : BrickId) (group : GroupId) (number : ViewNo)
+    → StepSays setting.layout v me.0 (node_synced setting.layout (v.nodes me.0) group number) []
+synced_says setting v agreed drafting me group number =
+    let node : Node = v.nodes me.0 in
+    let next : Node = node_synced setting.layout node group number in
+    let turn : Turn setting.layout v.packets node next = synced_turn setting.layout v.packets node group number in
+    record {
+      turn = turn;
+      body = body_own setting.layout v (turned v me.0 next) me.0 node next [] (synced_own setting.layout node group number)
+          (still_body setting.layout v (turned v me.0 next) me.0 node [] (step_extends setting.layout v me.0 next [] agreed turn) refl drafting refl refl refl
+          (λ k packet at. absurd (let never : None ≡ Some packet = at in cc)) (λ k packet at. absurd (let never : None ≡ Some packet = at in cc)));
+    }
 
 -- what a brick owes when it handles a message that teaches a view
 pub learn_says : (setting : Setting) (v : ViewWorld) → Agreed setting.layout v → Drafting setting.layout v → (from me : BrickId) (group : GroupId) (view : View)
@@ -559,5 +597,5 @@ learn_says setting v agreed drafting from me group view sent =
   where
     still_body_of : (node next : Node) → Extends setting.layout v (sending_more (turned v me.0 next) []) → BodySays setting.layout v (turned v me.0 next) me.0 (v.nodes me.0) []
     still_body_of node next extends =
-        still_body setting.layout v (turned v me.0 next) me.0 (v.nodes me.0) [] extends refl drafting refl refl
+        still_body setting.layout v (turned v me.0 next) me.0 (v.nodes me.0) [] extends refl drafting refl refl refl
         (λ k packet at. absurd (let never : None ≡ Some packet = at in cc)) (λ k packet at. absurd (let never : None ≡ Some packet = at in cc))

@@ -3,6 +3,7 @@
 ghost use Rattle.view_laws.specs.Following.{EveryRunFollowsItsViews};
 ghost use Rattle.view_laws.specs.Successors.{ChoicesHold, ClosedStays, NamesAreChosen, OneSuccessor};
 ghost use Rattle.view_laws.specs.Ends.{BadMembersEndAtOnce, ProposalsShow};
+ghost use Rattle.view_laws.specs.Syncs.{SyncsAreSaid};
 
 /// Every run follows the members that its messages teach: those of view 1 are the layout's, and those of a later view are what the first message named that taught
 /// it.
@@ -52,4 +53,12 @@ pub fn a_closed_view_stays_closed()
 pub fn proposals_show_their_ends()
     ensures shows { ProposalsShow }
     ensures at_once { BadMembersEndAtOnce }
+{}
+
+/// A view is followed by another only once all stripes are said to be kept in it. View 1 is so at first, and each other view only once a message was sent that says so.
+///
+/// What a brick knows to be synced was said to be. So was each view that a brick has accepted a list to follow, or that a list was chosen to follow; so was the view
+/// before each one that a message teaches, or that an open operation is of, and each view before one that a brick has learnt.
+pub fn a_followed_view_is_said_synced()
+    ensures { SyncsAreSaid }
 {}

@@ -5,6 +5,6 @@
 pub mod laws;
 
 pub use laws::{
-    a_closed_view_stays_closed, a_view_has_one_successor, every_run_follows_its_views,
-    proposals_show_their_ends,
+    a_closed_view_stays_closed, a_followed_view_is_said_synced, a_view_has_one_successor,
+    every_run_follows_its_views, proposals_show_their_ends,
 };

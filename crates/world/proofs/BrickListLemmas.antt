@@ -33,7 +33,7 @@ use Rattle.protocol.specs.Nodes as machine
 use Rattle.world.specs.Runs.{brick_of}
 use Rattle.world.specs.Disks.{AreFreshDisks, IsUnwritten, ListsPacket, first_listed}
 use Rattle.world.specs.Faults.{IsReached, IsLeft, plan_of}
-use Rattle.world.specs.Shown.{IsRunning, Rests, ShowsPower, ShowsBrick, ShowsBricks, IsFreshBrick, Takes, HandledAs, ProposedAs, IsNodeOf, IsOn, IsUp, FindsUp, StopsBrick, AreNodesOf, disk_in, disks_of, node_in, running_at, clock_at}
+use Rattle.world.specs.Shown.{IsRunning, Rests, ShowsPower, ShowsBrick, ShowsBricks, IsFreshBrick, Takes, HandledAs, SteppedAs, IsNodeOf, IsOn, IsUp, FindsUp, StopsBrick, AreNodesOf, disk_in, disks_of, node_in, running_at, clock_at}
 use Rattle.lines.specs.declared.forms.Fault.{Fault}
 use Rattle.world.proofs.DiskLemmas.{disk_at, disk_set, unwritten_but}
 use Rattle.world.specs.declared.bricks.Brick.{Brick}
@@ -192,24 +192,36 @@ proposing_refused layout bricks b brick node group result within is on refuses w
     subst (λ (x : machine.Node). RefusesAs result (machine.proposal_refusal layout x group.0)) runs.state_is
     (subst (λ (l : Layout). RefusesAs result (machine.proposal_refusal l (state_of node) group.0)) runs.layout_is refuses)
 
--- and proposes as the machine's does
-pub proposing_begun : (bricks : List Brick) (b : ℕ) (old : Brick) (node new : Running MemDisk) (group : GroupId) (members : List BrickId)
+-- so to synchronise
+pub syncing_refused : (layout : Layout) (bricks : List Brick) (b : ℕ) (brick : Brick) (node : Running MemDisk) (group : GroupId)
+    (result : Result Outcome NodeFault)
+    → b < length bricks → brick ≡ get_or bricks b brick → brick.power ≡ Up node
+    → RefusesAs result (machine.sync_refusal node.layout (state_of node) group.0)
+    → (w : World) → ShowsBricks layout bricks w.nodes w.after w.up w.clocks → RefusesAs result (machine.sync_refusal layout (w.nodes b) group.0)
+syncing_refused layout bricks b brick node group result within is on refuses w shows =
+    let runs = (runs_at layout bricks w b brick node within is on shows).1 in
+    subst (λ (x : machine.Node). RefusesAs result (machine.sync_refusal layout x group.0)) runs.state_is
+    (subst (λ (l : Layout). RefusesAs result (machine.sync_refusal l (state_of node) group.0)) runs.layout_is refuses)
+
+-- and takes the machine's step
+stepping : (bricks : List Brick) (b : ℕ) (old : Brick) (node new : Running MemDisk) (step_by : Layout → BrickId → ℕ → machine.Node → machine.NodeStep)
     (result : Result Outcome NodeFault)
     → b < length bricks → old ≡ get_or bricks b old → old.power ≡ Up node → IsSameBrick node new → new.brick ≡ node.brick
-    → IfOk result (StepsAs node.me (state_of new) (machine.proposed (coding node.layout) node.me (state_of node) group members))
+    → IfOk result (StepsAs node.me (state_of new) (step_by node.layout node.me old.clock (state_of node)))
     → IfOk result (λ outs. (layout : Layout) (w : World) → ShowsBricks layout bricks w.nodes w.after w.up w.clocks
-    → ProposedAs layout w (brick_of b) (machine.proposed (coding layout) (brick_of b) (w.nodes b) group members) (set bricks b (with_power old (Up new))) outs)
-proposing_begun bricks b old node new group members result within is on same store begins =
-    IfOk-weaker result (StepsAs node.me (state_of new) (machine.proposed (coding node.layout) node.me (state_of node) group members)) _
+    → SteppedAs layout w (brick_of b) (step_by layout (brick_of b) (w.clocks b) (w.nodes b)) (set bricks b (with_power old (Up new))) outs)
+stepping bricks b old node new step_by result within is on same store begins =
+    IfOk-weaker result (StepsAs node.me (state_of new) (step_by node.layout node.me old.clock (state_of node))) _
     (λ outs as_machine layout w shows.
     let at = brick_at layout bricks w b old within is shows in
     let up = runs_at layout bricks w b old node within is on shows in
     let runs = up.1 in
-    let step : machine.NodeStep = machine.proposed (coding layout) (brick_of b) (w.nodes b) group members in
-    let alike : machine.proposed (coding node.layout) node.me (state_of node) group members ≡ step =
-    ap (λ (l : Layout). machine.proposed (coding l) node.me (state_of node) group members) runs.layout_is
-    ∙ ap (λ (x : BrickId). machine.proposed (coding layout) x (state_of node) group members) runs.me_is
-    ∙ ap (λ (x : machine.Node). machine.proposed (coding layout) (brick_of b) x group members) runs.state_is
+    let step : machine.NodeStep = step_by layout (brick_of b) (w.clocks b) (w.nodes b) in
+    let alike : step_by node.layout node.me old.clock (state_of node) ≡ step =
+    ap (λ (l : Layout). step_by l node.me old.clock (state_of node)) runs.layout_is
+    ∙ ap (λ (x : BrickId). step_by layout x old.clock (state_of node)) runs.me_is
+    ∙ ap (λ (t : ℕ). step_by layout (brick_of b) t (state_of node)) at.clock
+    ∙ ap (λ (x : machine.Node). step_by layout (brick_of b) (w.clocks b) x) runs.state_is
     in
     let state : state_of new ≡ step.node = as_machine.state_is ∙ ap (λ (x : machine.NodeStep). x.node) alike in
     record {
@@ -227,6 +239,24 @@ proposing_begun bricks b old node new group members result within is on same sto
           shows;
     })
     begins
+
+-- so it proposes, and so it synchronises
+pub proposing_begun : (bricks : List Brick) (b : ℕ) (old : Brick) (node new : Running MemDisk) (group : GroupId) (members : List BrickId)
+    (result : Result Outcome NodeFault)
+    → b < length bricks → old ≡ get_or bricks b old → old.power ≡ Up node → IsSameBrick node new → new.brick ≡ node.brick
+    → IfOk result (StepsAs node.me (state_of new) (machine.proposed (coding node.layout) node.me (state_of node) group members))
+    → IfOk result (λ outs. (layout : Layout) (w : World) → ShowsBricks layout bricks w.nodes w.after w.up w.clocks
+    → SteppedAs layout w (brick_of b) (machine.proposed (coding layout) (brick_of b) (w.nodes b) group members) (set bricks b (with_power old (Up new))) outs)
+proposing_begun bricks b old node new group members result within is on same store begins =
+    stepping bricks b old node new (λ layout me now state. machine.proposed (coding layout) me state group members) result within is on same store begins
+
+pub syncing_begun : (bricks : List Brick) (b : ℕ) (old : Brick) (node new : Running MemDisk) (group : GroupId) (result : Result Outcome NodeFault)
+    → b < length bricks → old ≡ get_or bricks b old → old.power ≡ Up node → IsSameBrick node new → new.brick ≡ node.brick
+    → IfOk result (StepsAs node.me (state_of new) (machine.synced_at (coding node.layout) node.me old.clock (state_of node) group))
+    → IfOk result (λ outs. (layout : Layout) (w : World) → ShowsBricks layout bricks w.nodes w.after w.up w.clocks
+    → SteppedAs layout w (brick_of b) (machine.synced_at (coding layout) (brick_of b) (w.clocks b) (w.nodes b) group) (set bricks b (with_power old (Up new))) outs)
+syncing_begun bricks b old node new group result within is on same store begins =
+    stepping bricks b old node new (λ layout me now state. machine.synced_at (coding layout) me now state group) result within is on same store begins
 
 -- a brick of which the machine sees the same
 pub same_shown : (bricks : List Brick) (b : ℕ) (old : Brick) (node new : Running MemDisk)

@@ -1,24 +1,21 @@
 -- The number of a call is that of an operation of this very call, in every world that a schedule reaches.
-use Rattle.std.proofs.Common.{◌≡◌, ◌≢◌, ℕ, ◌+◌, ◌≤◌, ⊎_elim, Bool, true, false, cond, nat_eq, List, [], ◌∷◌, Option, Some, None, refl, sym, ap, ◌∙◌, subst, arith}
+use Rattle.std.proofs.Common.{◌≡◌, ◌≢◌, ℕ, ◌+◌, ◌≤◌, ⊎_elim, Bool, true, false, cond, nat_eq, ◌&&◌, List, Option, Some, None, refl, sym, ap, ◌∙◌, subst, arith}
 use Rattle.std.proofs.lemmas.Bool.{and_parts, cond_both, cases_eq, eqb-true}
 use Rattle.std.proofs.lemmas.Option.{same_Some}
 use Rattle.fab_base.specs.declared.answers.Answer.{Answer}
+use Rattle.fab_base.specs.declared.answers.Cause.{Cause}
 use Rattle.fab_base.specs.declared.stamps.Stamp.{Stamp}
 use Rattle.fab_base.specs.declared.asks.Ask.{Ask}
 use Rattle.fab_base.specs.declared.identities.BrickId.{BrickId}
-use Rattle.messages.specs.declared.packets.Packet.{Packet}
 use Rattle.fab_base.specs.Layouts.{Layout}
 use Rattle.stripe_code.specs.Codes.{coding}
 use Rattle.protocol.specs.Settings.{Setting}
-use Rattle.protocol.specs.declared.tellings.Answered.{Answered}
-use Rattle.protocol.specs.declared.tellings.Told.{Told}
-use Rattle.protocol.specs.declared.tellings.Told.TheVariants.{Made, Seen}
 use Rattle.protocol.specs.Coordinators.{Coordinator}
-use Rattle.protocol.specs.Nodes.{NodeStep, put, invoked, proposed}
-use Rattle.protocol.specs.Worlds.{World, Operation, Event, Delivers, first_world, is_brick, is_up, number_of, with_made, with_seen, with_answer, world_began, world_told, world_tells, world_answered, world_answers, world_stepped, happens, run}
+use Rattle.protocol.specs.Nodes.{NodeStep, put, invoked, proposed, synced_at}
+use Rattle.protocol.specs.Worlds.{World, Operation, Event, first_world, is_brick, is_up, number_of, read_of_call, with_made, with_seen, with_closed, with_answer, world_began, world_stepped, run}
 use Rattle.protocol_laws.proofs.Books.{Books}
 use Rattle.world.proofs.Places.{value_here, value_elsewhere}
-use Rattle.protocol.proofs.Events.{EventCases, step_on, world_counting, world_handled, handled_or_not, stepped_each, started_each, always}
+use Rattle.protocol.proofs.Events.{EventCases, step_on, world_counting, stepped_each, started_each, always}
 
 -- the operation is of this call
 abbrev pub IsOfCallAt : ℕ → ℕ → ℕ → Operation → Type 0
@@ -30,31 +27,15 @@ NumbersSay w =
     (i b k : ℕ) → w.numbers i b k ≢ 0
     → (w.numbers i b k ≤ w.begun) × ((o : Operation) × (w.operations (w.numbers i b k) ≡ Some o) × IsOfCallAt i b k o)
 
+-- so of these numbers and operations, so many
+abbrev pub NumbersSayOf : ℕ → (ℕ → ℕ → ℕ → ℕ) → (ℕ → Option Operation) → Type 0
+NumbersSayOf begun numbers operations =
+    (i b k : ℕ) → numbers i b k ≢ 0
+    → (numbers i b k ≤ begun) × ((o : Operation) × (operations (numbers i b k) ≡ Some o) × IsOfCallAt i b k o)
+
 -- the same operations, of the same calls
 abbrev pub SameCall : Operation → Operation → Type 0
 SameCall o p = (p.brick ≡ o.brick) × (p.boot ≡ o.boot) × (p.seq ≡ o.seq)
-
-pub record SameCalls (w v : World) : Type 0 where
-  pub begun : v.begun ≡ w.begun
-  pub numbers : v.numbers ≡ w.numbers
-  pub operations : (n : ℕ) (o : Operation) → w.operations n ≡ Some o → (p : Operation) × (v.operations n ≡ Some p) × SameCall o p
-
-pub same_calls : (w v : World) → v.begun ≡ w.begun → v.numbers ≡ w.numbers → v.operations ≡ w.operations → SameCalls w v
-same_calls w v begun numbers operations = record {
-  begun = begun;
-  numbers = numbers;
-  operations = λ n o is. (o, ap (λ (f : ℕ → Option Operation). f n) operations ∙ is, (refl, refl, refl));
-}
-
-pub same_trans : (w v u : World) → SameCalls w v → SameCalls v u → SameCalls w u
-same_trans w v u first second = record {
-  begun = second.begun ∙ first.begun;
-  numbers = second.numbers ∙ first.numbers;
-  operations = λ n o is.
-      (let mid = first.operations n o is in
-      let last = second.operations n mid.0 mid.1 in
-      (last.0, last.1, (last.2.0 ∙ mid.2.0, last.2.1 ∙ mid.2.1, last.2.2 ∙ mid.2.2)));
-}
 
 -- one operation changed, but not its call
 one_changed : (operations : ℕ → Option Operation) (at : ℕ) (change : Option Operation → Option Operation)
@@ -68,117 +49,80 @@ one_changed operations at change same n o is =
     (becomes.0, ap change was ∙ becomes.1, becomes.2))
     (λ there. (o, is, (refl, refl, refl)))
 
--- what is told and answered
-told_same : (setting : Setting) (w : World) (brick : BrickId) (one : Told) → SameCalls w (world_told setting w brick one)
-told_same setting w brick (Made seq t base) = record {
-  begun = refl;
-  numbers = refl;
-  operations = one_changed w.operations (number_of w brick.0 seq) (with_made t base) (λ o. (_, refl, (refl, refl, refl)));
-}
-told_same setting w brick (Seen seq v) = record {
-  begun = refl;
-  numbers = refl;
-  operations = one_changed w.operations (number_of w brick.0 seq) (with_seen v) (λ o. (_, refl, (refl, refl, refl)));
-}
+-- so the numbers say the same
+numbers_changed : (w : World) (at : ℕ) (change : Option Operation → Option Operation)
+    → ((o : Operation) → (p : Operation) × (change (Some o) ≡ Some p) × SameCall o p) → NumbersSay w
+    → NumbersSayOf w.begun w.numbers (put w.operations at (change (w.operations at)))
+numbers_changed w at change same says i b k some =
+    let was = says i b k some in
+    let now = one_changed w.operations at change same (w.numbers i b k) was.1.0 was.1.1 in
+    (was.0, (now.0, now.1, (ap (λ (brick : BrickId). brick.0) now.2.0 ∙ was.1.2.0, now.2.1 ∙ was.1.2.1, now.2.2 ∙ was.1.2.2)))
 
-tells_same_calls : (setting : Setting) (w : World) (brick : BrickId) (told : List Told) → SameCalls w (world_tells setting w brick told)
-tells_same_calls setting w brick [] = same_calls w w refl refl refl
-tells_same_calls setting w brick (one ∷ more) =
-    same_trans w (world_told setting w brick one) (world_tells setting w brick (one ∷ more)) (told_same setting w brick one)
-    (tells_same_calls setting (world_told setting w brick one) brick more)
-
-answers_same_calls : (w : World) (brick : BrickId) (answers : List Answered) → SameCalls w (world_answers w brick answers)
-answers_same_calls w brick [] = same_calls w w refl refl refl
-answers_same_calls w brick (one ∷ more) =
-    same_trans w (world_answered w brick one) (world_answers w brick (one ∷ more))
-    (record {
-      begun = refl;
-      numbers = refl;
-      operations = one_changed w.operations (number_of w brick.0 one.seq) (with_answer one.answer) (λ o. (_, refl, (refl, refl, refl)));
-    })
-    (answers_same_calls (world_answered w brick one) brick more)
-
--- a brick's step
-pub stepped_same : (setting : Setting) (w : World) (brick : BrickId) (step : NodeStep) → SameCalls w (world_stepped setting w brick step)
-stepped_same setting w brick step =
-    let told : World = world_tells setting w brick step.told in
-    let heard : World = world_answers told brick step.answers in
-    same_trans w heard (world_stepped setting w brick step)
-    (same_trans w told heard (tells_same_calls setting w brick step.told) (answers_same_calls told brick step.answers))
-    (same_calls heard (world_stepped setting w brick step) refl refl refl)
-
--- so a delivery, of a message that there is or is not
-handled_same : (setting : Setting) (w : World) (number : ℕ) (packet : Packet) → SameCalls w (world_handled setting w number packet)
-handled_same setting w number packet =
-    same_trans w (world_counting setting w number packet) (world_handled setting w number packet) (same_calls w _ refl refl refl)
-    (stepped_same setting (world_counting setting w number packet) packet.to (step_on setting w packet))
-
-pub deliver_same : (setting : Setting) (w : World) (number : ℕ) → SameCalls w (happens setting w (Delivers number))
-deliver_same setting w number =
-    handled_or_not (SameCalls w) setting w (same_calls w w refl refl refl) number (λ packet at up. handled_same setting w number packet)
-
--- the same operations keep what the numbers say
-numbers_kept : (w v : World) → SameCalls w v → NumbersSay w → NumbersSay v
-numbers_kept w v same says i b k some =
-    let number : v.numbers i b k ≡ w.numbers i b k = ap (λ (f : ℕ → ℕ → ℕ → ℕ). f i b k) same.numbers in
-    let was = says i b k (λ none. some (number ∙ none)) in
-    let now = same.operations (w.numbers i b k) was.1.0 was.1.1 in (
-      subst (λ (n : ℕ). n ≤ v.begun) (sym number) (subst (λ (n : ℕ). w.numbers i b k ≤ n) (sym same.begun) was.0),
-      (
-        now.0,
-        ap v.operations number ∙ now.1,
-        (ap (λ (brick : BrickId). brick.0) now.2.0 ∙ was.1.2.0, now.2.1 ∙ was.1.2.1, now.2.2 ∙ was.1.2.2),
-      ),
-    )
-
--- a call more
-numbers_began : (w : World) (brick : BrickId) (ask : Ask) (step : NodeStep) → NumbersSay w → NumbersSay (world_began w brick ask step)
-numbers_began w brick ask step says i b k = by_brick (nat_eq i brick.0) refl
+-- a call more, of an operation that begins
+numbers_more : (w : World) (brick : BrickId) (boot seq : ℕ) (o : Operation) → o.brick ≡ brick → o.boot ≡ boot → o.seq ≡ seq → NumbersSay w
+    → NumbersSayOf (w.begun + 1) (put w.numbers brick.0 (put (w.numbers brick.0) boot (put (w.numbers brick.0 boot) seq (w.begun + 1))))
+    (put w.operations (w.begun + 1) (Some o))
+numbers_more w brick boot seq o brick_is boot_is seq_is says i b k = by_brick (nat_eq i brick.0) refl
   where
-    v : World
-    v = world_began w brick ask step
-
     n : ℕ
     n = w.begun + 1
 
+    operations : ℕ → Option Operation
+    operations = put w.operations n (Some o)
+
+    Fits : ℕ → Type 0
+    Fits number = number ≢ 0 → (number ≤ n) × ((p : Operation) × (operations number ≡ Some p) × IsOfCallAt i b k p)
+
     -- an older one stays
-    older : (w.numbers i b k ≢ 0) → (w.numbers i b k ≤ n) × ((o : Operation) × (v.operations (w.numbers i b k) ≡ Some o) × IsOfCallAt i b k o)
+    older : Fits (w.numbers i b k)
     older some =
         let was = says i b k some in
         let apart : w.numbers i b k ≢ n = (λ e. omega (arith, was.0, e)) in
-        (omega (arith, was.0), (was.1.0, value_elsewhere w.operations n (w.numbers i b k) _ apart ∙ was.1.1, was.1.2))
+        (omega (arith, was.0), (was.1.0, value_elsewhere w.operations n (w.numbers i b k) (Some o) apart ∙ was.1.1, was.1.2))
 
-    Fits : ℕ → Type 0
-    Fits number = number ≢ 0 → (number ≤ n) × ((o : Operation) × (v.operations number ≡ Some o) × IsOfCallAt i b k o)
+    by_seq : (x : Bool) → nat_eq k seq ≡ x → i ≡ brick.0 → b ≡ boot → Fits (cond x n (w.numbers brick.0 boot k))
+    by_seq true same at from some = (
+      omega arith,
+      (
+        o,
+        value_here w.operations n n (Some o) refl,
+        (ap (λ (x : BrickId). x.0) brick_is ∙ sym at, boot_is ∙ sym from, seq_is ∙ sym (eqb-true k seq same)),
+      ),
+    )
+    by_seq false other at from some =
+        subst Fits (ap (λ j. w.numbers j b k) at ∙ ap (λ c. w.numbers brick.0 c k) from) older some
 
-    by_seq : (x : Bool) → nat_eq k step.node.seq ≡ x → i ≡ brick.0 → b ≡ step.node.boot → Fits (cond x n (w.numbers brick.0 step.node.boot k))
-    by_seq true same at boot some = (omega arith, (_, value_here w.operations n n _ refl, (sym at, sym boot, sym (eqb-true k step.node.seq same))))
-    by_seq false other at boot some =
-        let same : w.numbers brick.0 step.node.boot k ≡ w.numbers i b k = ap (λ j. w.numbers j step.node.boot k) (sym at) ∙ ap (λ c. w.numbers i c k) (sym boot) in
-        subst (λ number. (number ≤ n) × ((o : Operation) × (v.operations number ≡ Some o) × IsOfCallAt i b k o)) (sym same)
-        (older (λ none. some (same ∙ none)))
-
-    by_boot : (x : Bool) → nat_eq b step.node.boot ≡ x → i ≡ brick.0
-        → Fits (cond x (put (w.numbers brick.0 step.node.boot) step.node.seq n) (w.numbers brick.0 b) k)
-    by_boot true same at = by_seq (nat_eq k step.node.seq) refl at (eqb-true b step.node.boot same)
-    by_boot false other at =
-        let same : w.numbers brick.0 b k ≡ w.numbers i b k = ap (λ j. w.numbers j b k) (sym at) in
-        (λ some. subst (λ number. (number ≤ n) × ((o : Operation) × (v.operations number ≡ Some o) × IsOfCallAt i b k o)) (sym same)
-        (older (λ none. some (same ∙ none))))
+    by_boot : (x : Bool) → nat_eq b boot ≡ x → i ≡ brick.0 → Fits (cond x (put (w.numbers brick.0 boot) seq n) (w.numbers brick.0 b) k)
+    by_boot true same at = by_seq (nat_eq k seq) refl at (eqb-true b boot same)
+    by_boot false other at = subst Fits (ap (λ j. w.numbers j b k) at) older
 
     by_brick : (x : Bool) → nat_eq i brick.0 ≡ x
-        → Fits (cond x (put (w.numbers brick.0) step.node.boot (put (w.numbers brick.0 step.node.boot) step.node.seq n)) (w.numbers i) b k)
-    by_brick true same = by_boot (nat_eq b step.node.boot) refl (eqb-true i brick.0 same)
+        → Fits (cond x (put (w.numbers brick.0) boot (put (w.numbers brick.0 boot) seq n)) (w.numbers i) b k)
+    by_brick true same = by_boot (nat_eq b boot) refl (eqb-true i brick.0 same)
     by_brick false other = older
+
+-- a brick's step
+numbers_stepped : (setting : Setting) (w : World) (brick : BrickId) (step : NodeStep) → NumbersSay w → NumbersSay (world_stepped setting w brick step)
+numbers_stepped setting w brick step says =
+    stepped_each NumbersSay setting brick step
+    (λ x seq t base. numbers_changed x (number_of x brick.0 seq) (with_made t base) (λ o. (_, refl, (refl, refl, refl))))
+    (λ x seq v. numbers_changed x (number_of x brick.0 seq) (with_seen v) (λ o. (_, refl, (refl, refl, refl))))
+    (λ x nodes call. numbers_more x brick call.boot call.seq (read_of_call nodes x brick call) refl refl refl)
+    (λ x seq cause. numbers_changed x (number_of x brick.0 seq) (with_closed cause) (λ o. (_, refl, (refl, refl, refl))))
+    (λ x one. numbers_changed x (number_of x brick.0 one.seq) (with_answer one.answer) (λ o. (_, refl, (refl, refl, refl))))
+    (λ x nodes held packets choices holds. holds) w says
+
+-- an operation of a client
+numbers_began : (w : World) (brick : BrickId) (ask : Ask) (step : NodeStep) → NumbersSay w → NumbersSay (world_began w brick ask step)
+numbers_began w brick ask step says = numbers_more w brick step.node.boot step.node.seq _ refl refl refl says
 
 -- every event
 numbers_cases : (setting : Setting) (w : World) → NumbersSay w → EventCases setting w NumbersSay
 numbers_cases setting w says = record {
   begins = λ brick ask may. numbers_began w brick ask (invoked setting brick (w.clocks brick.0) (w.nodes brick.0) ask) says;
-  proposes = λ brick group members may.
-      (let step : NodeStep = proposed setting brick (w.nodes brick.0) group members in
-      numbers_kept w (world_stepped setting w brick step) (stepped_same setting w brick step) says);
-  handles = λ number packet at up. numbers_kept w (world_handled setting w number packet) (handled_same setting w number packet) says;
+  proposes = λ brick group members may. numbers_stepped setting w brick (proposed setting brick (w.nodes brick.0) group members) says;
+  syncs = λ brick group may. numbers_stepped setting w brick (synced_at setting brick (w.clocks brick.0) (w.nodes brick.0) group) says;
+  handles = λ number packet at up. numbers_stepped setting (world_counting setting w number packet) packet.to (step_on setting w packet) says;
   sets = λ brick time is. says;
   ticks = λ brick up. says;
   stops = λ brick during up. says;
@@ -217,6 +161,11 @@ answer_before : (answer : Answer) (found : Option Operation) (p : Operation) →
 answer_before answer None p is = absurd (let never : None ≡ Some p = is in cc)
 answer_before answer (Some o) p is = (o, refl, subst (SameCall o) (same_Some _ p is) (refl, refl, refl))
 
+closed_before : (cause : Option Cause) (found : Option Operation) (p : Operation) → with_closed cause found ≡ Some p
+    → (o : Operation) × (found ≡ Some o) × SameCall o p
+closed_before cause None p is = absurd (let never : None ≡ Some p = is in cc)
+closed_before cause (Some o) p is = (o, refl, subst (SameCall o) (same_Some _ p is) (refl, refl, refl))
+
 -- a change of an operation that keeps its call keeps the bricks
 bricks_put : (layout : Layout) (w : World) (at : ℕ) (change : Option Operation → Option Operation)
     → ((found : Option Operation) (p : Operation) → change found ≡ Some p → (o : Operation) × (found ≡ Some o) × SameCall o p) → AreOfBricks layout w
@@ -224,29 +173,44 @@ bricks_put : (layout : Layout) (w : World) (at : ℕ) (change : Option Operation
 bricks_put layout w at change same are n p is =
     let was = one_before w.operations at change same n p is in ap (is_brick layout) was.2.0 ∙ are n was.0 was.1
 
-bricks_stepped : (setting : Setting) (w : World) (brick : BrickId) (step : NodeStep) → AreOfBricks setting.layout w
+-- an operation more, of a brick of the layout
+bricks_more : (layout : Layout) (w : World) (one : Operation) → is_brick layout one.brick ≡ true → AreOfBricks layout w
+    → (n : ℕ) (o : Operation) → put w.operations (w.begun + 1) (Some one) n ≡ Some o → is_brick layout o.brick ≡ true
+bricks_more layout w one there are n o =
+    cond_both (nat_eq n (w.begun + 1)) (Some one) (w.operations n) (λ (x : Option Operation). x ≡ Some o → is_brick layout o.brick ≡ true)
+    (λ here is. subst (λ (x : Operation). is_brick layout x.brick ≡ true) (same_Some one o is) there)
+    (λ elsewhere is. are n o is)
+
+bricks_stepped : (setting : Setting) (w : World) (brick : BrickId) (step : NodeStep) → is_brick setting.layout brick ≡ true → AreOfBricks setting.layout w
     → AreOfBricks setting.layout (world_stepped setting w brick step)
-bricks_stepped setting w brick step are =
+bricks_stepped setting w brick step there are =
     stepped_each (AreOfBricks setting.layout) setting brick step
     (λ x seq t base. bricks_put setting.layout x (number_of x brick.0 seq) (with_made t base) (made_before t base))
     (λ x seq v. bricks_put setting.layout x (number_of x brick.0 seq) (with_seen v) (seen_before v))
+    (λ x nodes call. bricks_more setting.layout x (read_of_call nodes x brick call) there)
+    (λ x seq cause. bricks_put setting.layout x (number_of x brick.0 seq) (with_closed cause) (closed_before cause))
     (λ x one. bricks_put setting.layout x (number_of x brick.0 one.seq) (with_answer one.answer) (answer_before one.answer))
     (λ x nodes held packets choices holds. holds) w are
 
 bricks_began : (layout : Layout) (w : World) (brick : BrickId) (ask : Ask) (step : NodeStep) → is_brick layout brick ≡ true → AreOfBricks layout w
     → AreOfBricks layout (world_began w brick ask step)
-bricks_began layout w brick ask step there are n o =
-    cond_both (nat_eq n (w.begun + 1)) _ (w.operations n) (λ (x : Option Operation). x ≡ Some o → is_brick layout o.brick ≡ true)
-    (λ here is. subst (λ (x : Operation). is_brick layout x.brick ≡ true) (same_Some _ o is) there)
-    (λ elsewhere is. are n o is)
+bricks_began layout w brick ask step there are = bricks_more layout w _ there are
+
+-- a brick that may do something is one of the layout
+is_there : (layout : Layout) (w : World) (brick : BrickId) (b : Bool) → is_up layout w brick && b ≡ true → is_brick layout brick ≡ true
+is_there layout w brick b may = (and_parts (is_brick layout brick) (w.up brick.0) (and_parts (is_up layout w brick) b may).0).0
 
 bricks_cases : (setting : Setting) (w : World) → AreOfBricks setting.layout w → EventCases setting w (AreOfBricks setting.layout)
 bricks_cases setting w are = record {
   begins = λ brick ask may.
-      bricks_began setting.layout w brick ask (invoked setting brick (w.clocks brick.0) (w.nodes brick.0) ask)
-      (and_parts (is_brick setting.layout brick) (w.up brick.0) (and_parts (is_up setting.layout w brick) _ may).0).0 are;
-  proposes = λ brick group members may. bricks_stepped setting w brick (proposed setting brick (w.nodes brick.0) group members) are;
-  handles = λ number packet at up. bricks_stepped setting (world_counting setting w number packet) packet.to (step_on setting w packet) are;
+      bricks_began setting.layout w brick ask (invoked setting brick (w.clocks brick.0) (w.nodes brick.0) ask) (is_there setting.layout w brick _ may) are;
+  proposes = λ brick group members may.
+      bricks_stepped setting w brick (proposed setting brick (w.nodes brick.0) group members) (is_there setting.layout w brick _ may) are;
+  syncs = λ brick group may.
+      bricks_stepped setting w brick (synced_at setting brick (w.clocks brick.0) (w.nodes brick.0) group) (is_there setting.layout w brick _ may) are;
+  handles = λ number packet at up.
+      bricks_stepped setting (world_counting setting w number packet) packet.to (step_on setting w packet)
+      (and_parts (is_brick setting.layout packet.to) (w.up packet.to.0) up).0 are;
   sets = λ brick time is. are;
   ticks = λ brick up. are;
   stops = λ brick during up. are;

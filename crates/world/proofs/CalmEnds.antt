@@ -9,15 +9,14 @@ use Rattle.fab_disk.specs.declared.mem_disk.MemDisk.{MemDisk}
 use Rattle.lines.specs.declared.forms.Line.TheVariants.{Calm}
 use Rattle.protocol.specs.Settings.{Setting}
 use Rattle.protocol.specs.declared.tellings.Report.{Report}
-use Rattle.protocol.specs.Calms.{RunsAlone, Ended, Stuck, Next}
-use Rattle.protocol.specs.Worlds.{World, Event, Delivers, happens, run}
+use Rattle.protocol.specs.Calms.{RunsAlone, Ended, Stuck, Next, IsCalm, operation_marked}
+use Rattle.protocol.specs.Worlds.{World, Event, Delivers, first_world, happens, run}
 use Rattle.rs_code.proofs.StripeLaws.{length-coded_block}
 use Rattle.stripe_code.specs.Codes.{coding}
 use Rattle.stripe_code.proofs.Soundness.{coding_is_sound}
 use Rattle.calm_laws.specs.Laws.{IsOver, LeavesItsOwn}
-use Rattle.calm_laws.proofs.Discharge.{calm_ends}
+use Rattle.calm_laws.proofs.Discharge.{calm_ends, marked_has_stripe}
 use Rattle.calm_laws.proofs.Leaving.{collects_leave}
-use Rattle.world.specs.Calms.{MayRunAlone}
 use Rattle.world.specs.Runs.{brick_of}
 use Rattle.world.specs.Shown.{Shows, Comes, Refused, HasRun, HasBegun, IsReachedBy, disks_of, is_empty}
 use Rattle.world.specs.Texts.{marks_text, reports_text, new_marks, new_reports, outcome_text, text_of, line_text}
@@ -26,21 +25,26 @@ use Rattle.world.specs.declared.simulations.Simulation.{Simulation}
 use Rattle.world.proofs.CalmRuns.{begins_run}
 
 -- it is over
-over_alone : (layout : Layout) (is : IsLayout layout) (n : ℕ) (bricks : List BrickId) (w last : World) (events : List Event) → IsReachedBy layout w
-    → MayRunAlone (coding layout) w n bricks → RunsAlone (coding layout) n bricks w events last → IsOver last n
-over_alone layout is n bricks w last events (before, reached) may runs =
-    let its : MayRunAlone (coding layout) _ n bricks = subst (λ (v : World). MayRunAlone (coding layout) v n bricks) reached may in
-    (calm_ends (coding layout) before n bricks (coding_is_sound layout is) (λ m content seat. length-coded_block m layout.block content seat)
-    is.few_records its.calm its.first).over events last (subst (λ (v : World). RunsAlone (coding layout) n bricks v events last) reached runs)
+over_alone : (layout : Layout) (is : IsLayout layout) (mark : ℕ) (bricks : List BrickId) (w last : World) (events : List Event) → IsReachedBy layout w
+    → IsCalm (coding layout) w (operation_marked w mark) bricks → RunsAlone (coding layout) (operation_marked w mark) bricks w events last
+    → IsOver last (operation_marked w mark)
+over_alone layout is mark bricks w last events (before, reached) =
+    subst (λ (v : World). IsCalm (coding layout) v (operation_marked v mark) bricks → RunsAlone (coding layout) (operation_marked v mark) bricks v events last
+    → IsOver last (operation_marked v mark)) (sym reached)
+    (λ calm runs. (calm_ends (coding layout) before (operation_marked (run (coding layout) before (first_world layout)) mark) bricks (coding_is_sound layout is)
+    (λ m content seat. length-coded_block m layout.block content seat) is.few_records calm
+    (marked_has_stripe (coding layout) before mark calm.operation calm.is)).over events last runs)
 
 -- and its Collects leave its own version only
-leaves_own : (layout : Layout) (is : IsLayout layout) (n : ℕ) (bricks : List BrickId) (w last : World) (events : List Event) → IsReachedBy layout w
-    → (may : MayRunAlone (coding layout) w n bricks) → RunsAlone (coding layout) n bricks w events last → LeavesItsOwn (coding layout) w n bricks may.calm last
-leaves_own layout is n bricks w last events (before, reached) =
-    subst (λ (v : World). (may : MayRunAlone (coding layout) v n bricks) → RunsAlone (coding layout) n bricks v events last
-    → LeavesItsOwn (coding layout) v n bricks may.calm last) (sym reached)
-    (λ may runs. collects_leave (coding layout) before n bricks (coding_is_sound layout is)
-    (λ m content seat. length-coded_block m layout.block content seat) is.few_records may.calm may.first events last runs)
+leaves_own : (layout : Layout) (is : IsLayout layout) (mark : ℕ) (bricks : List BrickId) (w last : World) (events : List Event) → IsReachedBy layout w
+    → (calm : IsCalm (coding layout) w (operation_marked w mark) bricks) → RunsAlone (coding layout) (operation_marked w mark) bricks w events last
+    → LeavesItsOwn (coding layout) w (operation_marked w mark) bricks calm last
+leaves_own layout is mark bricks w last events (before, reached) =
+    subst (λ (v : World). (calm : IsCalm (coding layout) v (operation_marked v mark) bricks)
+    → RunsAlone (coding layout) (operation_marked v mark) bricks v events last → LeavesItsOwn (coding layout) v (operation_marked v mark) bricks calm last) (sym reached)
+    (λ calm runs. collects_leave (coding layout) before (operation_marked (run (coding layout) before (first_world layout)) mark) bricks (coding_is_sound layout is)
+    (λ m content seat. length-coded_block m layout.block content seat) is.few_records calm
+    (marked_has_stripe (coding layout) before mark calm.operation calm.is) events last runs)
 
 -- it leaves the world after its events
 runs_run : (setting : Setting) (n : ℕ) (bricks : List BrickId) (w last : World) (events : List Event) → RunsAlone setting n bricks w events last
@@ -60,10 +64,12 @@ prints_marks setting w v n numbers (event ∷ events) true is prints none =
 prints_marks setting w v n numbers (event ∷ events) false is prints none = absurd (let never : false ≡ true = is in cc)
 
 -- the line of an operation that has run alone
-pub run_comes : (layout : Layout) (is : IsLayout layout) (w : World) (n : ℕ) (numbers : List ℕ) (disks : List MemDisk) (state : Simulation) (some : Bool)
-    → IsReachedBy layout w → MayRunAlone (coding layout) w n (map brick_of numbers) → HasRun layout w n (map brick_of numbers) disks state some
-    → Comes layout w disks state (Calm n numbers) (if some then Marks else Idle)
-run_comes layout is w n numbers disks state some reached may has =
+pub run_comes : (layout : Layout) (is : IsLayout layout) (w : World) (mark : ℕ) (numbers : List ℕ) (disks : List MemDisk) (state : Simulation) (some : Bool)
+    → IsReachedBy layout w → IsCalm (coding layout) w (operation_marked w mark) (map brick_of numbers)
+    → HasRun layout w (operation_marked w mark) (map brick_of numbers) disks state some
+    → Comes layout w disks state (Calm mark numbers) (if some then Marks else Idle)
+run_comes layout is w mark numbers disks state some reached may has =
+    let n : ℕ = operation_marked w mark in
     let after : has.last ≡ run (coding layout) has.events w = runs_run (coding layout) n (map brick_of numbers) w has.last has.events has.runs in
     let runs = subst (λ (v : World). RunsAlone (coding layout) n (map brick_of numbers) w has.events v) after has.runs in (
       has.events,
@@ -71,12 +77,12 @@ run_comes layout is w n numbers disks state some reached may has =
         are = inl (record {
           may = may;
           runs = runs;
-          over = over_alone layout is n (map brick_of numbers) w (run (coding layout) has.events w) has.events reached may runs;
-          leaves = leaves_own layout is n (map brick_of numbers) w (run (coding layout) has.events w) has.events reached may runs;
+          over = over_alone layout is mark (map brick_of numbers) w (run (coding layout) has.events w) has.events reached may runs;
+          leaves = leaves_own layout is mark (map brick_of numbers) w (run (coding layout) has.events w) has.events reached may runs;
         });
         shows = subst (λ (v : World). Shows layout state v) after has.shows;
         prints =
-            prints_marks (coding layout) w (run (coding layout) has.events w) n numbers has.events some has.some_is
+            prints_marks (coding layout) w (run (coding layout) has.events w) mark numbers has.events some has.some_is
             (subst (λ (v : World). text_of (coding layout) w has.events ≡ marks_text (new_marks w v)) after has.prints)
             (subst (λ (v : World). new_reports w v ≡ []) after
             (ap (drop (length w.choices.reports)) has.reports ∙ drop_all (length w.choices.reports) w.choices.reports (omega arith)));
@@ -85,11 +91,13 @@ run_comes layout is w n numbers disks state some reached may has =
     )
 
 -- no memory was left for an operation to run alone to its end
-pub begun_refused : (layout : Layout) (w : World) (old new : Simulation) (n : ℕ) (numbers : List ℕ) → MayRunAlone (coding layout) w n (map brick_of numbers)
-    → HasBegun layout w n (map brick_of numbers) (disks_of old.bricks.items) new → Refused layout w old new (Calm n numbers)
-begun_refused layout w old new n numbers may has =
+pub begun_refused : (layout : Layout) (w : World) (old new : Simulation) (mark : ℕ) (numbers : List ℕ)
+    → IsCalm (coding layout) w (operation_marked w mark) (map brick_of numbers)
+    → HasBegun layout w (operation_marked w mark) (map brick_of numbers) (disks_of old.bricks.items) new → Refused layout w old new (Calm mark numbers)
+begun_refused layout w old new mark numbers may has =
+    let n : ℕ = operation_marked w mark in
     let after : has.last ≡ run (coding layout) has.events w = begins_run (coding layout) n (map brick_of numbers) w has.last has.events has.begins in (
-      record { line = Calm n numbers; events = has.events } ∷ [],
+      record { line = Calm mark numbers; events = has.events } ∷ [],
       inr (
         has.events,
         record {

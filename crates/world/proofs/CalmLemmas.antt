@@ -5,22 +5,22 @@ use Rattle.std.specs.Bool.{Decides}
 use Rattle.std.specs.List.{IsDistinct, AllByRecursion, list_any}
 use Rattle.std.proofs.lemmas.Bool.{and_parts, eqb-true, eq-eqb, ne_eqb}
 use Rattle.std.proofs.lemmas.Bool.Decides.{nat_tests}
-use Rattle.std.proofs.lemmas.Option.{same_Some, slice_get-map}
+use Rattle.std.proofs.lemmas.Option.{same_Some, slice_get-map, slice_get_within}
 use Rattle.fab_base.specs.declared.identities.BrickId.{BrickId}
 use Rattle.fab_base.specs.declared.identities.GroupId.{GroupId}
 use Rattle.fab_base.specs.declared.asks.Ask.{Ask}
-use Rattle.fab_base.specs.Layouts.{Layout, group_of, seat_in}
+use Rattle.fab_base.specs.Layouts.{Layout, Group, group_of, seat_in}
 use Rattle.fab_disk.specs.declared.mem_disk.MemDisk.{MemDisk}
 use Rattle.brick_state.specs.States.{live, group_at}
 use Rattle.brick_state.specs.Rewrites.{learnt_number}
 use Rattle.brick_store.specs.Blocks.{accepted_of, learnt_of}
 use Rattle.replica.specs.Parts.{learnt_or}
 use Rattle.synod_laws.specs.Synods.{Kept, last_of}
-use Rattle.protocol.specs.Views.{first_learnt}
+use Rattle.protocol.specs.Views.{first_learnt, kept_by}
 use Rattle.fab_base.specs.declared.member_lists.View.{View}
 use Rattle.fab_base.specs.declared.stamps.Ballot.{Ballot}
 use Rattle.node.specs.Running.{Running, state_of}
-use Rattle.protocol.specs.Calms.{IsReady, IsEarly, IsUntouched, early, open_at, open_call}
+use Rattle.protocol.specs.Calms.{IsCalm, IsReady, IsEarly, IsUntouched, knows_synced, may_ask_prior, early, open_at, open_call}
 use Rattle.layout.specs.Limits.{IsLayout}
 use Rattle.stripe_code.specs.Codes.{coding}
 use Rattle.stripe_code.proofs.Soundness.{coding_is_sound}
@@ -34,12 +34,12 @@ use Rattle.protocol_laws.proofs.Books.{Books}
 use Rattle.world.specs.declared.histories.History.{History}
 use Rattle.world.specs.declared.histories.OperationRecord.{OperationRecord}
 use Rattle.world.proofs.Places.{slice_get_not_none}
-use Rattle.world.specs.Calms.{MayRunAlone}
 use Rattle.world.specs.Runs.{brick_of}
-use Rattle.world.specs.Shown.{ShowsBricks, IsReachedBy, ServesFirst, IsAble, IsInTime, NodeIsAble, NodeIsInTime, Tells, TellsOperation, record_at, running_at, clock_at}
+use Rattle.world.specs.Shown.{ShowsBricks, IsReachedBy, Serves, IsAble, IsInTime, NodeIsAble, NodeIsInTime, Tells, TellsOperation, TellsOne, record_at, running_at, clock_at, node_knows_synced}
 use Rattle.world.specs.declared.bricks.Brick.{Brick}
 use Rattle.world.proofs.BrickListLemmas.{running_shown, running_not}
 use Rattle.world.proofs.CallNumbers.{AreOfBricks}
+use Rattle.world.proofs.KeptNumbers.{told_of}
 use Rattle.world.proofs.RunLaws.{reached_group}
 
 -- how much a brick keeps that runs
@@ -78,49 +78,76 @@ none_is (Some x) false is = refl
 none_is None false is = absurd (let never : false ≡ true = is in cc)
 none_is (Some x) true is = absurd (let never : true ≡ false = is in cc)
 
--- so by what it tells the brick serves view 1, or not
-pub serves_later : (node : Running MemDisk) (g learnt : ℕ) → learnt ≡ learnt_of (group_at node.brick.state g) → learnt ≢ 1
-    → Decides false (ServesFirst (state_of node) g)
-serves_later node g learnt is later = (
-  λ on. absurd (let never : false ≡ true = on in cc),
-  λ serves. absurd (later (is ∙ sym (view_told node g) ∙ serves.view)),
-)
+-- so by what it tells the brick serves a view, or not
+module _ (node : Running MemDisk) (g view learnt : ℕ) (is : learnt ≡ learnt_of (group_at node.brick.state g)) where
+  told_view : view_at (state_of node) g ≡ learnt
+  told_view = view_told node g ∙ sym is
 
-pub serves_told : (node : Running MemDisk) (g learnt : ℕ) (accepted : Option (Ballot × List BrickId)) → learnt ≡ learnt_of (group_at node.brick.state g)
-    → learnt ≡ 1 → accepted ≡ accepted_of (group_at node.brick.state g) → Decides (is_none accepted) (ServesFirst (state_of node) g)
-serves_told node g learnt accepted is first told = by accepted (last_told node g ∙ sym told)
+  pub serves_other : learnt ≢ view → Decides false (Serves (state_of node) g view)
+  serves_other other = (
+    λ on. absurd (let never : false ≡ true = on in cc),
+    λ serves. absurd (other (sym told_view ∙ serves.view_is)),
+  )
+
+  -- in the last view of all no list that is accepted counts
+  pub serves_last : learnt ≡ view → view ≡ 2 ^ 32 - 1 → Decides true (Serves (state_of node) g view)
+  serves_last same last = (
+    λ on. record {
+      view_is = told_view ∙ same;
+      serves = ap (λ (b : Bool). b && is_some (last_of ((state_of node).ballots g)))
+          (ap (λ (v : ℕ). nat_lt v (2 ^ 32 - 1)) (told_view ∙ same ∙ last));
+    },
+    λ serves. refl,
+  )
+
+  pub serves_told : (accepted : Option (Ballot × List BrickId)) → learnt ≡ view → view < 2 ^ 32 → view ≢ 2 ^ 32 - 1
+      → accepted ≡ accepted_of (group_at node.brick.state g) → Decides (is_none accepted) (Serves (state_of node) g view)
+  serves_told accepted same small early told = by accepted (last_told node g ∙ sym told)
+    where
+      early_view : nat_lt (view_at (state_of node) g) (2 ^ 32 - 1) ≡ true
+      early_view = ap (λ v. nat_lt v (2 ^ 32 - 1)) (told_view ∙ same) ∙ (let e : nat_lt view (2 ^ 32 - 1) ≡ true = grind (arith, nat_tests, small, early) in e)
+
+      by : (found : Option (Ballot × List BrickId)) → last_of ((state_of node).ballots g) ≡ found
+          → Decides (is_none found) (Serves (state_of node) g view)
+      by None none = (
+        λ on. record {
+          view_is = told_view ∙ same;
+          serves =
+              ap (λ (b : Bool). b && is_some (last_of ((state_of node).ballots g))) early_view
+              ∙ ap (λ (last : Option (Ballot × List BrickId)). is_some last) none;
+        },
+        λ serves. refl,
+      )
+      by (Some last) some = (
+        λ on. absurd (let never : false ≡ true = on in cc),
+        λ serves.
+            (let never : false ≡ true =
+            sym serves.serves ∙ ap (λ (b : Bool). b && is_some (last_of ((state_of node).ballots g))) early_view
+            ∙ ap (λ (found : Option (Ballot × List BrickId)). is_some found) some in cc),
+      )
+
+-- what is known of a learnt view: view 1 is synced
+abbrev pub synced_of : Option (View × Bool) → Bool
+synced_of None = true
+synced_of (Some known) = known.1
+
+-- a store tells whether its brick knows that all stripes of a group are kept in the learnt view
+pub synced_told : (node : Running MemDisk) (g : ℕ) → ((state_of node).learnt g).synced ≡ synced_of (group_at node.brick.state g).known
+unfolding state_of
+synced_told node g = by (group_at node.brick.state g).known
   where
-    view : view_at (state_of node) g ≡ 1
-    view = view_told node g ∙ sym is ∙ first
-
-    early_view : nat_lt (view_at (state_of node) g) (2 ^ 32 - 1) ≡ true
-    early_view = ap (λ v. nat_lt v (2 ^ 32 - 1)) view
-
-    by : (found : Option (Ballot × List BrickId)) → last_of ((state_of node).ballots g) ≡ found → Decides (is_none found) (ServesFirst (state_of node) g)
-    by None none = (
-      λ on. record {
-        view = view;
-        serves =
-            ap (λ (b : Bool). b && is_some (last_of ((state_of node).ballots g))) early_view
-            ∙ ap (λ (last : Option (Ballot × List BrickId)). is_some last) none;
-      },
-      λ serves. refl,
-    )
-    by (Some last) some = (
-      λ on. absurd (let never : false ≡ true = on in cc),
-      λ serves.
-          (let never : false ≡ true =
-          sym serves.serves ∙ ap (λ (b : Bool). b && is_some (last_of ((state_of node).ballots g))) early_view
-          ∙ ap (λ (found : Option (Ballot × List BrickId)). is_some found) some in cc),
-    )
+    by : (known : Option (View × Bool)) → (learnt_or (first_learnt node.layout g) known).synced ≡ synced_of known
+    by None = refl
+    by (Some known) = refl
 
 -- the machine's brick is able where what runs is
-pub able_shown : (layout : Layout) (group : ℕ) (bricks : List Brick) (w : World) (b : ℕ) → ShowsBricks layout bricks w.nodes w.after w.up w.clocks
-    → (NodeIsAble layout group (running_at bricks b) → IsAble layout w group b) × (IsAble layout w group b → NodeIsAble layout group (running_at bricks b))
-able_shown layout group bricks w b shows = by_node (running_at bricks b) refl
+pub able_shown : (layout : Layout) (group view : ℕ) (bricks : List Brick) (w : World) (b : ℕ) → ShowsBricks layout bricks w.nodes w.after w.up w.clocks
+    → (NodeIsAble layout group view (running_at bricks b) → IsAble layout w group view b)
+    × (IsAble layout w group view b → NodeIsAble layout group view (running_at bricks b))
+able_shown layout group view bricks w b shows = by_node (running_at bricks b) refl
   where
     by_node : (found : Option (Running MemDisk)) → running_at bricks b ≡ found
-        → (NodeIsAble layout group found → IsAble layout w group b) × (IsAble layout w group b → NodeIsAble layout group found)
+        → (NodeIsAble layout group view found → IsAble layout w group view b) × (IsAble layout w group view b → NodeIsAble layout group view found)
     by_node None none = (
       λ able. absurd able,
       λ able. absurd (let never : true ≡ false = sym able.up ∙ running_not layout bricks w b shows none in cc),
@@ -129,16 +156,29 @@ able_shown layout group bricks w b shows = by_node (running_at bricks b) refl
         let its = running_shown layout bricks w b node shows is in (
           λ able. record {
             up = its.0;
-            first = subst (λ (x : Node). ServesFirst x group) its.1.state_is able.0;
+            serves = subst (λ (x : Node). Serves x group view) its.1.state_is able.0;
             room = subst (λ (x : Node). x.live + 2 ≤ layout.records) its.1.state_is able.1;
             times = subst IsEarly its.1.state_is able.2;
           },
           λ able. (
-            subst (λ (x : Node). ServesFirst x group) (sym its.1.state_is) able.first,
+            subst (λ (x : Node). Serves x group view) (sym its.1.state_is) able.serves,
             subst (λ (x : Node). x.live + 2 ≤ layout.records) (sym its.1.state_is) able.room,
             subst IsEarly (sym its.1.state_is) able.times,
           ),
         )
+
+-- of bricks that are up the machine's know that a view is synced where those know that run
+pub synced_shown : (layout : Layout) (group : ℕ) (bricks : List Brick) (w : World) (numbers : List ℕ) → ShowsBricks layout bricks w.nodes w.after w.up w.clocks
+    → ((k number : ℕ) → slice_get numbers k ≡ Some number → is_up layout w (brick_of number) ≡ true)
+    → list_any (λ number. node_knows_synced group (running_at bricks number)) numbers ≡ list_any (knows_synced w group) (map brick_of numbers)
+synced_shown layout group bricks w [] shows ups = refl
+synced_shown layout group bricks w (number ∷ numbers) shows ups =
+    ap (λ (b : Bool). b || list_any (λ n. node_knows_synced group (running_at bricks n)) numbers) (by_node (running_at bricks number) refl)
+    ∙ ap (λ (b : Bool). knows_synced w group (brick_of number) || b) (synced_shown layout group bricks w numbers shows (λ k n at. ups (suc k) n at))
+  where
+    by_node : (found : Option (Running MemDisk)) → running_at bricks number ≡ found → node_knows_synced group found ≡ knows_synced w group (brick_of number)
+    by_node None none = absurd (let never : true ≡ false = sym (ups 0 number refl) ∙ running_not layout bricks w number shows none in cc)
+    by_node (Some node) is = ap (λ (x : Node). (x.learnt group).synced) (running_shown layout bricks w number node shows is).1.state_is
 
 -- and it is in time where what runs is
 pub in_time_shown : (layout : Layout) (bricks : List Brick) (w : World) (b : ℕ) → ShowsBricks layout bricks w.nodes w.after w.up w.clocks
@@ -227,8 +267,15 @@ pub kept_at : (w : World) (history : History) (n : ℕ) (kept : OperationRecord)
     → (o : Operation) × (w.operations n ≡ Some o) × TellsOperation kept o × (n ≢ 0)
 kept_at w history zero kept tells is = absurd (let never : None ≡ Some kept = is in cc)
 kept_at w history (suc n) kept tells is =
-    let its = tells.operations n kept is in
-    (its.0, ap w.operations (let same : suc n ≡ n + 1 = omega arith in same) ∙ its.1, its.2, λ e. omega arith)
+    let its = told_of kept (w.operations (suc n)) (subst (λ (r : Option OperationRecord). TellsOne r (w.operations (suc n))) is (tells.operations (suc n))) in
+    (its.0, its.1, its.2, λ e. omega arith)
+
+-- it is one of the operations so far
+pub kept_within : (w : World) (history : History) (n : ℕ) (kept : OperationRecord) → Tells history w → record_at history.operations.items n ≡ Some kept
+    → n ≤ w.begun
+kept_within w history zero kept tells is = omega arith
+kept_within w history (suc n) kept tells is =
+    let within = slice_get_within history.operations.items n kept is in let count = tells.begun in omega (arith, within, count)
 
 -- whether the operation of which this is kept is open
 module _ (w : World) (n : ℕ) (o : Operation) (kept : OperationRecord) (is : w.operations n ≡ Some o) (its : TellsOperation kept o) where
@@ -269,14 +316,14 @@ down_is layout w brick there down = ap (λ (b : Bool). b && w.up brick.0) (sym t
 pub up_of : (layout : Layout) (w : World) (brick : BrickId) → is_up layout w brick ≡ true → w.up brick.0 ≡ true
 up_of layout w brick up = (and_parts (is_brick layout brick) (w.up brick.0) up).1
 
--- an open operation: what it asks is what its coordinator was asked, and it runs in the view of the call
+-- an open operation: what it asks is what its coordinator was asked, and it runs in the view of that one's stamp
 pub record IsOpenAt (w : World) (n : ℕ) (c : Coordinator) : Type 0 where
   pub operation : Operation
   pub is : w.operations n ≡ Some operation
   pub call : (w.nodes operation.brick.0).calls operation.seq ≡ Some c
   pub up : w.up operation.brick.0 ≡ true
   pub ask : c.ask ≡ operation.ask
-  pub view : operation.view ≡ c.call.view.0
+  pub view : operation.view ≡ c.stamp.view.0
   pub group : c.call.group ≡ c.ask.group
   pub numbers : (1 ≤ n) × (n ≤ w.begun)
 
@@ -301,21 +348,25 @@ open_parts setting w n c books is = by_operation (w.operations n) refl is
               call = call;
               up = up;
               ask = own.ask ∙ ap (λ (x : Operation). x.ask) same;
-              view = ap (λ (x : Operation). x.view) (sym same) ∙ own.call_view;
+              view = ap (λ (x : Operation). x.view) (sym same) ∙ own.stamp_view;
               group = own.call_group;
               numbers = (its.from_one, its.begun);
             }
         by_up true up false boot e' = absurd (let never : None ≡ Some c = e' in cc)
         by_up false down y boot e' = absurd (let never : None ≡ Some c = e' in cc)
 
+-- so many of the bricks of these numbers are among the members
+abbrev pub among_numbers : List BrickId → List ℕ → ℕ
+among_numbers members numbers = length (filter (λ number. list_any (λ member. nat_eq member.0 number) members) numbers)
+
 -- what decides whether an operation may run alone among the bricks of these numbers
 pub record CalmParts (layout : Layout) (w : World) (n : ℕ) (numbers : List ℕ) (o : Operation) (c : Coordinator) : Type 0 where
   pub distinct : IsDistinct nat_eq numbers
-  pub members : quorum_of c.group ≤ length (filter (λ number. list_any (λ member. nat_eq member.0 number) c.group.members) numbers)
+  pub members : quorum_of c.group ≤ among_numbers c.group.members numbers
+  pub prior : may_ask_prior w c (map brick_of numbers) ≡ true → quorum_of (kept_by c.prior c.group) ≤ among_numbers c.prior numbers
   pub in_time : IsInTime layout w o.brick.0
-  pub able : (k number : ℕ) → slice_get numbers k ≡ Some number → IsAble layout w o.ask.group.0 number
+  pub able : (k number : ℕ) → slice_get numbers k ≡ Some number → IsAble layout w o.ask.group.0 c.stamp.view.0 number
   pub untouched : IsUntouched w n
-  pub first : o.view ≡ 1
 
 -- the numbers of the bricks of numbers
 numbers_back : (numbers : List ℕ) → map (λ (brick : BrickId). brick.0) (map brick_of numbers) ≡ numbers
@@ -365,49 +416,48 @@ brick_there numbers k brick at = by_found (slice_get numbers k) refl (sym (slice
 
 -- so it may where all of them hold, and only there
 pub calm_of : (layout : Layout) (w : World) (n : ℕ) (numbers : List ℕ) (c : Coordinator) → open_call w n ≡ Some c
-    → (at : IsOpenAt w n c) → CalmParts layout w n numbers at.operation c → MayRunAlone (coding layout) w n (map brick_of numbers)
+    → (at : IsOpenAt w n c) → CalmParts layout w n numbers at.operation c → IsCalm (coding layout) w n (map brick_of numbers)
 calm_of layout w n numbers c opens at parts =
-    let view : c.call.view.0 ≡ 1 = sym at.view ∙ parts.first in
     let group : c.call.group.0 ≡ at.operation.ask.group.0 = ap (λ (g : GroupId). g.0) at.group ∙ ap (λ (a : Ask). a.group.0) at.ask in
     record {
-      calm = record {
-        operation = at.operation;
-        is = at.is;
-        coordinator = c;
-        open_is = opens;
-        untouched = parts.untouched;
-        distinct = subst (λ (l : List ℕ). IsDistinct nat_eq l) (sym (numbers_back numbers)) parts.distinct;
-        ready = λ k brick found.
-            (let there = brick_there numbers k brick found in
-            let able = parts.able k there.0 there.1 in
-            subst (λ (b : BrickId). IsReady (coding layout) w c b) there.2 (record {
-              up = able.up;
-              view = ap (λ g. view_at (w.nodes there.0) g) group ∙ able.first.view ∙ sym view;
-              serves = ap (λ g. has_accepted (w.nodes there.0) g) group ∙ able.first.serves;
-              room = able.room;
-              times = able.times;
-            }));
-        members = subst (λ (x : ℕ). quorum_of c.group ≤ x) (sym (counted_members c.group.members numbers)) parts.members;
-        clock = parts.in_time.clock;
-        times = parts.in_time.times;
-      };
-      first = view;
+      operation = at.operation;
+      is = at.is;
+      coordinator = c;
+      open_is = opens;
+      untouched = parts.untouched;
+      distinct = subst (λ (l : List ℕ). IsDistinct nat_eq l) (sym (numbers_back numbers)) parts.distinct;
+      ready = λ k brick found.
+          (let there = brick_there numbers k brick found in
+          let able = parts.able k there.0 there.1 in
+          subst (λ (b : BrickId). IsReady (coding layout) w c b) there.2 (record {
+            up = able.up;
+            view = ap (λ g. view_at (w.nodes there.0) g) group ∙ able.serves.view_is;
+            serves = ap (λ g. has_accepted (w.nodes there.0) g) group ∙ able.serves.serves;
+            room = able.room;
+            times = able.times;
+          }));
+      members = subst (λ (x : ℕ). quorum_of c.group ≤ x) (sym (counted_members c.group.members numbers)) parts.members;
+      prior = λ may. subst (λ (x : ℕ). quorum_of (kept_by c.prior c.group) ≤ x) (sym (counted_members c.prior numbers)) (parts.prior may);
+      clock = parts.in_time.clock;
+      times = parts.in_time.times;
     }
 
 pub parts_of : (layout : Layout) (w : World) (n : ℕ) (numbers : List ℕ) (c : Coordinator) → open_call w n ≡ Some c
-    → (at : IsOpenAt w n c) → is_up layout w at.operation.brick ≡ true → MayRunAlone (coding layout) w n (map brick_of numbers)
+    → (at : IsOpenAt w n c) → is_up layout w at.operation.brick ≡ true → IsCalm (coding layout) w n (map brick_of numbers)
     → CalmParts layout w n numbers at.operation c
-parts_of layout w n numbers c opens at up may =
-    let calm = may.calm in
+parts_of layout w n numbers c opens at up calm =
     let same : calm.operation ≡ at.operation = same_Some calm.operation at.operation (sym calm.is ∙ at.is) in
     let coordinator : calm.coordinator ≡ c = same_Some calm.coordinator c (sym calm.open_is ∙ opens) in
     let group : calm.coordinator.call.group.0 ≡ at.operation.ask.group.0 =
     ap (λ (d : Coordinator). d.call.group.0) coordinator ∙ ap (λ (g : GroupId). g.0) at.group ∙ ap (λ (a : Ask). a.group.0) at.ask in
     record {
       distinct = subst (λ (l : List ℕ). IsDistinct nat_eq l) (numbers_back numbers) calm.distinct;
-      members = subst (λ (d : Coordinator). quorum_of d.group ≤ length (filter (λ number. list_any (λ member. nat_eq member.0 number) d.group.members) numbers))
-          coordinator
+      members = subst (λ (d : Coordinator). quorum_of d.group ≤ among_numbers d.group.members numbers) coordinator
           (subst (λ (x : ℕ). quorum_of calm.coordinator.group ≤ x) (counted_members calm.coordinator.group.members numbers) calm.members);
+      prior = subst (λ (d : Coordinator). may_ask_prior w d (map brick_of numbers) ≡ true → quorum_of (kept_by d.prior d.group) ≤ among_numbers d.prior numbers)
+          coordinator
+          (λ may. subst (λ (x : ℕ). quorum_of (kept_by calm.coordinator.prior calm.coordinator.group) ≤ x)
+          (counted_members calm.coordinator.prior numbers) (calm.prior may));
       in_time = record {
         up = up;
         clock = subst (λ (o : Operation). w.clocks o.brick.0 < early) same calm.clock;
@@ -417,15 +467,14 @@ parts_of layout w n numbers c opens at up may =
           (let ready = calm.ready k (brick_of number) (slice_get-map brick_of numbers k ∙ ap (option_map brick_of) found) in
           record {
             up = ready.up;
-            first = record {
-              view = ap (λ g. view_at (w.nodes number) g) (sym group) ∙ ready.view ∙ may.first;
+            serves = record {
+              view_is = ap (λ g. view_at (w.nodes number) g) (sym group) ∙ ready.view ∙ ap (λ (d : Coordinator). d.stamp.view.0) coordinator;
               serves = ap (λ g. has_accepted (w.nodes number) g) (sym group) ∙ ready.serves;
             };
             room = ready.room;
             times = ready.times;
           });
       untouched = calm.untouched;
-      first = at.view ∙ ap (λ (d : Coordinator). d.call.view.0) (sym coordinator) ∙ may.first;
     }
 
 -- an operation that is open, and of which this is kept
@@ -457,11 +506,12 @@ open_here layout w n history kept books there tells goes is = by_call (open_call
           some = its.3;
         }
 
--- if it runs in view 1, its group is the one that is kept, as the layout's members keep it
+-- its group is one of the layout, of as many data blocks
 pub group_is : (layout : Layout) (w : World) (n : ℕ) (kept : OperationRecord) (here : Here layout w n kept) → IsLayout layout → IsReachedBy layout w
-    → kept.view.0 ≡ 1 → group_of layout kept.group.0 ≡ Some here.coordinator.group
-group_is layout w n kept here is reached first =
+    → (group : Group) × (group_of layout kept.group.0 ≡ Some group) × (here.coordinator.group.m ≡ group.m)
+group_is layout w n kept here is reached =
     let at = here.at in
-    ap (λ (g : GroupId). group_of layout g.0) (here.same.group ∙ ap (λ (a : Ask). a.group) (sym at.ask) ∙ sym at.group)
-    ∙ reached_group layout w at.operation.brick.0 at.operation.seq here.coordinator (coding_is_sound layout is) reached at.call
-    (sym at.view ∙ sym here.same.view ∙ first)
+    let same : here.coordinator.call.group.0 ≡ kept.group.0 =
+    ap (λ (g : GroupId). g.0) (at.group ∙ ap (λ (a : Ask). a.group) at.ask ∙ sym here.same.group) in
+    subst (λ (g : ℕ). (group : Group) × (group_of layout g ≡ Some group) × (here.coordinator.group.m ≡ group.m)) same
+    (reached_group layout w at.operation.brick.0 at.operation.seq here.coordinator (coding_is_sound layout is) reached at.call)

@@ -1,5 +1,5 @@
 -- The deliveries that an operation makes alone, one after another, as a state shows them.
-use Rattle.std.proofs.Common.{◌≡◌, ◌≢◌, ℕ, suc, ◌+◌, ◌<◌, ◌≤◌, Bool, true, false, not, cond, nat_eq, ◌&&◌, ◌||◌, ⊎_elim, List, [], ◌∷◌, ◌++◌, length, drop, append-nil, append_assoc, map, Option, Some, None, is_some, refl, sym, ap, ◌∙◌, subst, arith}
+use Rattle.std.proofs.Common.{◌≡◌, ◌≢◌, ℕ, suc, ◌+◌, ◌<◌, ◌≤◌, Bool, true, false, not, cond, nat_eq, ◌&&◌, ◌||◌, ⊎_elim, List, [], ◌∷◌, ◌++◌, length, drop, append-nil, append_assoc, map, Option, Some, None, is_some, nat_lt, refl, sym, ap, ◌∙◌, subst, arith}
 use Rattle.std.specs.Prelude.{slice_get}
 use Rattle.std.proofs.lemmas.Bool.{and_parts, eqb-true, eqb-false, eq-eqb, cases_lt}
 use Rattle.std.proofs.lemmas.Bool.Decides.{nat_tests}
@@ -20,38 +20,55 @@ use Rattle.protocol.specs.Coordinators.{Coordinator}
 use Rattle.protocol.specs.declared.tellings.Report.{Report}
 use Rattle.protocol.specs.declared.tellings.Answered.{Answered}
 use Rattle.protocol.specs.declared.tellings.Told.{Told}
-use Rattle.protocol.specs.declared.tellings.Told.TheVariants.{Made, Seen}
-use Rattle.protocol.specs.Nodes.{NodeStep, put, received}
+use Rattle.protocol.specs.declared.tellings.Told.TheVariants.{Made, Seen, Began, Closed}
+use Rattle.protocol.specs.Jobs.{Job}
+use Rattle.protocol.specs.Happenings.{is_marked}
+use Rattle.protocol.specs.Nodes.{Node, NodeStep, put, received, job_reading}
 use Rattle.protocol.specs.Worlds.{World, Operation, Event, Delivers, is_brick, is_up, number_of, mark_of, packet_of, reports_of, world_told, world_tells, world_answered, world_answers, first_world, happens, run}
 use Rattle.reg_model.specs.declared.marks.Mark.{Mark}
 use Rattle.reg_model.specs.declared.marks.Mark.TheVariants.{End}
-use Rattle.protocol.specs.Calms.{open_at, open_call, operation_of, is_one_of, goes_among, is_left, next_delivery}
-use Rattle.world.specs.Calms.{MayRunAlone, BeginsAlone}
+use Rattle.protocol.specs.Calms.{IsCalm, open_at, open_call, operation_of, is_one_of, goes_among, is_left, next_delivery}
+use Rattle.world.specs.Calms.{BeginsAlone}
 use Rattle.world.specs.Calms as begun
 use Rattle.world.specs.Disks.{KeepsDisks}
 use Rattle.world.specs.Faults.{StopsMidway, IsDelivered}
 use Rattle.world.specs.Deliveries.{NoneLeft, FindsLeft, is_left_at}
 use Rattle.world.specs.Runs.{brick_of}
-use Rattle.world.specs.Shown.{Shows, Comes, HasRun, HasBegun, IsReachedBy, IsReachable, OpensAs, TellsOperation, disks_of, is_empty}
+use Rattle.world.specs.Shown.{Shows, Comes, HasRun, HasBegun, IsReachedBy, IsReachable, IsNumbered, OpensAs, TellsOperation, HasMarks, disks_of, reads_begun, is_empty}
 use Rattle.world.specs.Texts.{marks_if, is_deliverable, mark_text, marks_text, reports_text, new_marks, new_reports, outcome_text, event_text, text_of}
 use Rattle.world.specs.declared.histories.OperationRecord.{OperationRecord}
 use Rattle.world.specs.declared.simulations.Outcome.{Outcome}
 use Rattle.world.specs.declared.simulations.Simulation.{Simulation}
-use Rattle.world.proofs.CallNumbers.{NumbersSay, AreOfBricks, KnowsCalls, deliver_same, of_bricks}
-use Rattle.world.proofs.CalmLemmas.{kept_at}
+use Rattle.world.proofs.CallNumbers.{NumbersSay, AreOfBricks, KnowsCalls, of_bricks}
+use Rattle.world.proofs.HavingMarks.{marks_left}
+use Rattle.world.proofs.CalmLemmas.{kept_at, kept_within}
 use Rattle.world.proofs.CalmRuns.{begins_more, begins_run, runs_ended, runs_stuck, keeps_more, left_as, next_found, next_none}
 use Rattle.world.proofs.HistoryLemmas.{heard_keeps}
 use Rattle.world.proofs.MachineBegins.{happens_handled}
-use Rattle.world.proofs.MachineSteps.{request_quiet, reply_quiet}
+use Rattle.world.proofs.MachineSteps.{IsQuiet, request_quiet, reply_quiet}
 use Rattle.world.proofs.Places.{append_get}
-use Rattle.world.proofs.RunLaws.{reached_numbers, reached_knows}
+use Rattle.world.proofs.RunLaws.{JobsReadUnmarked, reached_numbers, reached_numbered, reached_knows, reached_unmarked}
 use Rattle.protocol.proofs.Events.{run-append, step_on, world_counting, world_handled}
 
 -- what is told makes no mark, and what is answered adds some
-told_marks : (setting : Setting) (w : World) (brick : BrickId) (told : List Told) → (world_tells setting w brick told).marks ≡ w.marks
-told_marks setting w brick [] = refl
-told_marks setting w brick (Made seq t base ∷ more) = told_marks setting (world_told setting w brick (Made seq t base)) brick more
-told_marks setting w brick (Seen seq v ∷ more) = told_marks setting (world_told setting w brick (Seen seq v)) brick more
+told_marks : (setting : Setting) (nodes : ℕ → Node) (w : World) (brick : BrickId) (told : List Told) → (world_tells setting nodes w brick told).marks ≡ w.marks
+told_marks setting nodes w brick [] = refl
+told_marks setting nodes w brick (Made seq t base ∷ more) = told_marks setting nodes (world_told setting nodes w brick (Made seq t base)) brick more
+told_marks setting nodes w brick (Seen seq v ∷ more) = told_marks setting nodes (world_told setting nodes w brick (Seen seq v)) brick more
+told_marks setting nodes w brick (Began call ∷ more) = told_marks setting nodes (world_told setting nodes w brick (Began call)) brick more
+told_marks setting nodes w brick (Closed seq cause ∷ more) = told_marks setting nodes (world_told setting nodes w brick (Closed seq cause)) brick more
+
+-- nor does it number a call, where no read begins
+told_numbers : (setting : Setting) (nodes : ℕ → Node) (w : World) (brick : BrickId) (told : List Told) → reads_begun told ≡ 0 → (world_tells setting nodes w brick told).numbers ≡ w.numbers
+told_numbers setting nodes w brick [] none = refl
+told_numbers setting nodes w brick (Made seq t base ∷ more) none = told_numbers setting nodes (world_told setting nodes w brick (Made seq t base)) brick more none
+told_numbers setting nodes w brick (Seen seq v ∷ more) none = told_numbers setting nodes (world_told setting nodes w brick (Seen seq v)) brick more none
+told_numbers setting nodes w brick (Began call ∷ more) none = absurd (omega (arith, none))
+told_numbers setting nodes w brick (Closed seq cause ∷ more) none = told_numbers setting nodes (world_told setting nodes w brick (Closed seq cause)) brick more none
+
+answers_numbers : (w : World) (brick : BrickId) (answers : List Answered) → (world_answers w brick answers).numbers ≡ w.numbers
+answers_numbers w brick [] = refl
+answers_numbers w brick (one ∷ more) = answers_numbers (world_answered w brick one) brick more
 
 answers_marks : (w : World) (brick : BrickId) (answers : List Answered) → (made : List Mark) × ((world_answers w brick answers).marks ≡ w.marks ++ made)
 answers_marks w brick [] = ([], sym (append-nil w.marks))
@@ -82,6 +99,9 @@ module _ (setting : Setting) (w : World) (number : ℕ) (packet : Packet) (sent 
   abbrev marked : World
   marked = world_counting setting w number packet
 
+  abbrev after_nodes : ℕ → Node
+  after_nodes = put w.nodes packet.to.0 step.node
+
   after_is : happens setting w (Delivers number) ≡ world_handled setting w number packet
   after_is = happens_handled setting w number packet sent up
 
@@ -96,11 +116,17 @@ module _ (setting : Setting) (w : World) (number : ℕ) (packet : Packet) (sent 
 
   marks_after : (made : List Mark) × ((happens setting w (Delivers number)).marks ≡ w.marks ++ made)
   marks_after =
-      let (made, are) = answers_marks (world_tells setting marked packet.to step.told) packet.to step.answers in
-      (made, ap (λ (v : World). v.marks) after_is ∙ are ∙ ap (λ (l : List Mark). l ++ made) (told_marks setting marked packet.to step.told))
+      let (made, are) = answers_marks (world_tells setting after_nodes marked packet.to step.told) packet.to step.answers in
+      (made, ap (λ (v : World). v.marks) after_is ∙ are ∙ ap (λ (l : List Mark). l ++ made) (told_marks setting after_nodes marked packet.to step.told))
 
   reports_after : (happens setting w (Delivers number)).choices.reports ≡ w.choices.reports ++ reports_of packet.to step.reports
   reports_after = ap (λ (v : World). v.choices.reports) after_is
+
+  -- the calls keep their numbers, where no read begins
+  numbers_after : reads_begun step.told ≡ 0 → (happens setting w (Delivers number)).numbers ≡ w.numbers
+  numbers_after none =
+      ap (λ (v : World). v.numbers) after_is ∙ answers_numbers (world_tells setting after_nodes marked packet.to step.told) packet.to step.answers
+      ∙ told_numbers setting after_nodes marked packet.to step.told none
 
   -- of one that reports nothing
   module _ (quiet : step.reports ≡ []) where
@@ -139,8 +165,9 @@ SeenTo v n bricks place = (k : ℕ) (packet : Packet) → k < place → slice_ge
 
 -- the first message that was left is left no more, and none before it is
 seen_after : (setting : Setting) (w : World) (n : ℕ) (bricks : List BrickId) (place : ℕ) (packet : Packet) → slice_get w.packets place ≡ Some packet
-    → is_up setting.layout w packet.to ≡ true → SeenTo w n bricks place → SeenTo (happens setting w (Delivers (place + 1))) n bricks (place + 1)
-seen_after setting w n bricks place packet at up seen k one less is = by_place (nat_eq k place) refl
+    → is_up setting.layout w packet.to ≡ true → reads_begun (step_on setting w packet).told ≡ 0 → SeenTo w n bricks place
+    → SeenTo (happens setting w (Delivers (place + 1))) n bricks (place + 1)
+seen_after setting w n bricks place packet at up none seen k one less is = by_place (nat_eq k place) refl
   where
     number : place + 1 ≡ suc place
     number = omega arith
@@ -157,7 +184,7 @@ seen_after setting w n bricks place packet at up seen k one less is = by_place (
         (ap (λ (l : List Packet). slice_get l k) (sym (packets_after setting w (place + 1) packet sent up)) ∙ is)
 
     its : operation_of v one ≡ operation_of w one
-    its = same_operation w v (deliver_same setting w (place + 1)).numbers one
+    its = same_operation w v (numbers_after setting w (place + 1) packet sent up none) one
 
     no_more : (a b : Bool) → a && (not true && b) ≡ false
     no_more true b = refl
@@ -197,22 +224,48 @@ has_open w n o opens is =
     by_up true up false other z call goes = absurd (let never : false ≡ true = goes in cc)
     by_up false down y same z call goes = absurd (let never : false ≡ true = goes in cc)
 
--- a message of an open operation has its receiver report nothing
-message_as_quiet : (setting : Setting) (w : World) (n : ℕ) (from to : BrickId) (message : Message) → NumbersSay w → n ≢ 0 → is_some (open_call w n) ≡ true
-    → operation_of w (record { from = from; to = to; message = message }) ≡ n
-    → (step_on setting w (record { from = from; to = to; message = message })).reports ≡ []
-unfolding received
-message_as_quiet setting w n from to (Message.Request call request) says some opens its = request_quiet setting to from (w.nodes to.0) call request
-message_as_quiet setting w n from to (Message.Reply call reply) says some opens its =
-    let found = says to.0 call.boot call.seq (λ none. some (sym its ∙ none)) in
-    let has = has_open w n found.1.0 opens (ap w.operations (sym its) ∙ found.1.1) in
-    reply_quiet setting to (w.clocks to.0) from (w.nodes to.0) call reply has.coordinator
-    (ap (λ (k : ℕ). (w.nodes to.0).calls k) (sym found.1.2.2) ∙ ap (λ (i : ℕ). (w.nodes i).calls found.1.0.seq) (sym found.1.2.0) ∙ has.call)
-message_as_quiet setting w n from to message says some opens its = absurd (some (sym its))
+-- the call of an operation that has marks is no read of its brick's synchronisation
+not_reading : (w : World) (i n seq : ℕ) (o : Operation) (job : Option Job) → JobsReadUnmarked w → (w.nodes i).job ≡ job → w.operations n ≡ Some o
+    → number_of w i seq ≡ n → is_marked o ≡ true → job_reading job seq ≡ None
+not_reading w i n seq o None unmarked is at number marked = refl
+not_reading w i n seq o (Some job) unmarked is at number marked = by_call (nat_eq job.seq seq) refl
+  where
+    by_call : (b : Bool) → nat_eq job.seq seq ≡ b → cond b (Some job) None ≡ None
+    by_call false other = refl
+    by_call true same =
+        let own : w.operations (number_of w i job.seq) ≡ Some o =
+        ap (λ (k : ℕ). w.operations (number_of w i k)) (eqb-true job.seq seq same) ∙ ap w.operations number ∙ at in
+        let none : o.mark ≡ 0 = unmarked i job is o own in
+        let never : true ≡ false = sym marked ∙ ap (λ (m : ℕ). nat_lt 0 m) none in
+        absurd (let e : true ≡ false = never in cc)
 
-message_quiet : (setting : Setting) (w : World) (n : ℕ) (packet : Packet) → NumbersSay w → n ≢ 0 → is_some (open_call w n) ≡ true
-    → operation_of w packet ≡ n → (step_on setting w packet).reports ≡ []
-message_quiet setting w n packet says some opens its = message_as_quiet setting w n packet.from packet.to packet.message says some opens its
+-- a message of an open operation that has marks has its receiver report nothing, and begin no read
+message_as_quiet : (setting : Setting) (w : World) (n : ℕ) (from to : BrickId) (message : Message) → NumbersSay w → JobsReadUnmarked w → HasMarks w n
+    → IsNumbered w → n ≢ 0 → is_some (open_call w n) ≡ true
+    → operation_of w (record { from = from; to = to; message = message }) ≡ n
+    → IsQuiet (step_on setting w (record { from = from; to = to; message = message }))
+unfolding received
+message_as_quiet setting w n from to (Message.Request call request) says unmarked having numbered some opens its =
+    request_quiet setting to from (w.nodes to.0) call request
+message_as_quiet setting w n from to (Message.Reply call reply) says unmarked having numbered some opens its =
+    let found = says to.0 call.boot call.seq (λ none. some (sym its ∙ none)) in
+    let at : w.operations n ≡ Some found.1.0 = ap w.operations (sym its) ∙ found.1.1 in
+    let has = has_open w n found.1.0 opens at in
+    let called : (w.nodes to.0).calls call.seq ≡ Some has.coordinator =
+    ap (λ (k : ℕ). (w.nodes to.0).calls k) (sym found.1.2.2) ∙ ap (λ (i : ℕ). (w.nodes i).calls found.1.0.seq) (sym found.1.2.0) ∙ has.call in
+    let own : has.coordinator.call.seq ≡ call.seq = (numbered to.0 call.seq has.coordinator called).0 in
+    let boot : (w.nodes to.0).boot ≡ call.boot =
+    ap (λ (i : ℕ). (w.nodes i).boot) (sym found.1.2.0) ∙ has.boot ∙ found.1.2.1 in
+    let number : number_of w to.0 has.coordinator.call.seq ≡ n =
+    ap (λ (k : ℕ). number_of w to.0 k) own ∙ ap (λ (b : ℕ). w.numbers to.0 b call.seq) boot ∙ its in
+    reply_quiet setting to (w.clocks to.0) from (w.nodes to.0) call reply has.coordinator called
+    (not_reading w to.0 n has.coordinator.call.seq found.1.0 (w.nodes to.0).job unmarked refl at number (having found.1.0 at))
+message_as_quiet setting w n from to message says unmarked having numbered some opens its = absurd (some (sym its))
+
+message_quiet : (setting : Setting) (w : World) (n : ℕ) (packet : Packet) → NumbersSay w → JobsReadUnmarked w → HasMarks w n → IsNumbered w → n ≢ 0
+    → is_some (open_call w n) ≡ true → operation_of w packet ≡ n → IsQuiet (step_on setting w packet)
+message_quiet setting w n packet says unmarked having numbered some opens its =
+    message_as_quiet setting w n packet.from packet.to packet.message says unmarked having numbered some opens its
 
 -- one of these bricks is up, where each is
 among_up : (layout : Layout) (w : World) (bricks : List BrickId) → ((k : ℕ) (brick : BrickId) → slice_get bricks k ≡ Some brick → is_up layout w brick ≡ true)
@@ -265,6 +318,7 @@ pub record SoFar (layout : Layout) (w : World) (n : ℕ) (numbers : List ℕ) (d
   pub marks : last.marks ≡ w.marks ++ made
   pub prints : text_of (coding layout) w events ≡ marks_text made
   pub reports : last.choices.reports ≡ w.choices.reports
+  pub marked : HasMarks last n
   pub up : last.up ≡ w.up
   pub seen : SeenTo last n (map brick_of numbers) from
 
@@ -275,8 +329,8 @@ some_more (first ∷ events) event = refl
 
 -- there is none at first
 pub none_yet : (layout : Layout) (w : World) (n : ℕ) (numbers : List ℕ) (state : Simulation) → IsReachedBy layout w → Shows layout state w
-    → SoFar layout w n numbers (disks_of state.bricks.items) state 0 false
-none_yet layout w n numbers state reached shows = record {
+    → HasMarks w n → SoFar layout w n numbers (disks_of state.bricks.items) state 0 false
+none_yet layout w n numbers state reached shows marked = record {
   events = [];
   last = w;
   begins = begun.Here w;
@@ -288,12 +342,13 @@ none_yet layout w n numbers state reached shows = record {
   marks = sym (append-nil w.marks);
   prints = refl;
   reports = refl;
+  marked = marked;
   up = refl;
   seen = λ k packet less at. absurd (omega arith);
 }
 
 module _ (layout : Layout) (w : World) (n : ℕ) (numbers : List ℕ) (disks : List MemDisk) (state : Simulation) (from : ℕ) (some : Bool)
-    (may : MayRunAlone (coding layout) w n (map brick_of numbers)) (so : SoFar layout w n numbers disks state from some) where
+    (may : IsCalm (coding layout) w n (map brick_of numbers)) (so : SoFar layout w n numbers disks state from some) where
   abbrev bricks : List BrickId
   bricks = map brick_of numbers
 
@@ -376,11 +431,12 @@ module _ (layout : Layout) (w : World) (n : ℕ) (numbers : List ℕ) (disks : L
           ∙ ap (λ (text : List ℕ). text ++ event_text (coding layout) (run (coding layout) so.events w) (Delivers (place + 1))) so.prints
           ∙ ap (λ (text : List ℕ). marks_text so.made ++ text)
           (ap (λ (v : World). event_text (coding layout) v (Delivers (place + 1))) (sym (begins_run (coding layout) n bricks w so.last so.events so.begins))
-          ∙ text_after (coding layout) so.last (place + 1) packet sent up quiet)
+          ∙ text_after (coding layout) so.last (place + 1) packet sent up quiet.reports)
           ∙ sym (marks_text-append so.made (marks_after (coding layout) so.last (place + 1) packet sent up).0);
-      reports = reports_stay (coding layout) so.last (place + 1) packet sent up quiet ∙ so.reports;
+      reports = reports_stay (coding layout) so.last (place + 1) packet sent up quiet.reports ∙ so.reports;
+      marked = (marks_left (coding layout) so.last (place + 1) n within so.marked).1;
       up = up_after (coding layout) so.last (place + 1) packet sent up ∙ so.up;
-      seen = seen_after (coding layout) so.last n bricks place packet at up before;
+      seen = seen_after (coding layout) so.last n bricks place packet at up quiet.reads before;
     }
       where
         packet : Packet
@@ -399,15 +455,20 @@ module _ (layout : Layout) (w : World) (n : ℕ) (numbers : List ℕ) (disks : L
         goes = (and_parts (nat_eq (operation_of so.last packet) n) (not (so.last.reached (place + 1)) && goes_among bricks packet) left).1
 
         ready_up : (k : ℕ) (brick : BrickId) → slice_get bricks k ≡ Some brick → is_up layout so.last brick ≡ true
-        ready_up k brick there = ap (λ (f : ℕ → Bool). is_brick layout brick && f brick.0) so.up ∙ (may.calm.ready k brick there).up
+        ready_up k brick there = ap (λ (f : ℕ → Bool). is_brick layout brick && f brick.0) so.up ∙ (may.ready k brick there).up
 
         its : operation_of so.last packet ≡ n
         its =
             eqb-true (operation_of so.last packet) n
             (and_parts (nat_eq (operation_of so.last packet) n) (not (so.last.reached (place + 1)) && goes_among bricks packet) left).0
 
-        quiet : (step_on (coding layout) so.last packet).reports ≡ []
-        quiet = message_quiet (coding layout) so.last n packet says noted.3 opens.0 its
+        quiet : IsQuiet (step_on (coding layout) so.last packet)
+        quiet =
+            message_quiet (coding layout) so.last n packet says (reached_unmarked layout so.last so.reached) so.marked
+            (reached_numbered layout so.last so.reached) noted.3 opens.0 its
+
+        within : n ≤ so.last.begun
+        within = kept_within so.last state.history n kept so.shows.history opens.1
 
         up : is_up layout so.last packet.to ≡ true
         up =

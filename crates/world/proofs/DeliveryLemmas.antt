@@ -17,7 +17,7 @@ use Rattle.stripe_code.specs.Codes.{coding}
 use Rattle.protocol.specs.Settings.{Setting}
 use Rattle.protocol.specs.Nodes.{Node, put, absorbed, stopped}
 use Rattle.protocol.specs.Worlds.{World, Event, Delivers, Stops, is_up, packet_of, reached_at, reached_during, left_after, world_stopped, happens, run}
-use Rattle.world.specs.Calms.{MayRunAlone}
+use Rattle.protocol.specs.Calms.{IsCalm, operation_marked}
 use Rattle.world.specs.Runs.{brick_of}
 use Rattle.world.specs.Faults.{IsEventsOf, IsReached, plan_of}
 use Rattle.world.specs.Disks.{KeepsOthers, LeavesDisks, ListsEvent, ListsHandled, receiver_of, changes_disk_of}
@@ -197,7 +197,7 @@ nothing_comes layout w state shows =
 
 -- an operation that may not run alone
 pub idle_comes : (layout : Layout) (w : World) (state : Simulation) (n : ℕ) (bricks : List ℕ)
-    → (MayRunAlone (coding layout) w n (map brick_of bricks) → ⊥) → Shows layout state w
+    → (IsCalm (coding layout) w (operation_marked w n) (map brick_of bricks) → ⊥) → Shows layout state w
     → Comes layout w (disks_of state.bricks.items) state (Calm n bricks) Idle
 idle_comes layout w state n bricks not shows =
     ([], record { are = inr (not, refl); shows = shows; prints = refl; kept = refl })

@@ -5,6 +5,9 @@ pub mod DiskLemmas
 pub mod EntryMaps
 pub mod StripeRanges
 pub mod HistoryLemmas
+pub mod KeptNumbers
+pub mod HearingLemmas
+pub mod HavingMarks
 pub mod KeptOperations
 pub mod MachineBegins
 pub mod MachineSteps

@@ -1,4 +1,4 @@
--- When an operation or a proposal begins in the machine, and what a message does there.
+-- When an operation, a proposal or a synchronisation begins in the machine, and what a message does there.
 use Rattle.std.proofs.Common.{◌≡◌, ℕ, ◌+◌, ◌<◌, ◌≤◌, Bool, true, false, not, cond, nat_lt, ◌&&◌, List, [], Option, Some, None, refl, ap, ◌∙◌, arith}
 use Rattle.std.specs.Prelude.{if◌then◌else◌}
 use Rattle.std.specs.Option.{is_some, option_map}
@@ -17,9 +17,10 @@ use Rattle.protocol.specs.Views.{kept_by}
 use Rattle.protocol.specs.declared.tellings.Report.TheVariants as report
 use Rattle.protocol.specs.declared.tellings.ViewAnswer.TheVariants.{BadMembers}
 use Rattle.protocol.specs.Proposals.{Proposal, ballot_packets}
-use Rattle.protocol.specs.Nodes.{Node, NodeStep, group_at, put, has_block, has_length, is_spent, most_open, refusal_in, refusal_of, began, invoked, new_proposal, proposing, reporting, sending, proposal_refusal_in, proposal_refusal, proposed_in, proposed}
-use Rattle.protocol.specs.Worlds.{World, Invokes, Proposes, Delivers, Sets, Ticks, Stops, Starts, Found, is_up, may_start, world_began, world_stepped, world_ticked, world_stopped, world_found, world_started, delivered, packet_of, happens}
-use Rattle.world.specs.Runs.{ask_of, refusal_at, proposal_refusal_at}
+use Rattle.protocol.specs.Nodes.{Node, NodeStep, group_at, put, has_block, has_length, is_spent, most_open, refusal_in, refusal_of, began, invoked, new_proposal, proposing, reporting, sending, proposal_refusal_in, proposal_refusal, proposed_in, proposed, sync_refusal, synced_at}
+use Rattle.protocol.specs.Jobs.{sync_refusal_in}
+use Rattle.protocol.specs.Worlds.{World, Invokes, Proposes, Syncs, Delivers, Sets, Ticks, Stops, Starts, Found, is_up, may_start, world_began, world_stepped, world_ticked, world_stopped, world_found, world_started, delivered, packet_of, happens}
+use Rattle.world.specs.Runs.{ask_of, refusal_at, proposal_refusal_at, sync_refusal_at}
 use Rattle.world.specs.Shown.{calls_used}
 use Rattle.protocol.proofs.Events.{world_handled}
 
@@ -169,7 +170,47 @@ pub proposed_aside : (setting : Setting) (me : BrickId) (node : Node) (group : G
 unfolding proposed proposal_refusal
 proposed_aside setting me node group members none = proposed_aside_in setting me node group members (group_of setting.layout group.0) none
 
+-- where there is no such group no brick synchronises its view
+pub unsynced_no_group : (layout : Layout) (g : ℕ) (node : Node) → group_of layout g ≡ None → sync_refusal layout node g ≡ Some Refusal.NoStripe
+unfolding sync_refusal
+unsynced_no_group layout g node none = ap (sync_refusal_in node.job) none
+
+-- a brick that is up refuses to synchronise for its own reason
+pub unsynced_here : (setting : Setting) (w : World) (brick : BrickId) (group : GroupId) → is_up setting.layout w brick ≡ true
+    → sync_refusal_at setting w brick group ≡ sync_refusal setting.layout (w.nodes brick.0) group.0
+unsynced_here setting w brick group up = ap (λ b. cond b (sync_refusal setting.layout (w.nodes brick.0) group.0) (Some Refusal.Down)) up
+
+-- there is no such brick that is up
+pub unsynced_down : (setting : Setting) (w : World) (brick : BrickId) (group : GroupId) → is_up setting.layout w brick ≡ false
+    → sync_refusal_at setting w brick group ≡ Some Refusal.Down
+unsynced_down setting w brick group down = ap (λ b. cond b (sync_refusal setting.layout (w.nodes brick.0) group.0) (Some Refusal.Down)) down
+
 module _ (setting : Setting) (w : World) where
+  -- a synchronisation that is refused changes nothing
+  pub happens_unsynced : (brick : BrickId) (group : GroupId) (reason : Refusal)
+      → sync_refusal setting.layout (w.nodes brick.0) group.0 ≡ Some reason → happens setting w (Syncs brick group) ≡ w
+  unfolding happens
+  happens_unsynced brick group reason is =
+      ap (λ b. cond b (world_stepped setting w brick (synced_at setting brick (w.clocks brick.0) (w.nodes brick.0) group)) w)
+      (may_not (is_up setting.layout w brick) (sync_refusal setting.layout (w.nodes brick.0) group.0) reason is)
+
+  -- no brick that is not up synchronises
+  pub happens_unsynced_down : (brick : BrickId) (group : GroupId) → is_up setting.layout w brick ≡ false → happens setting w (Syncs brick group) ≡ w
+  unfolding happens
+  happens_unsynced_down brick group down =
+      ap (λ b. cond (b && not (is_some (sync_refusal setting.layout (w.nodes brick.0) group.0)))
+      (world_stepped setting w brick (synced_at setting brick (w.clocks brick.0) (w.nodes brick.0) group)) w)
+      down
+
+  -- a brick that does not refuse to synchronise takes its step
+  pub happens_synced : (brick : BrickId) (group : GroupId) → is_up setting.layout w brick ≡ true
+      → sync_refusal setting.layout (w.nodes brick.0) group.0 ≡ None
+      → happens setting w (Syncs brick group) ≡ world_stepped setting w brick (synced_at setting brick (w.clocks brick.0) (w.nodes brick.0) group)
+  unfolding happens
+  happens_synced brick group up none =
+      ap (λ b. cond b (world_stepped setting w brick (synced_at setting brick (w.clocks brick.0) (w.nodes brick.0) group)) w)
+      (may (is_up setting.layout w brick) (sync_refusal setting.layout (w.nodes brick.0) group.0) up none)
+
   -- a proposal that is refused changes nothing
   pub happens_unproposed : (brick : BrickId) (group : GroupId) (members : List BrickId) (reason : Refusal)
       → proposal_refusal setting.layout (w.nodes brick.0) group.0 ≡ Some reason → happens setting w (Proposes brick group members) ≡ w

@@ -4,7 +4,7 @@ use Rattle.std.proofs.lemmas.Bool.{cond_both}
 use Rattle.fab_base.specs.declared.identities.BrickId.{BrickId}
 use Rattle.messages.specs.declared.packets.Packet.{Packet}
 use Rattle.protocol.specs.Settings.{Setting}
-use Rattle.protocol.specs.Nodes.{NodeStep, put, proposed}
+use Rattle.protocol.specs.Nodes.{NodeStep, put, proposed, synced_at}
 use Rattle.protocol.specs.Worlds.{World, packet_of, reached_at, reached_during, world_stepped}
 use Rattle.stripe_code.specs.Codes.{coding}
 use Rattle.world.specs.Deliveries.{is_noted}
@@ -23,7 +23,8 @@ zero_put reached k none = value_elsewhere reached (suc k) 0 true (λ e. omega ar
 -- a brick's step delivers none
 zero_stepped : (setting : Setting) (w : World) (brick : BrickId) (step : NodeStep) → NoneAtZero w → NoneAtZero (world_stepped setting w brick step)
 zero_stepped setting w brick step none =
-    stepped_each NoneAtZero setting brick step (λ x seq t base holds. holds) (λ x seq v holds. holds) (λ x one holds. holds)
+    stepped_each NoneAtZero setting brick step (λ x seq t base holds. holds) (λ x seq v holds. holds) (λ x nodes call holds. holds) (λ x seq cause holds. holds)
+    (λ x one holds. holds)
     (λ x nodes held packets choices holds. holds) w none
 
 -- so it stays at a delivery
@@ -50,6 +51,7 @@ zero_cases : (setting : Setting) (w : World) → NoneAtZero w → EventCases set
 zero_cases setting w none = record {
   begins = λ brick ask may. none;
   proposes = λ brick group members may. zero_stepped setting w brick (proposed setting brick (w.nodes brick.0) group members) none;
+  syncs = λ brick group may. zero_stepped setting w brick (synced_at setting brick (w.clocks brick.0) (w.nodes brick.0) group) none;
   handles = λ number packet at up. zero_handled setting w number packet at none;
   sets = λ brick time is. none;
   ticks = λ brick up. none;

@@ -1,16 +1,19 @@
 -- What holds in the world that a run leaves, since a schedule of events reaches it.
-use Rattle.std.proofs.Common.{◌≡◌, ℕ, ◌+◌, Some, refl, sym, ap, ◌∙◌, subst}
-use Rattle.fab_base.specs.Layouts.{Layout, group_of}
-use Rattle.protocol.specs.Worlds.{World, first_world, number_of, run}
+use Rattle.std.proofs.Common.{◌≡◌, ℕ, ◌+◌, List, Option, Some, None, refl, sym, ap, ◌∙◌, subst}
+use Rattle.std.specs.Option.{option_map}
+use Rattle.std.proofs.lemmas.Option.{same_Some}
+use Rattle.fab_base.specs.declared.identities.BrickId.{BrickId}
+use Rattle.fab_base.specs.Layouts.{Layout, Group, group_of}
+use Rattle.protocol.specs.Jobs.{Job}
+use Rattle.protocol.specs.Worlds.{World, Operation, first_world, number_of, run}
 use Rattle.stripe_code.specs.Codes.{coding}
 use Rattle.protocol.specs.Settings.{IsSound}
 use Rattle.protocol.specs.Coordinators.{Coordinator}
-use Rattle.protocol.specs.Views.{Views, views_in, group_in}
+use Rattle.protocol.specs.Views.{Views, views_in, kept_by}
 use Rattle.protocol_laws.specs.Laws.{Laws}
 use Rattle.protocol_laws.proofs.Books.{Books}
 use Rattle.protocol_laws.proofs.BooksEvents.{books}
 use Rattle.protocol_laws.proofs.EveryRun.{every_views_run}
-use Rattle.protocol_laws.proofs.FirstViews.{first_group}
 use Rattle.protocol_laws.proofs.SaidAlways.{always_said}
 use Rattle.view_laws.proofs.Followed.{every_run_follows}
 use Rattle.world.specs.Runs.{Run, world_of, all_events}
@@ -32,16 +35,19 @@ numbered r = numbered_from_books (coding r.layout) (world_of r) (books_of r)
 pub reached_books : (layout : Layout) (w : World) → IsReachedBy layout w → Books (coding layout) w
 reached_books layout w (events, is) = subst (λ (v : World). Books (coding layout) v) (sym is) (books (coding layout) events)
 
--- an open operation in view 1 is of a group that the layout's members keep
+-- an open operation is of a group of the layout, of as many data blocks
 pub reached_group : (layout : Layout) (w : World) (i k : ℕ) (c : Coordinator) → IsSound (coding layout) → IsReachedBy layout w
-    → (w.nodes i).calls k ≡ Some c → c.call.view.0 ≡ 1 → group_of layout c.call.group.0 ≡ Some c.group
-reached_group layout w i k c sound (events, is) call first =
+    → (w.nodes i).calls k ≡ Some c → (group : Group) × (group_of layout c.call.group.0 ≡ Some group) × (c.group.m ≡ group.m)
+reached_group layout w i k c sound (events, is) call =
     let v : World = run (coding layout) events (first_world layout) in
     let views : Views = views_in layout v.packets in
     let said = always_said (coding layout) views events sound (every_run_follows (coding layout) events sound) in
-    sym (first_group layout v.packets c.call.group.0)
-    ∙ ap (λ (e : ℕ). group_in layout views c.call.group.0 e) (sym first)
-    ∙ (said.1.calls i k c (ap (λ (x : World). (x.nodes i).calls k) (sym is) ∙ call)).group
+    of_layout _ (group_of layout c.call.group.0) (said.1.calls i k c (ap (λ (x : World). (x.nodes i).calls k) (sym is) ∙ call)).group
+  where
+    of_layout : (members : List BrickId) (found : Option Group) → option_map (kept_by members) found ≡ Some c.group
+        → (group : Group) × (found ≡ Some group) × (c.group.m ≡ group.m)
+    of_layout members None none = absurd (let never : None ≡ Some c.group = none in cc)
+    of_layout members (Some group) same = (group, refl, sym (ap (λ (g : Group). g.m) (same_Some (kept_by members group) c.group same)))
 
 pub reached_numbered : (layout : Layout) (w : World) → IsReachedBy layout w → IsNumbered w
 reached_numbered layout w reached = numbered_from_books (coding layout) w (reached_books layout w reached)
@@ -51,6 +57,16 @@ reached_knows layout w reached = knows_calls (coding layout) w (reached_books la
 
 pub reached_numbers : (layout : Layout) (w : World) → IsReachedBy layout w → NumbersSay w
 reached_numbers layout w (events, is) = subst NumbersSay (sym is) (numbers_say layout events)
+
+-- no read of a synchronisation is an operation that has marks
+abbrev pub JobsReadUnmarked : World → Type 0
+JobsReadUnmarked w =
+    (i : ℕ) (job : Job) → (w.nodes i).job ≡ Some job → (o : Operation) → w.operations (number_of w i job.seq) ≡ Some o → o.mark ≡ 0
+
+pub reached_unmarked : (layout : Layout) (w : World) → IsReachedBy layout w → JobsReadUnmarked w
+reached_unmarked layout w reached i job is o at =
+    let own = (reached_books layout w reached).jobs i job is in
+    ap (λ (x : Operation). x.mark) (same_Some o own.operation (sym at ∙ own.operation_is)) ∙ own.mark
 
 pub reached_bricks : (layout : Layout) (w : World) → IsReachedBy layout w → AreOfBricks layout w
 reached_bricks layout w (events, is) = subst (AreOfBricks layout) (sym is) (of_bricks layout events)

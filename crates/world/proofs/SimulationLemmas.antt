@@ -9,16 +9,16 @@ use Rattle.fab_base.specs.declared.identities.GroupId.{GroupId}
 use Rattle.messages.specs.declared.packets.Packet.{Packet}
 use Rattle.stripe_code.specs.Codes.{coding}
 use Rattle.fab_base.specs.Layouts.{Layout}
-use Rattle.protocol.specs.Nodes.{Node, NodeStep, put, refusal_of, proposal_refusal, invoked, proposed, received, ticked, stopped}
-use Rattle.protocol.specs.Worlds.{World, Invokes, Proposes, Delivers, Sets, Ticks, Stops, is_brick, is_up, packet_of, world_began, world_stepped, world_stopped, happens}
+use Rattle.protocol.specs.Nodes.{Node, NodeStep, put, refusal_of, proposal_refusal, sync_refusal, invoked, proposed, synced_at, received, ticked, stopped}
+use Rattle.protocol.specs.Worlds.{World, Invokes, Proposes, Syncs, Delivers, Sets, Ticks, Stops, is_brick, is_up, packet_of, world_began, world_stepped, world_stopped, happens}
 use Rattle.world.specs.Runs.{ask_of}
-use Rattle.world.specs.Shown.{Shows, ShowsBricks, Tells}
+use Rattle.world.specs.Shown.{Shows, ShowsBricks, Tells, seqs_of}
 use Rattle.world.specs.Texts.{marks_if, is_deliverable}
 use Rattle.world.specs.declared.simulations.Outcome.TheVariants.{Marks, Idle}
 use Rattle.world.specs.declared.bricks.Brick.{Brick}
 use Rattle.world.specs.declared.histories.History.{History}
 use Rattle.world.specs.declared.simulations.Simulation.{Simulation}
-use Rattle.world.proofs.MachineBegins.{happens_begun, happens_proposed, happens_handled, happens_set, happens_ticked, happens_stopped}
+use Rattle.world.proofs.MachineBegins.{happens_begun, happens_proposed, happens_synced, happens_handled, happens_set, happens_ticked, happens_stopped}
 use Rattle.world.proofs.HistoryLemmas.{tells_other, heard_keeps}
 use Rattle.protocol.proofs.Events.{world_counting, world_handled}
 
@@ -56,8 +56,8 @@ shows_still layout state w v same shows = subst (λ (x : World). Shows layout st
 pub tells_replies : (layout : Layout) (history : History) (w : World) (number : ℕ) (packet : Packet)
     → Tells history (record w { reached = put w.reached number true }) → Tells history (world_counting (coding layout) w number packet)
 tells_replies layout history w number packet tells =
-    tells_other history (record w { reached = put w.reached number true }) (world_counting (coding layout) w number packet) refl refl refl refl refl refl refl
-    (λ i calls are. are) tells
+    tells_other (seqs_of w) history (record w { reached = put w.reached number true }) (seqs_of w) (world_counting (coding layout) w number packet)
+    refl refl refl refl refl refl refl (λ i calls are. are) tells
 
 -- what a step tells and answers changes no brick but its own
 bricks_stepped : (layout : Layout) (bricks : List Brick) (w : World) (brick : BrickId) (step : NodeStep)
@@ -94,6 +94,18 @@ shows_proposed layout state w brick group members up none bricks history =
       history = history;
     })
 
+-- a brick that synchronised, or began to
+pub shows_synced : (layout : Layout) (state : Simulation) (w : World) (brick : BrickId) (group : GroupId)
+    → is_up layout w brick ≡ true → sync_refusal layout (w.nodes brick.0) group.0 ≡ None
+    → (let step : NodeStep = synced_at (coding layout) brick (w.clocks brick.0) (w.nodes brick.0) group in
+    ShowsBricks layout state.bricks.items (put w.nodes brick.0 step.node) w.after w.up w.clocks
+    → Tells state.history (world_stepped (coding layout) w brick step) → Shows layout state (happens (coding layout) w (Syncs brick group)))
+shows_synced layout state w brick group up none bricks history =
+    subst (λ (x : World). Shows layout state x) (sym (happens_synced (coding layout) w brick group up none)) (record {
+      bricks = bricks_stepped layout state.bricks.items w brick (synced_at (coding layout) brick (w.clocks brick.0) (w.nodes brick.0) group) bricks;
+      history = history;
+    })
+
 -- a clock that was set
 pub shows_set : (layout : Layout) (old new : Simulation) (w : World) (brick : BrickId) (time : ℕ) → brick.0 < layout.bricks
     → ShowsBricks layout new.bricks.items w.nodes w.after w.up (put w.clocks brick.0 time) → new.history ≡ old.history
@@ -103,8 +115,8 @@ shows_set layout old new w brick time within bricks same shows =
     (record {
       bricks = bricks;
       history = subst (λ (h : History). Tells h (record w { clocks = put w.clocks brick.0 time })) (sym same)
-          (tells_other old.history w (record w { clocks = put w.clocks brick.0 time }) refl refl refl refl refl refl refl (λ i calls are. are)
-          shows.history);
+          (tells_other (seqs_of w) old.history w (seqs_of w) (record w { clocks = put w.clocks brick.0 time }) refl refl refl refl refl refl refl
+          (λ i calls are. are) shows.history);
     })
 
 -- what setting a clock comes to

@@ -4,25 +4,20 @@ use Rattle.fab_base.specs.declared.identities.BrickId.{BrickId}
 use Rattle.protocol.specs.Settings.{Setting}
 use Rattle.protocol.specs.Worlds.{World, Event, Delivers, happens, run}
 use Rattle.protocol.specs.Calms.{IsCalm, RunsAlone, open_call, next_delivery}
-use Rattle.calm_laws.specs.Laws.{IsOver, LeavesItsOwn, RunsInFirst}
-
--- An operation may run alone among these bricks, and it is one in view 1 of its group.
-pub record MayRunAlone (setting : Setting) (w : World) (n : ℕ) (bricks : List BrickId) : Type 0 where
-  pub calm : IsCalm setting w n bricks
-  pub first : RunsInFirst calm.coordinator
+use Rattle.calm_laws.specs.Laws.{IsOver, LeavesItsOwn}
 
 -- An operation may run alone among these bricks, and does. It is over then: it was answered data, or that it is done. And the Collects of a version
 -- that it made leave only that, where just a quorum of its members are among these bricks.
 pub record RunsCalm (setting : Setting) (w : World) (n : ℕ) (bricks : List BrickId) (events : List Event) : Type 0 where
-  pub may : MayRunAlone setting w n bricks
+  pub may : IsCalm setting w n bricks
   pub runs : RunsAlone setting n bricks w events (run setting events w)
   pub over : IsOver (run setting events w) n
-  pub leaves : LeavesItsOwn setting w n bricks may.calm (run setting events w)
+  pub leaves : LeavesItsOwn setting w n bricks may (run setting events w)
 
 -- so it does where it may, and else nothing happens
 abbrev pub IsCalmRun : Setting → World → ℕ → List BrickId → List Event → Type 0
 IsCalmRun setting w n bricks events =
-    RunsCalm setting w n bricks events ⊎ ((MayRunAlone setting w n bricks → ⊥) × (events ≡ []))
+    RunsCalm setting w n bricks events ⊎ ((IsCalm setting w n bricks → ⊥) × (events ≡ []))
 
 -- the first of the deliveries that an operation makes alone, and the world that they leave
 pub data BeginsAlone (setting : Setting) (n : ℕ) (bricks : List BrickId) : World → List Event → World → Type 0 where
@@ -33,6 +28,6 @@ pub data BeginsAlone (setting : Setting) (n : ℕ) (bricks : List BrickId) : Wor
 
 -- an operation may run alone among these bricks, and began to
 pub record BeginsCalm (setting : Setting) (w : World) (n : ℕ) (bricks : List BrickId) (events : List Event) : Type 0 where
-  pub may : MayRunAlone setting w n bricks
+  pub may : IsCalm setting w n bricks
   pub last : World
   pub begins : BeginsAlone setting n bricks w events last

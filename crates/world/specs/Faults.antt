@@ -28,6 +28,7 @@ use Rattle.stripe_code.specs.Codes.{coding}
 use Rattle.protocol.specs.Nodes.{Node, absorbed, stopped, may_open}
 use Rattle.protocol.specs.Worlds.{World, Event, Delivers, Stops, Starts, Found, Before, After, is_up, packet_of}
 use Rattle.world.specs.Runs.{brick_of, events_of}
+use Rattle.protocol.specs.Calms.{operation_marked}
 use Rattle.world.specs.Calms.{IsCalmRun}
 use Rattle.world.specs.EventCalls.{is_down}
 
@@ -194,10 +195,10 @@ abbrev pub IsDeliveryOf : Layout → World → List MemDisk → List MemDisk →
 IsDeliveryOf layout w old new number fault events =
     StopsMidway layout w old new number fault events ⊎ IsDelivered layout w old number fault events
 
--- A line is these events, in a run over these disks that leaves these.
+-- A line is these events, in a run over these disks that leaves these. An operation that runs alone is named by the number of its marks.
 abbrev pub IsEventsOf : Layout → World → List MemDisk → List MemDisk → Line → List Event → Type 0
 IsEventsOf layout w old new (Deliver k fault) events = IsDeliveryOf layout w old new k fault events
 IsEventsOf layout w old new (Crash b) events = (events ≡ Stops (brick_of b) None ∷ []) × (new ≡ old)
 IsEventsOf layout w old new (Start b fault) events = IsStartOf layout w old new (brick_of b) fault events
-IsEventsOf layout w old new (Calm n bricks) events = IsCalmRun (coding layout) w n (map brick_of bricks) events
+IsEventsOf layout w old new (Calm n bricks) events = IsCalmRun (coding layout) w (operation_marked w n) (map brick_of bricks) events
 IsEventsOf layout w old new line events = events ≡ events_of line

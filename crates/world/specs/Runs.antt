@@ -11,11 +11,11 @@ use Rattle.fab_disk.specs.declared.mem_disk.MemDisk.{MemDisk}
 use Rattle.lines.specs.declared.forms.Access.{Access}
 use Rattle.lines.specs.declared.forms.Access.TheVariants.{ReadBlock, WriteBlock, ReadStripe, WriteStripe}
 use Rattle.lines.specs.declared.forms.Line.{Line}
-use Rattle.lines.specs.declared.forms.Line.TheVariants.{Nothing, Invoke, Deliver, SetClock, Tick, Crash, Start, Propose, Calm}
+use Rattle.lines.specs.declared.forms.Line.TheVariants.{Nothing, Invoke, Deliver, SetClock, Tick, Crash, Start, Propose, Sync, Calm}
 use Rattle.fab_base.specs.Layouts.{Layout}
 use Rattle.protocol.specs.Settings.{Setting}
-use Rattle.protocol.specs.Nodes.{refusal_of, proposal_refusal}
-use Rattle.protocol.specs.Worlds.{World, Event, Invokes, Proposes, Delivers, Sets, Ticks, Stops, Starts, Before, first_world, is_up, run}
+use Rattle.protocol.specs.Nodes.{refusal_of, proposal_refusal, sync_refusal}
+use Rattle.protocol.specs.Worlds.{World, Event, Invokes, Proposes, Syncs, Delivers, Sets, Ticks, Stops, Starts, Before, first_world, is_up, run}
 use Rattle.stripe_code.specs.Codes.{coding}
 
 -- a line of a schedule that was run, and the events of the machine that it was
@@ -67,6 +67,7 @@ events_of (Tick b) = Ticks (brick_of b) ∷ []
 events_of (Crash b) = Stops (brick_of b) None ∷ []
 events_of (Start b fault) = Starts (brick_of b) 1 Before ∷ []
 events_of (Propose b g members) = Proposes (brick_of b) (group_no g) (map member_no members) ∷ []
+events_of (Sync b g) = Syncs (brick_of b) (group_no g) ∷ []
 events_of (Calm n bricks) = []
 
 -- the events of steps, in order
@@ -87,3 +88,8 @@ refusal_at setting w brick ask =
 abbrev pub proposal_refusal_at : Setting → World → BrickId → GroupId → Option Refusal
 proposal_refusal_at setting w brick group =
     if is_up setting.layout w brick then proposal_refusal setting.layout (w.nodes brick.0) group.0 else Some Down
+
+-- why a brick does not begin a synchronisation, where it does not: it is not up, or it refuses
+abbrev pub sync_refusal_at : Setting → World → BrickId → GroupId → Option Refusal
+sync_refusal_at setting w brick group =
+    if is_up setting.layout w brick then sync_refusal setting.layout (w.nodes brick.0) group.0 else Some Down

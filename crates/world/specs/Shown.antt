@@ -1,14 +1,15 @@
 -- What a world keeps, and the machine's world that it shows.
-use Rattle.std.specs.Prelude.{◌≡◌, ◌⊎◌, ℕ, zero, suc, ◌+◌, ◌<◌, ◌≤◌, ◌&&◌, Bool, true, false, not, nat_eq, if◌then◌else◌, List, [], ◌∷◌, ◌++◌, length, map, set, Option, Some, None, is_some, Result, Ok, Err, option_and_then, unwrap_or, get_or, slice_get, vec_len, vec_capacity}
+use Rattle.std.specs.Prelude.{◌≡◌, ◌⊎◌, ℕ, zero, suc, ◌+◌, ◌<◌, ◌≤◌, ◌&&◌, Bool, true, false, not, nat_eq, nat_lt, if◌then◌else◌, List, [], ◌∷◌, ◌++◌, length, map, set, Option, Some, None, is_some, Result, Ok, Err, option_and_then, unwrap_or, get_or, slice_get, vec_len, vec_capacity}
 use Rattle.std.specs.Bool.{Decides}
 use Rattle.std.specs.declared.cmp.Ordering.{Ordering}
 use Rattle.std.specs.Ordering.{nat_cmp, ordering_then}
-use Rattle.std.specs.List.{AllByRecursion}
+use Rattle.std.specs.List.{AllByRecursion, list_any}
 use Rattle.std.specs.Option.{option_map}
 use Rattle.fab_base.specs.declared.asks.Ask.{Ask}
 use Rattle.fab_base.specs.declared.faults.NoMem.{NoMem}
 use Rattle.fab_base.specs.declared.identities.BrickId.{BrickId}
 use Rattle.fab_base.specs.declared.identities.GroupId.{GroupId}
+use Rattle.fab_base.specs.declared.member_lists.View.{View}
 use Rattle.fab_base.specs.declared.stamps.Stamp.{Stamp}
 use Rattle.fab_disk.specs.MemDisk.{IsSound, content_of}
 use Rattle.fab_disk.specs.declared.mem_disk.MemDisk.{MemDisk}
@@ -27,13 +28,12 @@ use Rattle.protocol.specs.declared.tellings.Answered.{Answered}
 use Rattle.protocol.specs.declared.tellings.Report.{Report}
 use Rattle.protocol.specs.declared.tellings.Told.{Told}
 use Rattle.protocol.specs.declared.tellings.Told.TheVariants as told
-use Rattle.protocol.specs.Worlds.{World, Operation, is_up, number_of, first_world, happens, run}
-use Rattle.protocol.specs.Happenings.{writes}
+use Rattle.protocol.specs.Worlds.{World, Operation, is_up, number_of, world_tells, first_world, happens, run}
+use Rattle.protocol.specs.Happenings.{is_marked, writes}
 use Rattle.protocol.specs.Settings.{Setting}
 use Rattle.protocol.specs.Worlds.{Event}
-use Rattle.protocol_laws.specs.Marked.{OwnMarks}
 use Rattle.world.specs.Runs.{Step, brick_of}
-use Rattle.world.specs.CallNumbers.{AreCalls, calls_in}
+use Rattle.world.specs.CallNumbers.{AreCalls, HasCallRoom, calls_in}
 use Rattle.world.specs.Faults.{HoldsOne, IsEventsOf, IsStartOf, IsLeft, IsLeftOpening, IsReached, IsReachedOpening, Finds, plan_of, found_of}
 use Rattle.world.specs.Disks.{ShowsDisk, first_listed, IsUnwritten, AreUnwritten, KeepsDisks, LeavesContents, ListsPacket, ListsOpening, OfDisk}
 use Rattle.lines.specs.declared.forms.Fault.{Fault}
@@ -43,8 +43,8 @@ use Rattle.messages.specs.declared.packets.Packet.{Packet}
 use Rattle.coord_phase.specs.Messages.{packets_from}
 use Rattle.node.specs.Outcomes.{Outcome as Sent}
 use Rattle.stripe_code.specs.Codes.{coding}
-use Rattle.protocol.specs.Calms.{IsEarly, RunsAlone, early, open_call}
-use Rattle.world.specs.Calms.{MayRunAlone, BeginsCalm, BeginsAlone}
+use Rattle.protocol.specs.Calms.{IsCalm, IsEarly, RunsAlone, early, open_call, operation_marked}
+use Rattle.world.specs.Calms.{BeginsCalm, BeginsAlone}
 use Rattle.world.specs.Texts.{outcome_of, outcome_text, new_marks, new_reports, marks_text, line_text, text_of}
 use Rattle.world.specs.declared.simulations.Outcome.{Outcome}
 use Rattle.world.specs.declared.simulations.Outcome.TheVariants.{Marks, Idle}
@@ -73,17 +73,40 @@ pub record TellsOperation (kept : OperationRecord) (o : Operation) : Type 0 wher
   pub writes : kept.writes ≡ writes o.ask.op
   pub answered : kept.answered ≡ o.answered
   pub view : kept.view.0 ≡ o.view
-
--- what is kept of the operations, from the first, is the machine's
-abbrev pub TellsOperations : List OperationRecord → (ℕ → Option Operation) → Type 0
-TellsOperations kept operations =
-    (n : ℕ) (one : OperationRecord) → slice_get kept n ≡ Some one
-    → (o : Operation) × (operations (n + 1) ≡ Some o) × TellsOperation one o
+  pub mark : kept.mark ≡ o.mark
 
 -- what is kept of the operation of a number
 abbrev pub record_at : List OperationRecord → ℕ → Option OperationRecord
 record_at kept zero = None
 record_at kept (suc n) = slice_get kept n
+
+-- what is kept of the operation of a number is the machine's, or there is none
+abbrev pub TellsOne : Option OperationRecord → Option Operation → Type 0
+TellsOne None None = Unit {0}
+TellsOne (Some kept) (Some o) = TellsOperation kept o
+TellsOne kept o = ⊥
+
+-- so of each number
+abbrev pub TellsOperations : List OperationRecord → (ℕ → Option Operation) → Type 0
+TellsOperations kept operations = (n : ℕ) → TellsOne (record_at kept n) (operations n)
+
+-- the number at the place of a mark's, from 1; 0 where there is none
+abbrev pub number_at : List ℕ → ℕ → ℕ
+number_at numbers zero = 0
+number_at numbers (suc k) = get_or numbers k 0
+
+-- these are the numbers of the operations that have marks, in the order of their Begins
+pub record AreMarked (numbers : List ℕ) (w : World) : Type 0 where
+  pub count : length numbers ≡ w.marked
+  pub each : (mark : ℕ) → number_at numbers mark ≡ operation_marked w mark
+
+-- the number of the marks of the operation of a number
+abbrev pub mark_of_kept : ℕ → Option OperationRecord → ℕ
+mark_of_kept n None = n
+mark_of_kept n (Some kept) = kept.mark
+
+abbrev pub mark_kept : List OperationRecord → ℕ → ℕ
+mark_kept kept n = mark_of_kept n (record_at kept n)
 
 -- what is kept of an operation that made a version, on this base
 abbrev pub made_kept : Stamp → Option Stamp → OperationRecord → OperationRecord
@@ -303,8 +326,8 @@ abbrev pub RefusesProposal : List Brick → BrickId → GroupId → Result Sent 
 RefusesProposal old number group result = (layout : Layout) (w : World) → ShowsBricks layout old w.nodes w.after w.up w.clocks
     → RefusesAs result (machine.proposal_refusal layout (w.nodes number.0) group.0)
 
--- The bricks after one proposed as the machine's does: what it sends, tells, answers and reports is the machine's.
-pub record ProposedAs (layout : Layout) (w : World) (number : BrickId) (step : machine.NodeStep) (new : List Brick) (outs : Sent) : Type 0 where
+-- The bricks after one took a step that is the machine's: so is what it sends, tells, answers and reports.
+pub record SteppedAs (layout : Layout) (w : World) (number : BrickId) (step : machine.NodeStep) (new : List Brick) (outs : Sent) : Type 0 where
   pub packets : packets_from number outs.messages ≡ step.packets
   pub told : outs.told ≡ step.told
   pub answers : outs.answers ≡ step.answers
@@ -314,33 +337,52 @@ pub record ProposedAs (layout : Layout) (w : World) (number : BrickId) (step : m
 -- so it did in each world that the bricks show
 abbrev pub ProposesBrick : List Brick → List Brick → BrickId → GroupId → List BrickId → Sent → Type 0
 ProposesBrick old new number group members outs = (layout : Layout) (w : World) → ShowsBricks layout old w.nodes w.after w.up w.clocks
-    → ProposedAs layout w number (machine.proposed (coding layout) number (w.nodes number.0) group members) new outs
+    → SteppedAs layout w number (machine.proposed (coding layout) number (w.nodes number.0) group members) new outs
+
+-- a brick was asked to synchronise, and refused it or not as the machine's does
+abbrev pub RefusesSync : List Brick → BrickId → GroupId → Result Sent NodeFault → Type 0
+RefusesSync old number group result = (layout : Layout) (w : World) → ShowsBricks layout old w.nodes w.after w.up w.clocks
+    → RefusesAs result (machine.sync_refusal layout (w.nodes number.0) group.0)
+
+-- it began to synchronise as the machine's does
+abbrev pub SyncsBrick : List Brick → List Brick → BrickId → GroupId → Sent → Type 0
+SyncsBrick old new number group outs = (layout : Layout) (w : World) → ShowsBricks layout old w.nodes w.after w.up w.clocks
+    → SteppedAs layout w number (machine.synced_at (coding layout) number (w.clocks number.0) (w.nodes number.0) group) new outs
 
 -- the bricks show what they showed
 abbrev pub BricksStay : Layout → List Brick → List Brick → Type 0
 BricksStay layout old new = (w : World) → ShowsBricks layout old w.nodes w.after w.up w.clocks
     → ShowsBricks layout new w.nodes w.after w.up w.clocks
 
--- The history tells the machine's world: every message, and which were delivered, every mark, every report, each operation, whose marks have its
--- number, and the operations of the calls so far of each brick that is up.
-pub record Tells (history : History) (w : World) : Type 0 where
+-- The history tells the machine's world, where each brick has made so many calls: every message, and which were delivered, every mark, every report, each
+-- operation, those that have marks by these, and the operations of the calls so far of each brick that is up.
+pub record TellsAt (seqs : ℕ → ℕ) (history : History) (w : World) : Type 0 where
   pub packets : history.sent.packets.items ≡ w.packets
   pub reached : (k : ℕ) → get_or history.delivered.reached.items k false ≡ w.reached (k + 1)
   pub marks : history.marks.items ≡ w.marks
   pub reports : history.reports.items ≡ w.choices.reports
   pub begun : length history.operations.items ≡ w.begun
-  pub own : OwnMarks w
+  pub marked : AreMarked history.marked.items w
   pub operations : TellsOperations history.operations.items w.operations
-  pub calls : (i : ℕ) → AreCalls (w.up i) (calls_in history.calls i) (number_of w i) (w.nodes i).seq
+  pub calls : (i : ℕ) → AreCalls (w.up i) (calls_in history.calls i) (number_of w i) (seqs i)
+
+-- the number of each brick's last call
+abbrev pub seqs_of : World → ℕ → ℕ
+seqs_of w i = (w.nodes i).seq
+
+-- the history tells the machine's world
+abbrev pub Tells : History → World → Type 0
+Tells history w = TellsAt (seqs_of w) history w
 
 -- The state shows the machine's world.
 pub record Shows (layout : Layout) (state : Simulation) (w : World) : Type 0 where
   pub bricks : ShowsBricks layout state.bricks.items w.nodes w.after w.up w.clocks
   pub history : Tells state.history w
 
--- how many messages a step of a brick sends at most, on a message or as an operation or a proposal begins: one to each brick of a layout
+-- how many messages a step of a brick sends at most, on a message or as an operation, a proposal or a synchronisation begins: one to each member of a view, and
+-- one to each brick of a layout
 abbrev pub most_sent : ℕ
-most_sent = 64
+most_sent = 96
 
 -- there is room for what one step of a brick adds
 pub record HasStepRoom (history : History) : Type 0 where
@@ -348,6 +390,12 @@ pub record HasStepRoom (history : History) : Type 0 where
   pub marks : vec_len history.marks < vec_capacity history.marks
   pub reports : vec_len history.reports < vec_capacity history.reports
   pub operations : vec_len history.operations < vec_capacity history.operations
+  pub marked : vec_len history.marked < vec_capacity history.marked
+
+-- there is room for an operation without marks, which a brick begins
+pub record HasReadRoom (history : History) (brick : BrickId) : Type 0 where
+  pub operations : vec_len history.operations < vec_capacity history.operations
+  pub call : HasCallRoom history.calls brick.0
 
 -- a schedule of events reaches the world
 abbrev pub IsReachedBy : Layout → World → Type 0
@@ -357,28 +405,39 @@ IsReachedBy layout w = (events : List Event) × (w ≡ run (coding layout) event
 abbrev pub IsNumbered : World → Type 0
 IsNumbered w = (i k : ℕ) (c : Coordinator) → (w.nodes i).calls k ≡ Some c → (c.call.seq ≡ k) × (1 ≤ k) × (k ≤ (w.nodes i).seq)
 
--- a call of this number is one of the brick's calls so far
-abbrev pub IsOfCall : machine.Node → ℕ → Type 0
-IsOfCall node seq = (1 ≤ seq) × (seq ≤ node.seq)
+-- a call of this number is one of the first so many
+abbrev pub IsOfCall : ℕ → ℕ → Type 0
+IsOfCall seq k = (1 ≤ k) × (k ≤ seq)
 
--- the call of whose operation this is told
-abbrev pub told_call : Told → ℕ
-told_call (told.Made seq stamp base) = seq
-told_call (told.Seen seq stamp) = seq
+-- What is told is of one of the brick's calls, which has made so many since it was opened so often; or a read begins under the next call.
+abbrev pub IsToldAt : ℕ → ℕ → Told → Type 0
+IsToldAt boot seq (told.Made k stamp base) = IsOfCall seq k
+IsToldAt boot seq (told.Seen k stamp) = IsOfCall seq k
+IsToldAt boot seq (told.Began call) = (call.boot ≡ boot) × (call.seq ≡ seq + 1)
+IsToldAt boot seq (told.Closed k cause) = IsOfCall seq k
 
--- what is told, and what is answered, is of the brick's calls so far
-abbrev pub AreTold : machine.Node → List Told → Type 0
-AreTold node told = AllByRecursion (λ one. IsOfCall node (told_call one)) told
+-- how many reads begin
+abbrev pub reads_begun : List Told → ℕ
+reads_begun [] = 0
+reads_begun (told.Began call ∷ more) = 1 + reads_begun more
+reads_begun (one ∷ more) = reads_begun more
 
-abbrev pub AreAnswered : machine.Node → List Answered → Type 0
-AreAnswered node answers = AllByRecursion (λ one. IsOfCall node one.seq) answers
+-- so of all that is told, one after another
+abbrev pub AreTold : ℕ → ℕ → List Told → Type 0
+AreTold boot seq [] = Unit {0}
+AreTold boot seq (one ∷ more) = IsToldAt boot seq one × AreTold boot (seq + reads_begun (one ∷ [])) more
 
--- the step of a brick opens no call, and tells and answers of the calls so far
-pub record OpensNone (node : machine.Node) (step : machine.NodeStep) : Type 0 where
+-- what is answered is of the brick's calls so far
+abbrev pub AreAnswered : ℕ → List Answered → Type 0
+AreAnswered seq answers = AllByRecursion (λ one. IsOfCall seq one.seq) answers
+
+-- the step of a brick opens no call but those of the reads that it tells to have begun, one at most, and tells and answers of the calls so far
+pub record OpensReads (node : machine.Node) (step : machine.NodeStep) : Type 0 where
   pub boot : step.node.boot ≡ node.boot
-  pub seq : step.node.seq ≡ node.seq
-  pub told : AreTold node step.told
-  pub answers : AreAnswered node step.answers
+  pub seq : step.node.seq ≡ node.seq + reads_begun step.told
+  pub few : reads_begun step.told ≤ 1
+  pub told : AreTold node.boot node.seq step.told
+  pub answers : AreAnswered node.seq step.answers
 
 -- how many calls a brick uses up as it is asked to propose: none where it reports at once that it begins no proposal
 abbrev pub calls_used : List Report → ℕ
@@ -416,6 +475,16 @@ HistoryBecomes next old new = (w : World) → Tells old w → Tells new (next w)
 abbrev pub HistoryNotes : BrickId → (machine.Node → Type 0) → (World → World) → History → History → Type 0
 HistoryNotes brick Holds next old new = (w : World) → Tells old w → w.up brick.0 ≡ true → Holds (w.nodes brick.0) → Tells new (next w)
 
+-- so it does with what a brick tells, where that is up and is of its calls: each read that begins is one call more
+abbrev pub HistoryHears : BrickId → List Told → History → History → Type 0
+HistoryHears brick told old new = (setting : Setting) (nodes : ℕ → machine.Node) (w : World) (seqs : ℕ → ℕ) → TellsAt seqs old w → w.up brick.0 ≡ true
+    → AreTold (w.nodes brick.0).boot (seqs brick.0) told
+    → TellsAt (machine.put seqs brick.0 (seqs brick.0 + reads_begun told)) new (world_tells setting nodes w brick told)
+
+-- so it does with one operation, where this holds of the number of its brick's calls
+abbrev pub HistoryChanges : BrickId → (ℕ → Type 0) → (World → World) → History → History → Type 0
+HistoryChanges brick Holds next old new = (w : World) (seqs : ℕ → ℕ) → TellsAt seqs old w → w.up brick.0 ≡ true → Holds (seqs brick.0) → TellsAt seqs new (next w)
+
 -- so it does where the brick is up in that world, and its step opens there no call but one of no operation
 abbrev pub HistoryNotesAside : BrickId → machine.NodeStep → (World → World) → History → History → Type 0
 HistoryNotesAside brick step next old new = (w : World) → Tells old w → w.up brick.0 ≡ true → OpensAside w brick step → Tells new (next w)
@@ -452,7 +521,7 @@ pub record ComesTo (layout : Layout) (w : World) (disks : List MemDisk) (state :
 
 -- the events are the first of a line's: it is one that has an operation run alone, and was not run to its end
 abbrev pub IsBegunBy : Layout → World → Line → List Event → Type 0
-IsBegunBy layout w (Calm n bricks) events = BeginsCalm (coding layout) w n (map brick_of bricks) events
+IsBegunBy layout w (Calm n bricks) events = BeginsCalm (coding layout) w (operation_marked w n) (map brick_of bricks) events
 IsBegunBy layout w line events = ⊥
 
 -- a line came to this outcome, and is some events
@@ -507,16 +576,26 @@ pub record StaysAs (layout : Layout) (old new : Simulation) : Type 0 where
 abbrev pub clock_at : List Brick → ℕ → ℕ
 clock_at bricks number = unwrap_or (option_map (λ brick. brick.clock) (slice_get bricks number)) 0
 
--- a brick serves view 1 of a group: it has learnt no later one, and has accepted no list to follow it
-pub record ServesFirst (node : machine.Node) (group : ℕ) : Type 0 where
-  pub view : machine.view_at node group ≡ 1
+-- a brick serves a view of a group: it has learnt that and no later one, and has accepted no list to follow it
+pub record Serves (node : machine.Node) (group view : ℕ) : Type 0 where
+  pub view_is : machine.view_at node group ≡ view
   pub serves : machine.has_accepted node group ≡ false
 
--- a brick runs that serves view 1 of a group, has room for two records more, and its times are early
-abbrev pub NodeIsAble : Layout → ℕ → Option (Running MemDisk) → Type 0
-NodeIsAble layout group None = ⊥
-NodeIsAble layout group (Some node) =
-    ServesFirst (state_of node) group × ((state_of node).live + 2 ≤ layout.records) × IsEarly (state_of node)
+-- a brick runs that serves a view of a group, has room for two records more, and its times are early
+abbrev pub NodeIsAble : Layout → ℕ → ℕ → Option (Running MemDisk) → Type 0
+NodeIsAble layout group view None = ⊥
+NodeIsAble layout group view (Some node) =
+    Serves (state_of node) group view × ((state_of node).live + 2 ≤ layout.records) × IsEarly (state_of node)
+
+-- a brick runs that knows that all stripes of a group are kept in the view that it has learnt
+abbrev pub node_knows_synced : ℕ → Option (Running MemDisk) → Bool
+node_knows_synced group None = false
+node_knows_synced group (Some node) = ((state_of node).learnt group).synced
+
+-- an operation in a view may have to ask the members of the view before: it is a later view than 1, and none of the bricks of these numbers knows that
+abbrev pub may_ask_prior_at : List Brick → ℕ → ℕ → List ℕ → Bool
+may_ask_prior_at bricks group view numbers =
+    nat_lt 1 view && not (list_any (λ number. node_knows_synced group (running_at bricks number)) numbers)
 
 -- a brick runs whose clock reads this, and that and its times are early
 abbrev pub NodeIsInTime : ℕ → Option (Running MemDisk) → Type 0
@@ -536,10 +615,19 @@ if_open bricks (Some kept) = if node_has_open kept (running_at bricks kept.brick
 abbrev pub open_record : Simulation → ℕ → Option OperationRecord
 open_record state n = if_open state.bricks.items (record_at state.history.operations.items n)
 
--- the brick of a number is up, serves view 1 of a group, has room for two records more, and its times are early
-pub record IsAble (layout : Layout) (w : World) (group number : ℕ) : Type 0 where
+-- the view of the operation of a call, if that is open at a brick that runs
+abbrev pub node_view : ℕ → Option (Running MemDisk) → Option View
+node_view seq None = None
+node_view seq (Some node) = option_map machine.view_in ((state_of node).calls seq)
+
+-- the view of an operation of which this is kept
+abbrev pub open_view : Simulation → OperationRecord → Option View
+open_view state kept = node_view kept.seq (running_at state.bricks.items kept.brick.0)
+
+-- the brick of a number is up, serves a view of a group, has room for two records more, and its times are early
+pub record IsAble (layout : Layout) (w : World) (group view number : ℕ) : Type 0 where
   pub up : is_up layout w (brick_of number) ≡ true
-  pub first : ServesFirst (w.nodes number) group
+  pub serves : Serves (w.nodes number) group view
   pub room : (w.nodes number).live + 2 ≤ layout.records
   pub times : IsEarly (w.nodes number)
 
@@ -581,13 +669,19 @@ pub record HasBegun (layout : Layout) (w : World) (n : ℕ) (bricks : List Brick
 -- it is said whether an operation may run alone among these bricks, in the world that the state shows
 abbrev pub DecidesCalm : Layout → Simulation → ℕ → List ℕ → Bool → Type 0
 DecidesCalm layout state n bricks may =
-    (w : World) → IsReachedBy layout w → Shows layout state w → Decides may (MayRunAlone (coding layout) w n (map brick_of bricks))
+    (w : World) → IsReachedBy layout w → Shows layout state w → Decides may (IsCalm (coding layout) w n (map brick_of bricks))
 
--- one that may did, from one state to another; or it began to
+-- the operation of a number has marks, if there is one
+abbrev pub HasMarks : World → ℕ → Type 0
+HasMarks w n = (o : Operation) → w.operations n ≡ Some o → is_marked o ≡ true
+
+-- one that may and has marks did, from one state to another; or it began to
 abbrev pub RunsAloneTo : Layout → Simulation → Simulation → ℕ → List ℕ → Bool → Type 0
-RunsAloneTo layout old new n bricks some = (w : World) → IsReachedBy layout w → Shows layout old w → MayRunAlone (coding layout) w n (map brick_of bricks)
+RunsAloneTo layout old new n bricks some = (w : World) → IsReachedBy layout w → Shows layout old w → IsCalm (coding layout) w n (map brick_of bricks)
+    → HasMarks w n
     → HasRun layout w n (map brick_of bricks) (disks_of old.bricks.items) new some
 
 abbrev pub BeginsAloneTo : Layout → Simulation → Simulation → ℕ → List ℕ → Type 0
-BeginsAloneTo layout old new n bricks = (w : World) → IsReachedBy layout w → Shows layout old w → MayRunAlone (coding layout) w n (map brick_of bricks)
+BeginsAloneTo layout old new n bricks = (w : World) → IsReachedBy layout w → Shows layout old w → IsCalm (coding layout) w n (map brick_of bricks)
+    → HasMarks w n
     → HasBegun layout w n (map brick_of bricks) (disks_of old.bricks.items) new

@@ -21,10 +21,10 @@ use Rattle.protocol.specs.declared.tellings.SyncAnswer.{SyncAnswer}
 use Rattle.protocol.specs.declared.tellings.SyncAnswer.TheVariants as sync
 use Rattle.protocol.specs.declared.tellings.Report.{Report}
 use Rattle.protocol.specs.declared.tellings.Report.TheVariants as report
-use Rattle.protocol.specs.Worlds.{World, Event, Invokes, Proposes, Delivers, Sets, Ticks, Stops, Starts, is_brick, is_up, may_start, packet_of, happens}
+use Rattle.protocol.specs.Worlds.{World, Event, Invokes, Proposes, Syncs, Delivers, Sets, Ticks, Stops, Starts, is_brick, is_up, may_start, packet_of, happens}
 use Rattle.lines.specs.declared.forms.Line.{Line}
 use Rattle.lines.specs.declared.forms.Line.TheVariants.{Calm}
-use Rattle.world.specs.Runs.{Step, refusal_at, proposal_refusal_at}
+use Rattle.world.specs.Runs.{Step, refusal_at, proposal_refusal_at, sync_refusal_at}
 use Rattle.world.specs.declared.simulations.Outcome.{Outcome}
 use Rattle.world.specs.declared.simulations.Outcome.TheVariants.{Marks, Refused, Idle}
 
@@ -108,7 +108,7 @@ new_marks old new = drop (length old.marks) new.marks
 abbrev pub new_reports : World → World → List (BrickId × Report)
 new_reports old new = drop (length old.choices.reports) new.choices.reports
 
--- an operation or a proposal was refused, or begun
+-- an operation, a proposal or a synchronisation was refused, or begun
 abbrev pub refused_or_begun : Option Refusal → Outcome
 refused_or_begun None = Marks
 refused_or_begun (Some refusal) = Refused refusal
@@ -121,6 +121,7 @@ marks_if may = if may then Marks else Idle
 abbrev pub outcome_of : Setting → World → Event → Outcome
 outcome_of setting w (Invokes brick ask) = refused_or_begun (refusal_at setting w brick ask)
 outcome_of setting w (Proposes brick group members) = refused_or_begun (proposal_refusal_at setting w brick group)
+outcome_of setting w (Syncs brick group) = refused_or_begun (sync_refusal_at setting w brick group)
 outcome_of setting w (Delivers number) = marks_if (is_deliverable setting w (packet_of w.packets number))
 outcome_of setting w (Sets brick time) = marks_if (is_brick setting.layout brick)
 outcome_of setting w (Ticks brick) = marks_if (is_up setting.layout w brick)

@@ -1,6 +1,6 @@
 -- What the operations that a world keeps say of the machine's world: enough to tell the happenings of a
 -- stripe.
-use Rattle.std.specs.Prelude.{◌≡◌, ℕ, zero, suc, Bool, if◌then◌else◌, max, List, [], ◌∷◌, length, reverse, Option, Some, None, option_map, unwrap_or, slice_get}
+use Rattle.std.specs.Prelude.{◌≡◌, ℕ, zero, suc, Bool, true, if◌then◌else◌, max, List, [], ◌∷◌, length, reverse, Option, Some, None, option_map, unwrap_or, slice_get}
 use Rattle.std.specs.declared.cmp.Ordering.{Ordering}
 use Rattle.std.specs.Ordering.{nat_cmp, ordering_then}
 use Rattle.std.specs.BTreeMap.{get}
@@ -15,23 +15,21 @@ use Rattle.reg_model.specs.declared.marks.Mark.{Mark}
 use Rattle.fab_base.specs.declared.stamps.Stamp.{Stamp}
 use Rattle.reg_model.specs.Marks.{life_of, stripe_marks}
 use Rattle.reg_model.specs.Walk.{begin_of}
-use Rattle.protocol.specs.Worlds.{World, Operation}
-use Rattle.protocol.specs.Happenings.{Effect, ascending, effect_of, entries_to, is_among}
-use Rattle.protocol_laws.specs.Marked.{OwnMarks}
+use Rattle.protocol.specs.Worlds.{World, Operation, own_mark}
+use Rattle.protocol.specs.Happenings.{Effect, is_marked, ascending, effect_of, entries_to, is_among}
 use Rattle.world.specs.declared.histories.OperationRecord.{OperationRecord}
 use Rattle.world.specs.declared.stripe_entries.StripeEntries.{StripeEntries}
 use Rattle.world.specs.declared.walks.Sweep.{Sweep}
 use Rattle.world.specs.Shown.{TellsOperations, pair_cmp}
 
--- these are the operations of a world, number n at place n - 1, and the marks of each have its number
+-- these are the operations of a world, number n at place n - 1
 pub record KeepsAll (operations : List OperationRecord) (w : World) : Type 0 where
   pub begun : length operations ≡ w.begun
-  pub own : OwnMarks w
   pub each : TellsOperations operations w.operations
 
--- each operation begins where the marks of its stripe say
+-- each operation that has marks begins where those of its stripe say
 pub record BeginsAgree (w : World) : Type 0 where
-  pub each : (n : ℕ) (o : Operation) → w.operations n ≡ Some o
+  pub each : (n : ℕ) (o : Operation) → w.operations n ≡ Some o → is_marked o ≡ true
       → begin_of (life_of (stripe_marks o.ask.group.0 o.ask.stripe.0 w.marks) o.mark) ≡ o.begin
 
 -- an operation on a stripe that writes, or reads
@@ -51,7 +49,7 @@ operation_of kept =
       made = kept.made;
       base = kept.base;
       answered = kept.answered;
-      mark = 1;
+      mark = kept.mark;
       closed = None;
       view = kept.view.0;
       floor = λ i. first_stamp;
@@ -67,17 +65,17 @@ abbrev pub begin_at : Option Operation → ℕ
 begin_at None = 0
 begin_at (Some o) = o.begin
 
--- each entry's operation begins where the marks say
+-- each entry's operation begins where its marks say
 abbrev pub BeginAsMarked : (ℕ → Option Operation) → List Mark → List Entry → Type 0
 BeginAsMarked operations marks entries =
-    All (λ (e : Entry). begin_at (operations e.operation) ≡ begin_of (life_of marks e.operation)) entries
+    All (λ (e : Entry). begin_at (operations e.operation) ≡ begin_of (life_of marks (own_mark e.operation (operations e.operation)))) entries
 
--- each entry's operation happens at the greatest begin so far, p or one of those up to its own
+-- each entry's operation happens at the greatest begin so far, p or one of those up to its own; it is told by the number of its marks
 abbrev pub placed : (ℕ → Option Operation) → ℕ → List Entry → List Happening
 placed operations p [] = []
 placed operations p (e ∷ entries) =
     let position = max p (begin_at (operations e.operation)) in
-    record { operation = e.operation; position = position } ∷ placed operations position entries
+    record { operation = own_mark e.operation (operations e.operation); position = position } ∷ placed operations position entries
 
 -- the happenings that kept operations tell of the entries of a stripe
 abbrev pub happenings_from : List OperationRecord → List Entry → List Happening

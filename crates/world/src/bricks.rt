@@ -12,7 +12,7 @@ ghost use Rattle.brick_store.specs.Images.{IsListed};
 ghost use Rattle.node.specs.Running.{shape_at, state_of};
 ghost use Rattle.world.specs.Faults.{LeftBy, plan_of};
 ghost use Rattle.world.specs.Disks.{ShowsDisk, AreFreshDisks, KeepsOthers};
-ghost use Rattle.world.specs.Shown.{Rests, IsRunning, IsFreshBrick, ShowsBricks, Takes, TurnsOn, FindsUp, IsUp, AreNodesOf, HandsOver, RefusesBrick, BeginsBrick, RefusesProposal, ProposesBrick, BricksStay, StopsBrick, StartsBrick, most_sent, disk_in, disks_of, running_at, unopened};
+ghost use Rattle.world.specs.Shown.{Rests, IsRunning, IsFreshBrick, ShowsBricks, Takes, TurnsOn, FindsUp, IsUp, AreNodesOf, HandsOver, RefusesBrick, BeginsBrick, RefusesProposal, ProposesBrick, RefusesSync, SyncsBrick, BricksStay, StopsBrick, StartsBrick, most_sent, reads_begun, disk_in, disks_of, running_at, unopened};
 
 use brick_store::OpenFault;
 use fab_base::{Ask, BrickId, GroupId, IoFault, NoMem, ViewNo};
@@ -85,6 +85,7 @@ fn take_message(
     ensures takes { (layout : _) (me : _) (state : machine.Node) → IsRunning layout me state node
         → Takes layout me state time packet.now node.brick.disk fault result.0 result.1 }
     ensures few { IfOk result.1 (λ outs. IfSome outs (λ sent. length sent.messages ≤ most_sent)) }
+    ensures reads { IfOk result.1 (λ outs. IfSome outs (λ sent. reads_begun sent.told ≤ 1)) }
     ensures content { OnErr result.1 (content_of (disk_in result.0) ≡ content_of node.brick.disk) }
 {
     let mut node = node;
@@ -302,6 +303,29 @@ pub fn ask_to_propose(
     }
 }
 
+/// A brick that is up is asked to synchronise the view that it has learnt of a group. After a refusal of any kind no brick has changed.
+pub fn ask_to_sync(
+    bricks: &mut Vec<Brick>,
+    number: BrickId,
+    group: GroupId,
+) -> Result<Outs, NodeFault>
+    requires { IsUp bricks.old.items number }
+    ensures refused { RefusesSync bricks.old.items number group result }
+    ensures synced { IfOk result (SyncsBrick bricks.old.items bricks.new.items number group) }
+    ensures few { IfOk result (λ outs. length outs.messages ≤ most_sent) }
+    ensures reads { IfOk result (λ outs. reads_begun outs.told ≤ 1) }
+    ensures err { OnErr result ((layout : _) → BricksStay layout bricks.old.items bricks.new.items) }
+    ensures disks { disks_of bricks.new.items ≡ disks_of bricks.old.items }
+    ensures not_halted { result ≢ Err NodeFault.Halted }
+    ensures not_disk { result ≢ Err NodeFault.Disk }
+{
+    let brick = &mut bricks[number.0 as usize];
+    match &mut brick.power {
+        Power::Up(node) => node.sync(brick.clock, group),
+        Power::Down(_) => unreachable!(),
+    }
+}
+
 /// A brick that is up is handed a message, and this is to befall a call of its disk in the midst of that. None where it did: the brick is down.
 /// After a refusal for want of memory no brick has changed.
 pub fn hand_over(
@@ -314,6 +338,7 @@ pub fn hand_over(
     requires { IsUp bricks.old.items number }
     ensures handled { HandsOver bricks.old.items bricks.new.items number packet.now fault result }
     ensures few { IfOk result (λ outs. IfSome outs (λ sent. length sent.messages ≤ most_sent)) }
+    ensures reads { IfOk result (λ outs. IfSome outs (λ sent. reads_begun sent.told ≤ 1)) }
     ensures others { KeepsOthers (Some number) (disks_of bricks.old.items) (disks_of bricks.new.items) }
     ensures contents { OnErr result (map content_of (disks_of bricks.new.items) ≡ map content_of (disks_of bricks.old.items)) }
 {

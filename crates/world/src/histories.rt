@@ -5,20 +5,21 @@ ghost use Rattle.coord_phase.specs.Messages.{packets_from};
 ghost use Rattle.std.specs.Option.{option_copied};
 ghost use Rattle.protocol.specs.Worlds.{packet_of, is_answer};
 ghost use Rattle.protocol.specs.Happenings.{writes};
-ghost use Rattle.world.specs.Shown.{ChangesAt, made_kept, seen_kept, ended_kept, record_at};
+ghost use Rattle.world.specs.Shown.{ChangesAt, made_kept, seen_kept, ended_kept, record_at, number_at, mark_kept};
 
 use crate::call_numbers::CallNumbers;
 use crate::deliveries::Deliveries;
 use crate::sendings::Sendings;
-use fab_base::{Answer, Ask, BrickId, GroupId, NoMem, Op, Stamp, StripeNo, ViewNo};
-use messages::{Messages, Packet};
+use fab_base::{Answer, Ask, BrickId, Cause, GroupId, NoMem, Op, Stamp, StripeNo, ViewNo};
+use messages::{Call, Messages, Packet};
 use node::{Begun, Outs};
 use protocol::{Answered, Report, Told};
 use reg_model::Mark;
 use std::alloc::Global;
 
-/// The most packets that a step of a brick sends on a message, or as an operation or a proposal begins: one to each brick of a layout.
-const MOST_PACKETS: usize = 64;
+/// The most packets that a step of a brick sends on a message, or as an operation, a proposal or a synchronisation begins: one to each member of a view, and
+/// one to each brick of a layout.
+const MOST_PACKETS: usize = 96;
 
 /// What is kept of an operation.
 #[derive(Clone, Copy)]
@@ -47,18 +48,22 @@ pub struct OperationRecord {
     pub answered: bool,
     /// The view of its group that it runs in.
     pub view: ViewNo,
+    /// The number of its marks, 0 where it has none.
+    pub mark: u64,
 }
 
-/// What happened. Operations are by number, from 1, and the number of an operation by its brick and call: a brick that starts again counts its
-/// calls from 1.
+/// What happened. Operations are by number, from 1: those that clients ask for, which have marks, and the reads of synchronisations, which have none. The number
+/// of an operation is by its brick and call, a brick that starts again counting its calls from 1; and of one that has marks by these.
 #[derive(Drop)]
 pub struct History {
     pub sent: Sendings,
     pub delivered: Deliveries,
     pub marks: Vec<Mark>,
-    /// What bricks reported of their proposals, in order.
+    /// What bricks reported of their proposals and synchronisations, in order.
     pub reports: Vec<(BrickId, Report)>,
     pub operations: Vec<OperationRecord>,
+    /// The number of each operation that has marks, in the order of their Begins.
+    pub marked: Vec<u64>,
     pub calls: CallNumbers,
 }
 
@@ -161,16 +166,27 @@ pub fn record_at(operations: &[OperationRecord], number: u64) -> Option<Operatio
     operations.get((number - 1) as usize).copied()
 }
 
+/// The number of the marks of the operation of a number: its own number where there is no such operation.
+fn mark_of(operations: &[OperationRecord], number: u64) -> u64
+    ensures { result ≡ mark_kept operations.now number }
+{
+    match record_at(operations, number) {
+        Some(kept) => kept.mark,
+        None => number,
+    }
+}
+
 impl History {
-    ghost use Rattle.std.specs.Prelude.{◌≡◌, ◌+◌, ◌<◌, ◌≤◌, ◌++◌, ℕ, true, None, length, option_to_list, OnOk, OnErr, vec_len, vec_capacity};
+    ghost use Rattle.std.specs.Prelude.{◌≡◌, ◌+◌, ◌<◌, ◌≤◌, ◌++◌, [], ◌∷◌, ℕ, true, None, length, option_to_list, OnOk, OnErr, vec_len, vec_capacity};
     ghost use Rattle.fab_base.specs.Layouts.{Layout};
     ghost use Rattle.coord_phase.specs.Messages.{packets_from};
     ghost use Rattle.protocol.specs.Settings.{Setting};
     ghost use Rattle.protocol.specs.Nodes.{NodeStep};
     ghost use Rattle.protocol.specs.Nodes.{put as changed, view_at};
-    ghost use Rattle.protocol.specs.Worlds.{first_world, number_of, world_began, world_stepped, world_stopped, world_tells, world_answers, with_made, with_seen, reports_of};
+    ghost use Rattle.protocol.specs.Worlds.{World, first_world, number_of, world_began, world_stepped, world_stopped, world_answers, with_made, with_seen, with_closed, reports_of};
     ghost use Rattle.world.specs.CallNumbers.{HasCallRoom, calls_in, call_at};
-    ghost use Rattle.world.specs.Shown.{Tells, HasStepRoom, IsOfCall, AreTold, AreAnswered, OpensNone, OpensNext, HistoryStays, HistoryBecomes, HistoryNotes, HistoryNotesAside, most_sent, calls_aside};
+    ghost use Rattle.world.specs.Shown.{Tells, HasStepRoom, HasReadRoom, IsOfCall, AreAnswered, OpensReads, OpensNext, HistoryStays, HistoryBecomes, HistoryNotes, HistoryHears, HistoryChanges, HistoryNotesAside, most_sent, calls_aside, reads_begun};
+    ghost use Rattle.protocol.specs.declared.tellings.Told.TheVariants.{Began, Closed};
 
     /// Nothing yet.
     pub fn new(alloc: Global) -> History
@@ -182,6 +198,7 @@ impl History {
             marks: Vec::new(alloc),
             reports: Vec::new(alloc),
             operations: Vec::new(alloc),
+            marked: Vec::new(alloc),
             calls: CallNumbers::new(alloc),
         }
     }
@@ -195,10 +212,11 @@ impl History {
         self.marks.reserve(1)?;
         self.reports.reserve(1)?;
         self.operations.reserve(1)?;
+        self.marked.reserve(1)?;
         Ok(())
     }
 
-    /// Makes room for what an operation or a proposal adds that a brick begins.
+    /// Makes room for what one step of a brick adds, where that opens a call: an operation, a proposal, or a read of a synchronisation.
     pub fn expect_call(&mut self, alloc: Global, brick: BrickId) -> Result<(), NoMem>
         ensures room { OnOk result (HasStepRoom self.new) }
         ensures call { OnOk result (HasCallRoom self.new.calls brick.0) }
@@ -216,6 +234,7 @@ impl History {
         requires room { HasStepRoom self.old }
         ensures delivered { HistoryBecomes (λ w. record w { reached = changed w.reached number true }) self.old self.new }
         ensures room { HasStepRoom self.new }
+        ensures calls { self.new.calls ≡ self.old.calls }
     {
         self.delivered.note(number);
     }
@@ -225,6 +244,19 @@ impl History {
         ensures { result ≡ call_at (calls_in self.now.calls brick.0) seq }
     {
         self.calls.number(brick, seq)
+    }
+
+    /// The number of the operation whose marks have this number, 0 where there is none.
+    pub fn number_marked(&self, mark: u64) -> u64
+        ensures { result ≡ number_at self.now.marked.items mark }
+    {
+        if mark == 0 {
+            return 0;
+        }
+        match self.marked.get((mark - 1) as usize) {
+            Some(number) => *number,
+            None => 0,
+        }
     }
 
     /// Notes what a brick sends, in order.
@@ -267,7 +299,8 @@ impl History {
     {
         let Begun { seq, messages } = begun;
         let position = self.marks.len() as u64;
-        let operation = self.operations.len() as u64 + 1;
+        let number = self.operations.len() as u64 + 1;
+        let operation = self.marked.len() as u64 + 1;
         self.operations.push_reserved(OperationRecord {
             brick,
             boot,
@@ -281,8 +314,10 @@ impl History {
             writes: writes(&ask.op),
             answered: false,
             view,
+            mark: operation,
         });
-        self.calls.add(brick, operation);
+        self.marked.push_reserved(number);
+        self.calls.add(brick, number);
         self.marks.push_reserved(Mark::Begin {
             position,
             operation,
@@ -294,11 +329,11 @@ impl History {
 
     /// The operation of a brick's call made a version, on this base.
     fn made(&mut self, brick: BrickId, seq: u64, stamp: Stamp, base: Option<Stamp>)
-        ensures made { HistoryNotes brick (λ node. IsOfCall node seq) (λ w. let n = number_of w brick.0 seq in
+        ensures made { HistoryChanges brick (λ calls. IsOfCall calls seq) (λ w. let n = number_of w brick.0 seq in
             record w { operations = changed w.operations n (with_made stamp base (w.operations n)) }) self.old self.new }
-        ensures marks { self.new.marks ≡ self.old.marks }
-        ensures sent { self.new.sent ≡ self.old.sent }
-        ensures reports { self.new.reports ≡ self.old.reports }
+        ensures rest { self.new ≡ record self.old { operations = self.new.operations } }
+        ensures count { vec_len self.new.operations ≡ vec_len self.old.operations }
+        ensures room { vec_capacity self.new.operations ≡ vec_capacity self.old.operations }
     {
         if let Some(number) = self.number(brick, seq) {
             note_made(&mut self.operations, number, stamp, base);
@@ -307,48 +342,88 @@ impl History {
 
     /// The operation of a brick's call read a version at once.
     fn seen(&mut self, brick: BrickId, seq: u64, stamp: Stamp)
-        ensures seen { HistoryNotes brick (λ node. IsOfCall node seq) (λ w. let n = number_of w brick.0 seq in
+        ensures seen { HistoryChanges brick (λ calls. IsOfCall calls seq) (λ w. let n = number_of w brick.0 seq in
             record w { operations = changed w.operations n (with_seen stamp (w.operations n)) }) self.old self.new }
-        ensures marks { self.new.marks ≡ self.old.marks }
-        ensures sent { self.new.sent ≡ self.old.sent }
-        ensures reports { self.new.reports ≡ self.old.reports }
+        ensures rest { self.new ≡ record self.old { operations = self.new.operations } }
+        ensures count { vec_len self.new.operations ≡ vec_len self.old.operations }
+        ensures room { vec_capacity self.new.operations ≡ vec_capacity self.old.operations }
     {
         if let Some(number) = self.number(brick, seq) {
             note_seen(&mut self.operations, number, stamp);
         }
     }
 
-    /// Notes what a step told, if anything.
+    /// The operation of a brick's call, which has no marks, ended: aborted by this cause, or answered.
+    fn closed(&mut self, brick: BrickId, seq: u64, cause: Option<Cause>)
+        ensures closed { HistoryChanges brick (λ calls. IsOfCall calls seq) (λ w. let n = number_of w brick.0 seq in
+            record w { operations = changed w.operations n (with_closed cause (w.operations n)) }) self.old self.new }
+        ensures rest { self.new ≡ record self.old { operations = self.new.operations } }
+        ensures count { vec_len self.new.operations ≡ vec_len self.old.operations }
+        ensures room { vec_capacity self.new.operations ≡ vec_capacity self.old.operations }
+    {
+        if let Some(number) = self.number(brick, seq) {
+            note_answer(&mut self.operations, number, cause.is_none());
+        }
+    }
+
+    /// Notes that a brick begins a read of a synchronisation under its next call: an operation without marks.
+    fn open_read(&mut self, brick: BrickId, call: Call)
+        requires { HasReadRoom self.old brick }
+        ensures opened { HistoryHears brick (Began call ∷ []) self.old self.new }
+        ensures rest { self.new ≡ record self.old { operations = self.new.operations; calls = self.new.calls } }
+    {
+        let begin = self.marks.len() as u64;
+        let number = self.operations.len() as u64 + 1;
+        self.operations.push_reserved(OperationRecord {
+            brick,
+            boot: call.boot,
+            seq: call.seq,
+            begin,
+            group: call.group,
+            stripe: call.stripe,
+            version: None,
+            made: false,
+            base: None,
+            writes: false,
+            answered: false,
+            view: call.view,
+            mark: 0,
+        });
+        self.calls.add(brick, number);
+    }
+
+    /// Notes what a step told, if anything. There is room for a read that it told to begin.
     fn tell(&mut self, brick: BrickId, told: Option<Told>)
-        ensures told { (setting : Setting) → HistoryNotes brick (λ node. AreTold node (option_to_list told))
-            (λ w. world_tells setting w brick (option_to_list told)) self.old self.new }
-        ensures marks { self.new.marks ≡ self.old.marks }
-        ensures sent { self.new.sent ≡ self.old.sent }
-        ensures reports { self.new.reports ≡ self.old.reports }
+        requires { 1 ≤ reads_begun (option_to_list told) → HasReadRoom self.old brick }
+        ensures told { HistoryHears brick (option_to_list told) self.old self.new }
+        ensures rest { self.new ≡ record self.old { operations = self.new.operations; calls = self.new.calls } }
+        ensures room { reads_begun (option_to_list told) ≡ 0 → HasReadRoom self.old brick → HasReadRoom self.new brick }
     {
         match told {
             None => {}
             Some(Told::Made { seq, stamp, base }) => self.made(brick, seq, stamp, base),
             Some(Told::Seen { seq, stamp }) => self.seen(brick, seq, stamp),
+            Some(Told::Began { call }) => self.open_read(brick, call),
+            Some(Told::Closed { seq, cause }) => self.closed(brick, seq, cause),
         }
     }
 
     /// Notes the answer that a step gave, if one.
     fn answer(&mut self, brick: BrickId, answer: Option<Answered>)
         requires { vec_len self.old.marks < vec_capacity self.old.marks }
-        ensures answered { HistoryNotes brick (λ node. AreAnswered node (option_to_list answer))
+        ensures answered { HistoryChanges brick (λ calls. AreAnswered calls (option_to_list answer))
             (λ w. world_answers w brick (option_to_list answer)) self.old self.new }
-        ensures sent { self.new.sent ≡ self.old.sent }
-        ensures reports { self.new.reports ≡ self.old.reports }
+        ensures rest { self.new ≡ record self.old { operations = self.new.operations; marks = self.new.marks } }
     {
         let Some(Answered { seq, answer }) = answer else {
             return;
         };
-        let Some(operation) = self.number(brick, seq) else {
+        let Some(number) = self.number(brick, seq) else {
             return;
         };
-        note_answer(&mut self.operations, operation, is_answer(&answer));
+        note_answer(&mut self.operations, number, is_answer(&answer));
         let position = self.marks.len() as u64;
+        let operation = mark_of(&self.operations, number);
         self.marks.push_reserved(Mark::End {
             position,
             operation,
@@ -359,12 +434,6 @@ impl History {
     /// Notes what a step reported, if anything.
     fn report(&mut self, brick: BrickId, report: Option<Report>)
         requires { vec_len self.old.reports < vec_capacity self.old.reports }
-        ensures reported { HistoryBecomes (λ w. record w {
-          choices = record w.choices {
-            reports = w.choices.reports
-                ++ reports_of brick (option_to_list report);
-          };
-        }) self.old self.new }
         ensures items { self.new.reports.items ≡ self.old.reports.items ++ reports_of brick (option_to_list report) }
         ensures rest { self.new ≡ record self.old { reports = self.new.reports } }
     {
@@ -376,13 +445,17 @@ impl History {
     /// Notes what a step told, answered, sent and reported.
     pub fn step(&mut self, brick: BrickId, outs: Outs)
         requires room { HasStepRoom self.old }
+        requires call { HasCallRoom self.old.calls brick.0 }
         requires few { length outs.messages ≤ most_sent }
+        requires one { reads_begun outs.told ≤ 1 }
         ensures { (setting : Setting) (step : NodeStep) → packets_from brick outs.messages ≡ step.packets → outs.told ≡ step.told
             → outs.answers ≡ step.answers → outs.reports ≡ step.reports
-            → HistoryNotes brick (λ node. OpensNone node step) (λ w. world_stepped setting w brick step) self.old self.new }
+            → HistoryNotes brick (λ node. OpensReads node step) (λ w. world_stepped setting w brick step) self.old self.new }
     {
         let (messages, told, answer, report) = outs.into_parts();
-        self.tell(brick, told);
+        self.tell(brick, told.version);
+        self.tell(brick, told.ended);
+        self.tell(brick, told.begun);
         self.answer(brick, answer);
         self.send(brick, messages);
         self.report(brick, report);

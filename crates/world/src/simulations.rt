@@ -2,12 +2,12 @@
 
 ghost use Rattle.std.specs.Prelude.{◌≡◌, Some, IfNone, IfSome, IfOk, map};
 ghost use Rattle.protocol.specs.Nodes as machine;
-ghost use Rattle.protocol.specs.Nodes.{refusal_of, proposal_refusal};
+ghost use Rattle.protocol.specs.Nodes.{refusal_of, proposal_refusal, sync_refusal};
 ghost use Rattle.world.specs.Runs.{ask_of, block_no, group_no, member_no, op_of};
 
 use crate::bricks::{
-    Brick, ask_brick, ask_to_propose, boot_of, find_up, fresh_bricks, hand_over, start_brick,
-    stop_brick, tick_brick, view_of,
+    Brick, ask_brick, ask_to_propose, ask_to_sync, boot_of, find_up, fresh_bricks, hand_over,
+    start_brick, stop_brick, tick_brick, view_of,
 };
 use crate::histories::{History, packet_at};
 use fab_base::{Ask, BrickId, GroupId, NoMem, Op, Refusal, StripeNo};
@@ -54,6 +54,7 @@ fn place_of(layout: &Layout, group: u64, stripe: u64) -> Option<(GroupId, Stripe
 /// The group of a number. None exactly where there is none.
 fn group_of(layout: &Layout, group: u64) -> Option<GroupId>
     ensures none { IfNone result ((node : machine.Node) → proposal_refusal layout.now node group ≡ Some Refusal.NoStripe) }
+    ensures unsynced { IfNone result ((node : machine.Node) → sync_refusal layout.now node group ≡ Some Refusal.NoStripe) }
     ensures some { IfSome result (λ found. found ≡ group_no group) }
 {
     if group < layout.group_count() as u64 {
@@ -109,7 +110,7 @@ fn op_of(alloc: Global, access: &Access) -> Result<Op, NoMem>
 impl Simulation {
     ghost use Rattle.std.specs.Prelude.{◌≡◌, None, map, vec_len, IfOk, OnErr};
     ghost use Rattle.protocol.specs.Worlds.{first_world};
-    ghost use Rattle.protocol.specs.Worlds.Event.{Invokes, Proposes, Sets, Ticks, Stops};
+    ghost use Rattle.protocol.specs.Worlds.Event.{Invokes, Proposes, Syncs, Sets, Ticks, Stops};
     ghost use Rattle.lines.specs.declared.forms.Line.TheVariants.{Deliver, Start, Calm};
     ghost use Rattle.world.specs.Runs.{brick_of, ask_of, group_no, member_no, op_of};
     ghost use Rattle.world.specs.Disks.{AreFreshDisks};
@@ -153,6 +154,7 @@ impl Simulation {
                 group,
                 members,
             } => self.propose(alloc, layout, *brick, *group, members.as_slice()),
+            Line::Sync { brick, group } => self.sync(alloc, layout, *brick, *group),
             Line::Calm { operation, bricks } => {
                 self.calm(alloc, layout, *operation, bricks.as_slice())
             }
@@ -263,6 +265,54 @@ impl Simulation {
         }
     }
 
+    /// Asks a brick to synchronise the view that it has learnt of a group.
+    fn sync(
+        &mut self,
+        alloc: Global,
+        layout: &Layout,
+        brick: u64,
+        group: u64,
+    ) -> Result<Outcome, NoMem>
+        requires nodes { AreNodesOf layout.now self.old.bricks.items }
+        requires bricks { vec_len self.old.bricks ≡ layout.now.bricks }
+        ensures ok { IfOk result (TakesEvent layout.now self.old self.new (Syncs (brick_of brick) (group_no group))) }
+        ensures err { OnErr result (StaysAs layout.now self.old self.new) }
+    {
+        let brick = match find_up(&self.bricks, layout, brick) {
+            Some(brick) => brick,
+            None => return Ok(Outcome::Refused(Refusal::Down)),
+        };
+        let group = match group_of(layout, group) {
+            Some(group) => group,
+            None => return Ok(Outcome::Refused(Refusal::NoStripe)),
+        };
+        self.begin_sync(alloc, layout, brick, group)
+    }
+
+    /// A brick begins a synchronisation, ends it at once, or refuses it.
+    fn begin_sync(
+        &mut self,
+        alloc: Global,
+        _layout: &Layout,
+        brick: BrickId,
+        group: GroupId,
+    ) -> Result<Outcome, NoMem>
+        requires { IsUp self.old.bricks.items brick }
+        ensures ok { IfOk result (TakesEvent _layout.now self.old self.new (Syncs brick group)) }
+        ensures err { OnErr result (StaysAs _layout.now self.old self.new) }
+    {
+        self.history.expect_call(alloc, brick)?;
+        match ask_to_sync(&mut self.bricks, brick, group) {
+            Ok(outs) => {
+                self.history.step(brick, outs);
+                Ok(Outcome::Marks)
+            }
+            Err(NodeFault::Refused(refusal)) => Ok(Outcome::Refused(refusal)),
+            Err(NodeFault::NoMemory) => Err(NoMem::NoMemory),
+            Err(NodeFault::Halted | NodeFault::Disk) => unreachable!(),
+        }
+    }
+
     /// Delivers the message of a number, and this is to befall a call of its receiver's disk in the midst of that.
     fn deliver(
         &mut self,
@@ -287,6 +337,7 @@ impl Simulation {
             None => return Ok(Outcome::Idle),
         };
         self.history.delivered.expect(message)?;
+        self.history.calls.reserve(alloc, to)?;
         match hand_over(&mut self.bricks, alloc, to, packet, fault)? {
             Some(outs) => {
                 self.history.deliver(message);
@@ -314,7 +365,7 @@ impl Simulation {
         Outcome::Marks
     }
 
-    /// A brick's clock ticks: it sends again what its open operations and its proposal wait for.
+    /// A brick's clock ticks: it sends again what its open operations, its proposal and its synchronisation wait for.
     fn tick(&mut self, layout: &Layout, brick: u64) -> Result<Outcome, NoMem>
         requires nodes { AreNodesOf layout.now self.old.bricks.items }
         requires bricks { vec_len self.old.bricks ≡ layout.now.bricks }
@@ -330,7 +381,7 @@ impl Simulation {
         Ok(Outcome::Marks)
     }
 
-    /// A brick stops: its open operations and its proposal are gone, and what it keeps of stripes, views and ballots stays.
+    /// A brick stops: its open operations, its proposal and its synchronisation are gone, and what it keeps of stripes, views and ballots stays.
     fn crash(&mut self, alloc: Global, layout: &Layout, brick: u64) -> Result<Outcome, NoMem>
         requires nodes { AreNodesOf layout.now self.old.bricks.items }
         requires bricks { vec_len self.old.bricks ≡ layout.now.bricks }
@@ -376,18 +427,19 @@ impl Simulation {
         }
     }
 
-    /// Has an operation run alone among these bricks until it has ended, where it may.
+    /// Has the operation whose marks have a number run alone among these bricks until it has ended, where it may.
     fn calm(
         &mut self,
         alloc: Global,
         layout: &Layout,
-        operation: u64,
+        mark: u64,
         bricks: &[u64],
     ) -> Result<Outcome, NoMem>
         requires { IsReachable layout.now self.old }
-        ensures ok { IfOk result (RunsLine layout.now self.old self.new (Calm operation bricks.now)) }
-        ensures err { OnErr result (RefusesLine layout.now self.old self.new (Calm operation bricks.now)) }
+        ensures ok { IfOk result (RunsLine layout.now self.old self.new (Calm mark bricks.now)) }
+        ensures err { OnErr result (RefusesLine layout.now self.old self.new (Calm mark bricks.now)) }
     {
+        let operation = self.history.number_marked(mark);
         if !self.is_calm(layout, operation, bricks) {
             return Ok(Outcome::Idle);
         }

@@ -1,6 +1,7 @@
 //! The walk along a stripe's effective versions, and the happenings that it gives.
 
 ghost use Rattle.std.specs.Prelude.{◌≡◌, IfOk, reverse, option_map, option_copied, option_to_list};
+ghost use Rattle.protocol.specs.Worlds.{own_mark};
 ghost use Rattle.protocol.specs.Happenings.{ascending, effect_of, was_answered, is_told, base_of, needs};
 ghost use Rattle.world.specs.Walks.{HasSwept, operation_of, operations_of, begin_at, placed, happenings_from};
 
@@ -27,18 +28,18 @@ fn kept_of(operations: &[OperationRecord], number: u64) -> Option<&OperationReco
     operations.get(place as usize)
 }
 
-/// Whether the operation of a number was answered, and not aborted.
+/// Whether the operation of a number has marks, and was answered and not aborted.
 fn was_answered(operations: &[OperationRecord], number: u64) -> bool
     ensures { result ≡ was_answered (operations_of operations.now number) }
 {
-    kept_of(operations, number).is_some_and(|kept| kept.answered)
+    kept_of(operations, number).is_some_and(|kept| kept.mark > 0 && kept.answered)
 }
 
-/// Whether the operation of a number, where it is effective, is told: it was answered, or it writes.
+/// Whether the operation of a number, where it is effective, is told: it has marks, and it was answered, or it writes.
 fn is_told(operations: &[OperationRecord], number: u64) -> bool
     ensures { result ≡ is_told (operations_of operations.now number) }
 {
-    kept_of(operations, number).is_some_and(|kept| kept.answered || kept.writes)
+    kept_of(operations, number).is_some_and(|kept| kept.mark > 0 && (kept.answered || kept.writes))
 }
 
 /// The version that the version of the operation of a number was made on.
@@ -46,6 +47,13 @@ fn base_of(operations: &[OperationRecord], number: u64) -> Option<Stamp>
     ensures { result ≡ base_of (operations_of operations.now number) }
 {
     kept_of(operations, number)?.base
+}
+
+/// The number of the marks of the operation of a number: its own number where there is no such operation.
+fn mark_of(operations: &[OperationRecord], number: u64) -> u64
+    ensures { result ≡ own_mark number (operations_of operations.now number) }
+{
+    kept_of(operations, number).map_or(number, |kept| kept.mark)
 }
 
 /// Where the operation of a number begins.
@@ -167,7 +175,7 @@ fn walk(
     Ok(walk)
 }
 
-/// The happenings along a walk: each at the greatest begin so far.
+/// The happenings along a walk, by the numbers of marks: each at the greatest begin so far.
 fn along(
     alloc: Global,
     operations: &[OperationRecord],
@@ -180,7 +188,7 @@ fn along(
     for entry in walk {
         position = begin_of(operations, entry.operation).max(position);
         happenings.push(Happening {
-            operation: entry.operation,
+            operation: mark_of(operations, entry.operation),
             position,
         })?;
     }

@@ -1,5 +1,5 @@
 -- An order stamp that is exchanged in its view is exchanged among all stripes.
-use Rattle.std.proofs.Common.{◌≡◌, Option, Some, None, sym, ap, ◌∙◌, arith}
+use Rattle.std.proofs.Common.{Option, Some, None, sym, ap, ◌∙◌, arith}
 use Rattle.std.specs.Option.{IfSome, IfNone}
 use Rattle.fab_base.specs.declared.stamps.Stamp.{Stamp}
 use Rattle.brick_state.specs.States.{with_order}

@@ -10,9 +10,8 @@ pub returns-in_err-reserve-in-Some-clause-same : goal.returns-in_err-reserve-in-
 returns-in_err-reserve-in-Some-clause-same c =
     let new : Stripe = record c.in-Some.stripe.now { added = c.reserve.new.self } in
     ap (λ es. listed (placed (key_of c.args.place) es)) (c.get_mut.follows.holds new).0
-    ∙ same_placed c.args.place c.make_entry.new.stripes.entries c.in-Some.stripe.now new (sym c.in-Some.ensures.value)
+    ∙ same_placed c.args.place c.args.stripes.now.entries c.in-Some.stripe.now new (sym c.in-Some.ensures.value)
     (same_versions c.in-Some.stripe.now new refl refl c.reserve.ensures.same)
-    ∙ c.make_entry.ensures.same
 
 pub returns-in_err-reserve-in-Some-clause-ordered : goal.returns-in_err-reserve-in-Some-clause-ordered
 returns-in_err-reserve-in-Some-clause-ordered c = (c.get_mut.follows.holds (record c.in-Some.stripe.now { added = c.reserve.new.self })).4
@@ -21,9 +20,8 @@ pub returns-in_ok-reserve-in-Some-clause-same : goal.returns-in_ok-reserve-in-So
 returns-in_ok-reserve-in-Some-clause-same c =
     let new : Stripe = record c.in-Some.stripe.now { added = c.reserve.new.self } in
     ap (λ es. listed (placed (key_of c.args.place) es)) (c.get_mut.follows.holds new).0
-    ∙ same_placed c.args.place c.make_entry.new.stripes.entries c.in-Some.stripe.now new (sym c.in-Some.ensures.value)
+    ∙ same_placed c.args.place c.args.stripes.now.entries c.in-Some.stripe.now new (sym c.in-Some.ensures.value)
     (same_versions c.in-Some.stripe.now new refl refl c.reserve.ensures.same)
-    ∙ c.make_entry.ensures.same
 
 pub returns-in_ok-reserve-in-Some-clause-room : goal.returns-in_ok-reserve-in-Some-clause-room
 returns-in_ok-reserve-in-Some-clause-room c =

@@ -11,7 +11,11 @@ returns c =
     each_slot (λ other. other ≢ c.in_ok-slot.slot) (stripes_of c.args.index.now) c.in_ok-slot.ensures.unused
     ) in
     let same = (
-    same_others c.args.blocks.now c.insert.new.self c.in_ok-slot.slot (state_of c.args.index.now) c.in_ok-insert.ensures.updates.2
+    same_others c.args.blocks.now c.hold.new.self c.in_ok-slot.slot (state_of c.args.index.now) c.hold.ensures.others
     (each_slot (λ other. other ≢ c.in_ok-slot.slot) (stripes_of c.args.index.now) c.in_ok-slot.ensures.unused)
     ) in
     search (rules, unnamed, same)
+
+pub returns-in_err-hold-clause-same : goal.returns-in_err-hold-clause-same
+returns-in_err-hold-clause-same c = same_others c.args.blocks.now c.hold.new.self c.in_ok-slot.slot (state_of c.args.index.now) c.hold.ensures.others
+    (each_slot (λ other. other ≢ c.in_ok-slot.slot) (stripes_of c.args.index.now) c.in_ok-slot.ensures.unused)

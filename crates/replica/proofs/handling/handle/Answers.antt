@@ -40,7 +40,7 @@ returns-in-Request-clause-change g c node parts =
     (IsStep c.args.layout.now (me_of old) c.args.from m old.state) old c.on_request.new.store (end_of c.on_request.result))
     (sym c.in-Request.is) (c.on_request.ensures.change node parts)
 
--- what a message teaches was learnt
+-- what a message tells of a view was kept
 abbrev Learnt : {D : Type 0} → on_disk.Ghosts D → Layout → BrickId → Message → Brick D → Brick D → Result (Option Message) ReplicaFault → Type 0
 Learnt d layout from message old new result =
     Handles d (IsStep layout (me_of old) from message old.state) old new result
@@ -59,6 +59,17 @@ returns-in-Learn g c =
     (learnt.handles, learnt.change)) in
     record { handles = both.0; change = both.1 }
 
+pub returns-in-Synced : goal.returns-in-Synced
+returns-in-Synced g c =
+    let old = c.args.store.now in
+    let layout = c.args.layout.now in
+    let told = c.on_synced.ensures c.args.from in
+    let message = Message.Synced c.in-Synced.group c.in-Synced.view in
+    let both = subst (λ (m : Message). Learnt g.D.Disk layout c.args.from m old c.on_synced.new.store c.no_answer-in-Synced.result) (sym c.in-Synced.is)
+    (subst (λ (r : Result (Option Message) ReplicaFault). Learnt g.D.Disk layout c.args.from message old c.on_synced.new.store r) (sym c.no_answer-in-Synced.ensures)
+    (told.handles, told.change)) in
+    record { handles = both.0; change = both.1 }
+
 pub returns-in_default : goal.returns-in_default
 returns-in_default g c =
     let d = g.D.Disk in
@@ -67,7 +78,8 @@ returns-in_default g c =
     let Follows = IsStep layout (me_of old) c.args.from c.args.message.now old.state in
     let halted : old.halted ≡ false = sym c.is_halted.ensures.value ∙ c.if-is_halted.false in
     let runs : Runs d old = record { runs = halted; stands = λ told. c.is_halted.ensures.stands told halted; ordered = c.is_halted.ensures.ordered } in
-    let nothing = other_ignored layout (me_of old) c.args.from old.state c.args.message.now c.in_default.not-Request c.in_default.not-Learn in
+    let nothing = other_ignored layout (me_of old) c.args.from old.state c.args.message.now c.in_default.not-Request c.in_default.not-Learn
+    c.in_default.not-Synced in
     record {
       handles = handles_untouched d Follows old old (answers no_message) runs refl refl refl (still_here d old.disk).untouched (λ h. absurd cc)
           (λ h. absurd cc) nothing.1;

@@ -1,9 +1,12 @@
 -- A brick takes a message whole or in part, as the machine's does.
-use Rattle.std.proofs.Common.{◌≡◌, false, refl, ◌∙◌}
+use Rattle.std.proofs.Common.{◌≡◌, ◌≤◌, false, List, refl, sym, subst, ◌∙◌}
 use Rattle.node.specs.Outcomes.{Outcome}
 use Rattle.stripe_code.specs.Codes.{coding}
 use Rattle.world.specs.Faults.{plan_of}
-use Rattle.world.proofs.MachineSteps.{absorbed_boot}
+use Rattle.node.specs.Running.{state_of}
+use Rattle.protocol.specs.declared.tellings.Told.{Told}
+use Rattle.world.specs.Shown.{reads_begun}
+use Rattle.world.proofs.MachineSteps.{absorbed_boot, received_few}
 use Rattle.world.proofs.DownLemmas.{IsArmed, took_whole, took_part, took_nothing, step_by, halted_as}
 use Rattle.world.proofs.bricks.take_message.Goals as goal
 
@@ -22,6 +25,11 @@ returns-in-Ok-clause-takes c layout me state runs =
     c.in-Ok.ensures.step c.arm-in-Ok.ensures.state (record { content = c.arm-in-Ok.ensures.content; crash = c.arm-in-Ok.ensures.crash }) (λ none. (c.in-Ok.ensures.still none).1)
     c.in-Ok.ensures.change running (λ unlisted. c.arm-in-Ok.ensures.again refl unlisted) c.look-in-Ok.ensures.shape (c.look-in-Ok.ensures.listed running)
     c.arm-in-Ok.ensures.room_left
+
+pub returns-in-Ok-clause-reads : goal.returns-in-Ok-clause-reads
+returns-in-Ok-clause-reads c =
+    subst (λ (l : List Told). reads_begun l ≤ 1) (sym c.in-Ok.ensures.step.told)
+    (received_few (coding c.arm.new.self.layout) c.arm.new.self.me c.args.time (state_of c.arm.new.self) c.args.packet.now)
 
 pub returns-in-Err-Disk-clause-takes : goal.returns-in-Err-Disk-clause-takes
 returns-in-Err-Disk-clause-takes c layout me state runs =

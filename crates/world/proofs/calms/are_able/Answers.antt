@@ -20,9 +20,9 @@ returns-then-not-is_able c = (
 pub loop-number-preserved : goal.loop-number-preserved
 loop-number-preserved c =
     next_place
-    (λ (k : ℕ). (number : ℕ) → slice_get c.args.numbers.now k ≡ Some number → NodeIsAble c.args.layout.now c.args.group.0 (running_at c.args.bricks.now number))
+    (λ (k : ℕ). (number : ℕ) → slice_get c.args.numbers.now k ≡ Some number → NodeIsAble c.args.layout.now c.args.group.0 c.args.view.0 (running_at c.args.bricks.now number))
     c.loop-number.number-index c.loop-number.invariant
-    (λ number at. subst (λ (n : ℕ). NodeIsAble c.args.layout.now c.args.group.0 (running_at c.args.bricks.now n))
+    (λ number at. subst (λ (n : ℕ). NodeIsAble c.args.layout.now c.args.group.0 c.args.view.0 (running_at c.args.bricks.now n))
     (same_Some _ number (sym (slice_get-get_or c.args.numbers.now c.loop-number.number-index 0 c.loop-number-test.true) ∙ at))
     (c.is_able.ensures.0 c.if-not-is_able.false))
 

@@ -6,4 +6,4 @@ use Rattle.world.proofs.calms.are_able.Given as goal
 
 abbrev pub invariant-loop-number : goal.invariant-loop-number
 invariant-loop-number l =
-    (k : ℕ) → k < l.number-index → (number : ℕ) → slice_get l.numbers k ≡ Some number → NodeIsAble l.layout l.group.0 (running_at l.bricks number)
+    (k : ℕ) → k < l.number-index → (number : ℕ) → slice_get l.numbers k ≡ Some number → NodeIsAble l.layout l.group.0 l.view.0 (running_at l.bricks number)

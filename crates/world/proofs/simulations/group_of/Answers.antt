@@ -1,9 +1,13 @@
 -- A group that there is not is refused as the machine refuses it.
 use Rattle.std.proofs.Common.{arith}
 use Rattle.std.proofs.lemmas.Option.{slice_get_past}
-use Rattle.world.proofs.MachineBegins.{unproposed_no_group}
+use Rattle.world.proofs.MachineBegins.{unproposed_no_group, unsynced_no_group}
 use Rattle.world.proofs.simulations.group_of.Goals as goal
 
 pub returns-else-group-group_count-clause-none : goal.returns-else-group-group_count-clause-none
 returns-else-group-group_count-clause-none c node =
     unproposed_no_group c.args.layout.now c.args.group node (slice_get_past c.args.layout.now.groups c.args.group (omega (arith, c.group_count.ensures.value, c.if-group-group_count.false)))
+
+pub returns-else-group-group_count-clause-unsynced : goal.returns-else-group-group_count-clause-unsynced
+returns-else-group-group_count-clause-unsynced c node =
+    unsynced_no_group c.args.layout.now c.args.group node (slice_get_past c.args.layout.now.groups c.args.group (omega (arith, c.group_count.ensures.value, c.if-group-group_count.false)))

@@ -1,4 +1,4 @@
--- Each entry happens at the greatest begin so far.
+-- Each entry happens at the greatest begin so far, and is told by the number of its marks.
 use Rattle.std.proofs.Common.{◌≡◌, ◌+◌, ◌<◌, ◌++◌, List, length, drop, ap, ◌∙◌, max, arith}
 use Rattle.std.proofs.lemmas.Bool.Decides.{nat_tests}
 use Rattle.reg_model.specs.declared.marks.Happening.{Happening}
@@ -13,5 +13,5 @@ loop-entry-preserved c =
     ap (λ (l : List Happening). l ++ placed (operations_of c.args.operations.now) c.max-position.result (drop (c.loop-entry.entry-index + 1) c.args.walk.now))
     c.in_ok-push.ensures.items
     ∙ placed_more (operations_of c.args.operations.now) c.loop-entry.happenings.items c.loop-entry.position c.max-position.result c.begin_of.result
-    c.args.walk.now c.loop-entry.entry-index _ within c.begin_of.ensures greatest
+    c.mark_of.result c.args.walk.now c.loop-entry.entry-index _ within c.begin_of.ensures greatest c.mark_of.ensures
     ∙ c.loop-entry.invariant

@@ -1,9 +1,11 @@
 -- The first m blocks that are found give back the content.
 use Rattle.std.proofs.Common.{◌≡◌, ◌≤◌, true, length, ap, ◌∙◌, sym, subst, arith}
 use Rattle.std.proofs.lemmas.Result.{IfOk-weaker}
-use Rattle.protocol.specs.Coordinators.{pieces_at}
+use Rattle.fab_base.specs.Layouts.{Group}
+use Rattle.protocol.specs.Coordinators.{asked_group, pieces_at}
 use Rattle.stripe_code.specs.Codes.{decoded}
 use Rattle.coord_phase.specs.Operations.{Operation, wants_all}
+use Rattle.coord_phase.proofs.Asked.{asked_m}
 use Rattle.coord_phase.proofs.Pieces.{give_back, length-decoded, seats_of, blocks_of}
 use Rattle.coord_phase.proofs.operations.Operation.content_of.Goals as goal
 
@@ -11,8 +13,10 @@ pub decode-requires-clause-seats : goal.decode-requires-clause-seats
 decode-requires-clause-seats c =
     let inside = c.self.inside in
     let v = c.args.version in
-    let m_is : c.m-m.result ≡ inside.group.m = c.m-m.ensures.value ∙ c.policy.ensures.m in
-    let few : length inside.group.members ≤ 32 = omega (arith, c.policy.ensures.limits.few_seats) in
+    let m_is : c.m-m.result ≡ inside.group.m = c.m-m.ensures.value ∙ c.policy.ensures.m ∙ ap (λ (z : Group). z.m) c.asked.ensures
+    ∙ asked_m c.args.self.now.state ∙ ap (λ (op : Operation). op.state.group.m) (sym c.self.view_is) in
+    let few = subst (λ (op : Operation). length (asked_group op.state).members ≤ 32) (sym c.self.view_is)
+    (subst (λ (z : Group). length z.members ≤ 32) c.asked.ensures c.policy.ensures.limits.few_seats) in
     let needed : inside.group.m ≤ length (pieces_at v inside.replies.list.items) = subst
     (λ (op : Operation). op.state.group.m ≤ length (pieces_at v op.state.counted)) (sym c.self.view_is) c.requires.enough in
     let whole : wants_all inside.stage.phase ≡ true = subst (λ (op : Operation). wants_all op.state.phase ≡ true) (sym c.self.view_is) c.requires.whole in
@@ -25,8 +29,10 @@ pub decode-requires-clause-long : goal.decode-requires-clause-long
 decode-requires-clause-long c =
     let inside = c.self.inside in
     let v = c.args.version in
-    let m_is : c.m-m.result ≡ inside.group.m = c.m-m.ensures.value ∙ c.policy.ensures.m in
-    let few : length inside.group.members ≤ 32 = omega (arith, c.policy.ensures.limits.few_seats) in
+    let m_is : c.m-m.result ≡ inside.group.m = c.m-m.ensures.value ∙ c.policy.ensures.m ∙ ap (λ (z : Group). z.m) c.asked.ensures
+    ∙ asked_m c.args.self.now.state ∙ ap (λ (op : Operation). op.state.group.m) (sym c.self.view_is) in
+    let few = subst (λ (op : Operation). length (asked_group op.state).members ≤ 32) (sym c.self.view_is)
+    (subst (λ (z : Group). length z.members ≤ 32) c.asked.ensures c.policy.ensures.limits.few_seats) in
     let needed : inside.group.m ≤ length (pieces_at v inside.replies.list.items) = subst
     (λ (op : Operation). op.state.group.m ≤ length (pieces_at v op.state.counted)) (sym c.self.view_is) c.requires.enough in
     let whole : wants_all inside.stage.phase ≡ true = subst (λ (op : Operation). wants_all op.state.phase ≡ true) (sym c.self.view_is) c.requires.whole in
@@ -42,8 +48,10 @@ pub returns-clause-value : goal.returns-clause-value
 returns-clause-value c =
     let inside = c.self.inside in
     let v = c.args.version in
-    let m_is : c.m-m.result ≡ inside.group.m = c.m-m.ensures.value ∙ c.policy.ensures.m in
-    let few : length inside.group.members ≤ 32 = omega (arith, c.policy.ensures.limits.few_seats) in
+    let m_is : c.m-m.result ≡ inside.group.m = c.m-m.ensures.value ∙ c.policy.ensures.m ∙ ap (λ (z : Group). z.m) c.asked.ensures
+    ∙ asked_m c.args.self.now.state ∙ ap (λ (op : Operation). op.state.group.m) (sym c.self.view_is) in
+    let few = subst (λ (op : Operation). length (asked_group op.state).members ≤ 32) (sym c.self.view_is)
+    (subst (λ (z : Group). length z.members ≤ 32) c.asked.ensures c.policy.ensures.limits.few_seats) in
     let needed : inside.group.m ≤ length (pieces_at v inside.replies.list.items) = subst
     (λ (op : Operation). op.state.group.m ≤ length (pieces_at v op.state.counted)) (sym c.self.view_is) c.requires.enough in
     let whole : wants_all inside.stage.phase ≡ true = subst (λ (op : Operation). wants_all op.state.phase ≡ true) (sym c.self.view_is) c.requires.whole in

@@ -1,9 +1,9 @@
 -- The replies with one more are replies of the phase.
 use Rattle.std.proofs.Common.{◌≡◌, sym, ◌∙◌, subst, Some, arith}
-use Rattle.fab_base.proofs.Seats.{seat_within}
 use Rattle.protocol.specs.Coordinators.{counts_at}
 use Rattle.protocol.proofs.CountsAt.{counts_facts}
 use Rattle.coord_phase.specs.Operations.{Operation}
+use Rattle.coord_phase.proofs.Asked.{counted_within}
 use Rattle.coord_phase.proofs.PhaseReplies.{one_more_reply}
 use Rattle.coord_phase.proofs.operations.Operation.count.Goals as goal
 
@@ -11,8 +11,7 @@ pub push-requires-clause-within : goal.push-requires-clause-within
 push-requires-clause-within c =
     let told = subst (λ (op : Operation). counts_at op.block op.state c.args.from.0 c.in-Reply.call c.in-Reply.reply ≡ Some c.in-Some.seat)
     (sym c.self.view_is) (sym c.in-Some.ensures.seat) in
-    let facts = counts_facts _ _ c.args.from.0 c.in-Reply.call c.in-Reply.reply c.in-Some.seat told in
-    omega (arith, c.self.invariant.1, seat_within c.self.inside.group c.args.from.0 c.in-Some.seat facts.seat_is)
+    omega (arith, c.self.invariant.1, counted_within _ _ c.args.from.0 c.in-Reply.call c.in-Reply.reply c.in-Some.seat told)
 
 pub push-requires-clause-first : goal.push-requires-clause-first
 push-requires-clause-first c =

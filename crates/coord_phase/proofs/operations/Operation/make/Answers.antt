@@ -13,6 +13,6 @@ ready block m op content phase next orders stores long =
     subst (λ (z : Phase). StoresBlocks block m op content z) (sym stores)
     (let z : StoresBlocks block m op content Orders = subst (λ (z : Phase). StoresBlocks block m op content z) orders long in z)
 
-pub begin-requires : goal.begin-requires
-begin-requires c =
-    record { content = ready _ _ c.args.self.now.state.ask.op _ _ _ c.requires.orders (ap (λ (stage : Stage). stage.phase) c.next_stage.ensures) c.stored.ensures.long }
+pub begin-requires-clause-content : goal.begin-requires-clause-content
+begin-requires-clause-content c =
+    ready _ _ c.args.self.now.state.ask.op _ _ _ c.requires.orders (ap (λ (stage : Stage). stage.phase) c.next_stage.ensures) c.stored.ensures.long

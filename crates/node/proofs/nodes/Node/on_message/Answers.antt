@@ -29,7 +29,11 @@ returns-in-Reply g c = search rules
 
 pub returns-in-Synced : goal.returns-in-Synced
 unfolding received requested absorbed
-returns-in-Synced g c =
+returns-in-Synced g c = search rules
+
+pub returns-in-Client : goal.returns-in-Client
+unfolding received requested absorbed
+returns-in-Client g c =
     let old = c.args.self.now in
     let runs : old.brick.halted ≡ false = sym c.if-is_halted.ensures.value in
     let change =

@@ -52,7 +52,7 @@ returns-in_ok-keep_open-in-Ok-clause-begun c = λ parts.
     let seq = c.args.self.now.seq + 1 in
     let operation : Operation = c.in-Ok.operation in
     let stamp : c.in-Some.stamp ≡ new_stamp me view.number c.args.now before.boot before.known =
-    made_is me view.number c.args.now before.boot before.known c.in-Some.stamp c.requires.known (sym c.fresh_stamp.ensures ∙ c.in-Some.is) in
+    made_is me view.number c.args.now before.boot before.known c.in-Some.stamp c.requires.known (sym c.fresh_stamp.ensures.stamp ∙ c.in-Some.is) in
     let call : CallId = record { boot = c.args.self.now.stamps.boot; seq = seq } in
     let same : coordinator_of operation
     ≡ coordinator_in (group_in_view layout view.members c.args.ask.now.group.0) view me c.args.now before c.args.ask.now =

@@ -80,10 +80,10 @@ returns c =
           let held : get nat_cmp m call.seq ≡ Some op = sym c.in-Some.ensures.value in
           let at : IsAt layout call.seq op = of call.seq op held in
           let known = known_after before.known reply in
-          let fresh = fresh_stamp me k.call.view c.args.now before.boot known in
+          let fresh = fresh_stamp me k.stamp.view c.args.now before.boot known in
           let new : c.fresh_stamp-fresh.result ≡ fresh =
-          c.fresh_stamp-fresh.ensures
-          ∙ (λ i. fresh_stamp me (c.call.ensures i).view c.args.now (c.after_reply-stamps.ensures.boot i) (c.after_reply-stamps.ensures.known i)) in
+          c.fresh_stamp-fresh.ensures.stamp
+          ∙ (λ i. fresh_stamp me (c.stamp_view.ensures i) c.args.now (c.after_reply-stamps.ensures.boot i) (c.after_reply-stamps.ensures.known i)) in
           let next = machine.on_reply layout.block (block_code layout.block) fresh k from call reply in
           let decided : decided_on c.fresh_stamp-fresh.result (shown_of op) from c.args.packet.now.message ≡ next =
           ap (λ (m : Message). decided_on c.fresh_stamp-fresh.result (shown_of op) from m) c.requires.reply
@@ -97,7 +97,7 @@ returns c =
           c.close_answered.ensures.calls in
           let f = λ (q : ℕ). option_map coordinator_of (get nat_cmp m q) in
           steps_as me _ _ _ outs
-          (replied_is layout me c.args.now from before call reply k (ap (option_map coordinator_of) held) at.seq)
+          (replied_is layout me c.args.now from before call reply k (ap (option_map coordinator_of) held) at.seq refl)
           (record {
             packets = carried.packets me ∙ sym (does_send layout me before known k next);
             told = carried.told ∙ sym (does_tell layout me before known k next);

@@ -1,6 +1,5 @@
 -- The first phase is sent to all members.
-use Rattle.std.proofs.Common.{◌≡◌, ◌≤◌, length, ◌∙◌, ap, subst, arith}
-use Rattle.fab_base.specs.Layouts.{Group}
+use Rattle.std.proofs.Common.{◌≡◌, ◌≤◌, length, ◌∙◌, ap, arith}
 use Rattle.coord_phase.specs.Operations as phased
 use Rattle.coord_phase.specs.Messages.{packets_from, phase_messages}
 use Rattle.node.specs.Operations.{shown_of}
@@ -22,5 +21,5 @@ returns-clause-sends c = λ me.
 pub returns-clause-few : goal.returns-clause-few
 returns-clause-few c =
     let few = few_again (shown_of c.in_ok-op.op) c.messages_in.result.items (sent c)
-    (subst (λ (group : Group). length group.members ≤ 32) c.group.ensures c.policy.ensures.limits.few_seats) in
+    (omega (arith, c.asked_count.ensures.value, c.asked_count.ensures.few)) in
     omega arith

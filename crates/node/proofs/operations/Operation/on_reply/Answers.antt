@@ -45,15 +45,15 @@ returns-in-Send-clause-step c = λ layout of.
     subst (λ (next : machine.Next). CarriesOut layout before after known later next c.begin_phase.result) decided
     (subst (λ (outs : Outcome). CarriesOut layout before after known later (begins_in news d) outs) (sym c.begin_phase.ensures.outs)
     (begins_out layout before after is.stays.block known later c.in-Send.messages.items
-    (λ me. ap (packets_from me) is.sent ∙ phase_sent layout (shown_of after) me (is.stays.block ∙ of) begins.counted) begins.call
+    (λ me. ap (packets_from me) is.sent ∙ phase_sent layout (shown_of after) me (is.stays.block ∙ of) begins.counted) begins.seq
     c.begin_phase.ensures.known))
 
 pub returns-in-Send-clause-few : goal.returns-in-Send-clause-few
 returns-in-Send-clause-few c =
     let is = answers_as c.args.fresh (shown_of c.args.self.now) c.args.from c.args.message.now _ (Send c.in-Send.messages) (shown_of c.take_reply.new.self)
     c.in-Send.is c.in_ok-take_reply.ensures.answers in
-    let same = ap (λ (group : Group). length group.members) is.stays.group in
-    let few = few_again (shown_of c.take_reply.new.self) c.in-Send.messages.items is.sent (omega (arith, c.room_to_collect.ensures.few, same)) in
+    let few = few_again (shown_of c.take_reply.new.self) c.in-Send.messages.items is.sent
+    (omega (arith, c.asked_count.ensures.value, c.asked_count.ensures.few)) in
     let sent = ap (λ (outs : Outcome). length outs.messages) c.begin_phase.ensures.outs in
     omega arith
 
@@ -91,3 +91,18 @@ returns-in-End-clause-few c =
     let sent = ap (λ (outs : Outcome). length outs.messages) c.end.ensures in
     let few = few_collects c.call-call.result (stored_in (shown_of after).news (coordinator_of after).stamp) (coordinator_of after).group.members in
     omega (arith, c.room_to_collect.ensures.few, same)
+
+pub returns-in-Wait-clause-group : goal.returns-in-Wait-clause-group
+returns-in-Wait-clause-group c =
+    (answers_as c.args.fresh (shown_of c.args.self.now) c.args.from c.args.message.now _ Wait (shown_of c.take_reply.new.self) c.in-Wait.is
+    c.in_ok-take_reply.ensures.answers).stays.group
+
+pub returns-in-Send-clause-group : goal.returns-in-Send-clause-group
+returns-in-Send-clause-group c =
+    (answers_as c.args.fresh (shown_of c.args.self.now) c.args.from c.args.message.now _ (Send c.in-Send.messages) (shown_of c.take_reply.new.self) c.in-Send.is
+    c.in_ok-take_reply.ensures.answers).stays.group
+
+pub returns-in-End-clause-group : goal.returns-in-End-clause-group
+returns-in-End-clause-group c =
+    (answers_as c.args.fresh (shown_of c.args.self.now) c.args.from c.args.message.now _ (End c.in-End.answer) (shown_of c.take_reply.new.self) c.in-End.is
+    c.in_ok-take_reply.ensures.answers).stays.group

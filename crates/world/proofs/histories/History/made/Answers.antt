@@ -5,12 +5,13 @@ use Rattle.world.proofs.HistoryLemmas.{number_is, has_number, tells_made}
 use Rattle.world.proofs.histories.History.made.Goals as goal
 
 pub returns-in-Some-clause-made : goal.returns-in-Some-clause-made
-returns-in-Some-clause-made c w tells up of =
-    tells_made c.args.self.now _ w c.args.brick.0 c.args.seq c.in-Some.number c.args.stamp c.args.base c.deref_mut.result.now c.note_made.new.operations tells
-    (number_is c.args.self.now w c.args.brick.0 c.args.seq c.in-Some.number tells up of.0 of.1 c.in-Some.ensures)
+returns-in-Some-clause-made c w seqs tells up of =
+    tells_made seqs c.args.self.now _ w c.args.brick.0 c.args.seq c.in-Some.number c.args.stamp c.args.base c.deref_mut.result.now c.note_made.new.operations tells
+    (number_is seqs c.args.self.now w c.args.brick.0 c.args.seq c.in-Some.number tells up of.0 of.1 c.in-Some.ensures)
     c.deref_mut.ensures.value
     (with_items_is c.args.self.now.operations c.note_made.new.operations (c.note_made.auto.operations ∙ c.deref_mut.ensures.len))
-    refl refl c.note_made.ensures c.note_made.auto.operations refl refl refl
+    c.note_made.ensures c.note_made.auto.operations refl
 
 pub returns-in_default-clause-made : goal.returns-in_default-clause-made
-returns-in_default-clause-made c w tells up of = absurd (has_number c.args.self.now w c.args.brick.0 c.args.seq tells up of.0 of.1 c.in_default.ensures)
+returns-in_default-clause-made c w seqs tells up of =
+    absurd (has_number seqs c.args.self.now w c.args.brick.0 c.args.seq tells up of.0 of.1 c.in_default.ensures)

@@ -26,4 +26,5 @@ returns c setting step sent reports w tells up opens =
     (ap (λ (h : History). h.marks.items) reported ∙ ap (λ (h : History). h.marks.items) sends ∙ ap (λ (h : History). h.marks.items) counts)
     (c.report.ensures.items ∙ ap (λ (h : History). h.reports.items ++ told) sends ∙ ap (λ (h : History). h.reports.items ++ told) counts)
     (ap (λ (h : History). h.operations.items) reported ∙ ap (λ (h : History). h.operations.items) sends ∙ ap (λ (h : History). h.operations.items) counts)
+    (ap (λ (h : History). h.marked.items) reported ∙ ap (λ (h : History). h.marked.items) sends ∙ ap (λ (h : History). h.marked.items) counts)
     (λ i. ap (λ (h : History). calls_in h.calls i) reported ∙ ap (λ (h : History). calls_in h.calls i) sends ∙ c.count_call.ensures.calls i)

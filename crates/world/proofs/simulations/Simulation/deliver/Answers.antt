@@ -9,14 +9,16 @@ use Rattle.protocol.specs.Nodes.{NodeStep, put, received}
 use Rattle.protocol.specs.Worlds.{World, is_brick, is_up, packet_of, world_stepped, world_stopped}
 use Rattle.protocol.proofs.Events.{world_counting}
 use Rattle.world.specs.Disks.{KeepsOthers}
-use Rattle.world.specs.Shown.{HandledAs, HandledWhole, HandledPart, Tells, disks_of}
+use Rattle.world.specs.Shown.{HandledAs, HandledWhole, HandledPart, Tells, disks_of, seqs_of}
+use Rattle.world.specs.CallNumbers.{calls_in}
+use Rattle.world.specs.declared.call_numbers.CallNumbers.{CallNumbers}
 use Rattle.world.specs.declared.deliveries.Deliveries.{Deliveries}
 use Rattle.world.specs.declared.histories.History.{History}
 use Rattle.world.specs.declared.simulations.Simulation.{Simulation}
 use Rattle.world.proofs.BrickListLemmas.{down_at, up_at, up_there}
 use Rattle.world.proofs.DeliveryLemmas.{unsent_comes, astray_comes, whole_comes, part_comes}
 use Rattle.world.proofs.HistoryLemmas.{tells_same}
-use Rattle.world.proofs.MachineSteps.{received_opens_none}
+use Rattle.world.proofs.MachineSteps.{received_opens_reads}
 use Rattle.world.proofs.RunLaws.{reached_numbered}
 use Rattle.world.proofs.SimulationLemmas.{on_err_always, tells_replies}
 use Rattle.world.proofs.simulations.Simulation.deliver.Goals as goal
@@ -33,8 +35,10 @@ some_number packets (suc k) packet is = omega arith
 
 -- the room that was made, and the notes that no message was delivered, tell nothing
 still : (old new : History) (w : World) → ((w : World) → Tells old w → Tells new w) → (d : Deliveries)
-    → ((k : ℕ) → get_or d.reached.items k false ≡ get_or new.delivered.reached.items k false) → Tells old w → Tells (record new { delivered = d }) w
-still old new w same d reached tells = tells_same new (record new { delivered = d }) w refl reached refl refl refl (λ i. refl) (same w tells)
+    → ((k : ℕ) → get_or d.reached.items k false ≡ get_or new.delivered.reached.items k false) → (calls : CallNumbers)
+    → ((i : ℕ) → calls_in calls i ≡ calls_in new.calls i) → Tells old w → Tells (record new { delivered = d; calls = calls }) w
+still old new w same d reached calls are tells =
+    tells_same (seqs_of w) new (record new { delivered = d; calls = calls }) w refl reached refl refl refl refl are (same w tells)
 
 pub returns-in_err-make_room-clause-err : goal.returns-in_err-make_room-clause-err
 returns-in_err-make_room-clause-err c =
@@ -47,7 +51,18 @@ returns-in_err-expect-clause-err c =
     (record {
       shows = λ w shows. record {
         bricks = shows.bricks;
-        history = still c.args.self.now.history c.make_room.new.self w c.make_room.ensures.same _ c.in_err-expect.ensures.same shows.history;
+        history = still c.args.self.now.history c.make_room.new.self w c.make_room.ensures.same _ c.in_err-expect.ensures.same _ (λ i. refl) shows.history;
+      };
+      contents = refl;
+    })
+
+pub returns-in_err-reserve-clause-err : goal.returns-in_err-reserve-clause-err
+returns-in_err-reserve-clause-err c =
+    on_err_always c.from_residual-in_err-reserve.result
+    (record {
+      shows = λ w shows. record {
+        bricks = shows.bricks;
+        history = still c.args.self.now.history c.make_room.new.self w c.make_room.ensures.same _ c.expect.ensures.same _ c.in_err-reserve.ensures.same shows.history;
       };
       contents = refl;
     })
@@ -58,7 +73,7 @@ returns-in_err-outs-clause-err c =
     (record {
       shows = λ w shows. record {
         bricks = c.in_err-outs.ensures.handled c.args.layout.now w shows.bricks;
-        history = still c.args.self.now.history c.make_room.new.self w c.make_room.ensures.same _ c.expect.ensures.same shows.history;
+        history = still c.args.self.now.history c.make_room.new.self w c.make_room.ensures.same _ c.expect.ensures.same _ c.reserve.ensures.same shows.history;
       };
       contents = c.in_err-outs.ensures.contents;
     })
@@ -104,7 +119,7 @@ returns-in-Some-2-clause-ok c w reached shows =
     subst (λ (outs : Option Sent). HandledAs c.args.layout.now w to packet c.args.fault c.args.self.now.bricks.items c.hand_over.new.bricks.items (Ok outs))
     c.in-Some-2.is (c.in_ok-outs.ensures.handled c.args.layout.now w shows.bricks)
     in
-    let opens = received_opens_none (coding c.args.layout.now) to (w.clocks to.0) (w.nodes to.0) packet
+    let opens = received_opens_reads (coding c.args.layout.now) to (w.clocks to.0) (w.nodes to.0) packet
     (λ k call open_at. reached_numbered c.args.layout.now w reached to.0 k call open_at) in
     let told = c.make_room.ensures.same w shows.history in
     let up = up_there c.args.layout.now _ w _ found.1 shows.bricks in
@@ -118,7 +133,7 @@ returns-in-Some-2-clause-ok c w reached shows =
     (received (coding c.args.layout.now) b (w.clocks b.0) (w.nodes b.0) packet))) found.0
     (c.step.ensures (coding c.args.layout.now) step did.packets did.told did.answers did.reports v
     (tells_replies c.args.layout.now _ w c.args.message packet
-    (c.deliver.ensures.delivered w (still c.args.self.now.history c.make_room.new.self w c.make_room.ensures.same _ c.expect.ensures.same shows.history)))
+    (c.deliver.ensures.delivered w (still c.args.self.now.history c.make_room.new.self w c.make_room.ensures.same _ c.expect.ensures.same _ c.reserve.ensures.same shows.history)))
     (and_parts (is_brick c.args.layout.now to) (w.up to.0) up).1 opens))
 
 pub returns-in-None-2-clause-ok : goal.returns-in-None-2-clause-ok
@@ -142,4 +157,4 @@ returns-in-None-2-clause-ok c w reached shows =
     (subst (λ (b : BrickId). Tells c.crash.new.self (world_stopped (coding c.args.layout.now)
     (record w { reached = put w.reached c.args.message true }) b None)) found.0
     (c.crash.ensures (coding c.args.layout.now) (record w { reached = put w.reached c.args.message true })
-    (c.deliver-in-None-2.ensures.delivered w (still c.args.self.now.history c.make_room.new.self w c.make_room.ensures.same _ c.expect.ensures.same shows.history))))
+    (c.deliver-in-None-2.ensures.delivered w (still c.args.self.now.history c.make_room.new.self w c.make_room.ensures.same _ c.expect.ensures.same _ c.reserve.ensures.same shows.history))))

@@ -3,8 +3,8 @@ use Rattle.std.proofs.Common.{ℕ, List, map, None, refl, sym, ap, ◌∙◌, su
 use Rattle.std.specs.Prelude.{IfOk, OnErr}
 use Rattle.std.proofs.lemmas.Result.{on_err_weaker}
 use Rattle.lines.specs.declared.forms.Line.{Line}
-use Rattle.lines.specs.declared.forms.Line.TheVariants.{Invoke, SetClock, Tick, Crash, Propose, Calm}
-use Rattle.protocol.specs.Worlds.{Invokes, Proposes, Sets, Ticks, Stops}
+use Rattle.lines.specs.declared.forms.Line.TheVariants.{Invoke, SetClock, Tick, Crash, Propose, Sync, Calm}
+use Rattle.protocol.specs.Worlds.{Invokes, Proposes, Syncs, Sets, Ticks, Stops}
 use Rattle.world.specs.Runs.{brick_of, ask_of, group_no, member_no, op_of}
 use Rattle.world.specs.Shown.{TakesEvent, RunsLine, RefusesLine}
 use Rattle.world.specs.declared.simulations.Outcome.TheVariants.{Marks}
@@ -40,6 +40,18 @@ returns-in-Propose-clause-ok c =
 pub returns-in-Propose-clause-err : goal.returns-in-Propose-clause-err
 returns-in-Propose-clause-err c =
     on_err_weaker c.propose.result (stays_refuses c.args.layout.now c.args.self.now c.propose.new.self c.args.line.now) c.propose.ensures.err
+
+pub returns-in-Sync-clause-ok : goal.returns-in-Sync-clause-ok
+returns-in-Sync-clause-ok c =
+    subst (λ (line : Line). IfOk c.sync.result (RunsLine c.args.layout.now c.args.self.now c.sync.new.self line)) (sym c.in-Sync.is)
+    (ok_each c.sync.result _ _
+    (λ outcome. takes_runs c.args.layout.now c.args.self.now c.sync.new.self (Sync c.in-Sync.brick c.in-Sync.group)
+    (Syncs (brick_of c.in-Sync.brick) (group_no c.in-Sync.group)) outcome (λ w. refl) (λ w. tt))
+    c.sync.ensures.ok)
+
+pub returns-in-Sync-clause-err : goal.returns-in-Sync-clause-err
+returns-in-Sync-clause-err c =
+    on_err_weaker c.sync.result (stays_refuses c.args.layout.now c.args.self.now c.sync.new.self c.args.line.now) c.sync.ensures.err
 
 pub returns-in-Tick-clause-ok : goal.returns-in-Tick-clause-ok
 returns-in-Tick-clause-ok c =

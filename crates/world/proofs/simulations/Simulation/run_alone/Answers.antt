@@ -14,12 +14,12 @@ use Rattle.world.proofs.simulations.Simulation.run_alone.Goals as goal
 pub loop-record-init : goal.loop-record-init
 loop-record-init c = (
   c.requires,
-  λ w reached shows calm. none_yet c.args.layout.now w c.args.operation c.args.bricks.now c.args.self.now reached shows,
+  λ w reached shows calm marked. none_yet c.args.layout.now w c.args.operation c.args.bricks.now c.args.self.now reached shows marked,
 )
 
 pub returns-in_default-next_left-clause-run : goal.returns-in_default-next_left-clause-run
-returns-in_default-next_left-clause-run c w reached shows calm =
-    let so = c.loop-record.invariant.1 w reached shows calm in
+returns-in_default-next_left-clause-run c w reached shows calm marked =
+    let so = c.loop-record.invariant.1 w reached shows calm marked in
     has_stuck c.args.layout.now w c.args.operation c.args.bricks.now (disks_of c.args.self.now.bricks.items) c.loop-record.self c.loop-record.from
     c.loop-record.some calm so c.in-Some.record (opens_as c.args.layout.now so.last c.loop-record.self c.args.operation _ c.in-Some.ensures so.reached so.shows)
     (subst (λ (sent : List Packet). FindsLeft c.loop-record.self.history.delivered.reached.items c.in-Some.record c.args.bricks.now c.loop-record.from sent None)
@@ -36,8 +36,8 @@ deliver-requires-clause-nodes c = nodes_of _ _ _ _ _ _ c.loop-record.invariant.0
 
 pub returns-in_err-deliver-clause-cut : goal.returns-in_err-deliver-clause-cut
 returns-in_err-deliver-clause-cut c =
-    on_err_always c.from_residual.result (λ w reached shows calm.
-    (let so = c.loop-record.invariant.1 w reached shows calm in
+    on_err_always c.from_residual.result (λ w reached shows calm marked.
+    (let so = c.loop-record.invariant.1 w reached shows calm marked in
     has_begun c.args.layout.now w c.args.operation c.args.bricks.now (disks_of c.args.self.now.bricks.items) c.loop-record.self c.loop-record.from
     c.loop-record.some calm so c.deliver.new.self (c.in_err-deliver.ensures.err.shows so.last so.shows)
     c.in_err-deliver.ensures.err.contents))
@@ -55,8 +55,8 @@ loop-record-preserved c = (
       stands_on c.args.layout.now v (disks_of c.loop-record.self.bricks.items) c.deliver.new.self (Deliver (c.in-Some-next_left.place + 1) None)
       c.in_ok-deliver.field-0 reached (c.in_ok-deliver.ensures.ok v reached shows)
       ),
-  λ w reached shows calm.
-      (let so = c.loop-record.invariant.1 w reached shows calm in
+  λ w reached shows calm marked.
+      (let so = c.loop-record.invariant.1 w reached shows calm marked in
       goes_on c.args.layout.now w c.args.operation c.args.bricks.now (disks_of c.args.self.now.bricks.items) c.loop-record.self c.loop-record.from
       c.loop-record.some calm so c.in-Some.record (opens_as c.args.layout.now so.last c.loop-record.self c.args.operation _ c.in-Some.ensures so.reached so.shows)
       c.in-Some-next_left.place
@@ -67,7 +67,7 @@ loop-record-preserved c = (
 )
 
 pub returns-clause-run : goal.returns-clause-run
-returns-clause-run c w reached shows calm =
-    let so = c.loop-record.invariant.1 w reached shows calm in
+returns-clause-run c w reached shows calm marked =
+    let so = c.loop-record.invariant.1 w reached shows calm marked in
     has_ended c.args.layout.now w c.args.operation c.args.bricks.now (disks_of c.args.self.now.bricks.items) c.loop-record.self c.loop-record.from
     c.loop-record.some calm so (opens_as c.args.layout.now so.last c.loop-record.self c.args.operation _ c.in_default.ensures so.reached so.shows)

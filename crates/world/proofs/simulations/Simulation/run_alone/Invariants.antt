@@ -2,9 +2,9 @@
 use Rattle.std.proofs.Common.{◌-◌, ◌^◌, map}
 use Rattle.stripe_code.specs.Codes.{coding}
 use Rattle.protocol.specs.Worlds.{World}
-use Rattle.world.specs.Calms.{MayRunAlone}
+use Rattle.protocol.specs.Calms.{IsCalm}
 use Rattle.world.specs.Runs.{brick_of}
-use Rattle.world.specs.Shown.{Shows, IsReachedBy, IsReachable, disks_of}
+use Rattle.world.specs.Shown.{Shows, IsReachedBy, IsReachable, HasMarks, disks_of}
 use Rattle.world.proofs.CalmLoops.{SoFar}
 use Rattle.world.proofs.simulations.Simulation.run_alone.Given as goal
 
@@ -12,7 +12,7 @@ abbrev pub invariant-loop-record : goal.invariant-loop-record
 invariant-loop-record l =
     IsReachable l.layout l.self
     × ((w : World) → IsReachedBy l.layout w → Shows l.layout l.initial.self w
-    → MayRunAlone (coding l.layout) w l.operation (map brick_of l.bricks)
+    → IsCalm (coding l.layout) w l.operation (map brick_of l.bricks) → HasMarks w l.operation
     → SoFar l.layout w l.operation l.bricks (disks_of l.initial.self.bricks.items) l.self l.from l.some)
 
 abbrev pub decreases-loop-record : goal.decreases-loop-record

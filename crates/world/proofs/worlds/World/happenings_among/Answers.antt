@@ -18,7 +18,6 @@ returns c =
     subst (λ (kept : List OperationRecord). KeepsAll kept (world_of (run_of c.self.inside))) (sym c.as_slice.ensures.value)
     (record {
       begun = c.self.invariant.shows.history.begun;
-      own = c.self.invariant.shows.history.own;
       each = c.self.invariant.shows.history.operations;
     })
     in

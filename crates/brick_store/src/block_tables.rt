@@ -1,0 +1,86 @@
+//! The blocks that are held in memory, by their slots.
+
+ghost use Rattle.std.specs.Prelude.{◌≡◌, ◌≢◌, ◌≤◌, ◌<◌, ℕ, [], Some, IfOk, OnOk, length, option_copied, slice_set};
+ghost use Rattle.brick_store.specs.BlockTables.{block_under};
+
+use fab_base::{Bytes, NoMem};
+use std::alloc::Global;
+use std::marker::Model;
+
+/// For each slot the block that is held under it, if one is. A store takes the least free slot for a new block, so few slots lie between those that
+/// are held.
+#[derive(Drop)]
+pub struct BlockTable {
+    blocks: Vec<Option<Bytes>>,
+}
+
+impl Model for BlockTable {
+    ghost use Rattle.brick_store.specs.BlockTables.{SlotBlocks};
+
+    ghost Value = { SlotBlocks };
+
+    ghost view = { λ table. table.blocks.items };
+}
+
+impl BlockTable {
+    /// A table of no slots, with room for so many.
+    pub fn with_room(alloc: Global, slots: usize) -> Result<BlockTable, NoMem>
+        ensures { IfOk result (λ made. made ≡ []) }
+    {
+        let blocks = Vec::with_capacity(alloc, slots)?;
+        Ok(BlockTable { blocks })
+    }
+
+    /// The block that is held under a slot.
+    pub fn get(&self, slot: u32) -> Option<&Bytes>
+        ensures { option_copied result ≡ block_under self.now slot }
+    {
+        match self.blocks.get(slot as usize) {
+            Some(Some(block)) => Some(block),
+            Some(None) => None,
+            None => None,
+        }
+    }
+
+    /// Holds a block under a slot, in the place of what was held there.
+    pub fn hold(&mut self, slot: u32, block: Bytes) -> Result<(), NoMem>
+        ensures held { OnOk result (block_under self.new slot ≡ Some block) }
+        ensures others { (other : ℕ) → other ≢ slot → block_under self.new other ≡ block_under self.old other }
+    {
+        let place = slot as usize;
+        self.lengthen(place + 1)?;
+        self.put(place, Some(block));
+        Ok(())
+    }
+
+    /// Forgets what is held under a slot.
+    pub fn forget(&mut self, slot: u32)
+        ensures { (other : ℕ) → other ≢ slot → block_under self.new other ≡ block_under self.old other }
+    {
+        let place = slot as usize;
+        if place < self.blocks.len() {
+            self.put(place, None);
+        }
+    }
+
+    // Makes it a table of so many slots at least: none is held under those that are new.
+    #[tactic(auto, using(crate::proofs::BlockTables::under_push))]
+    fn lengthen(&mut self, slots: usize) -> Result<(), NoMem>
+        ensures same { (slot : ℕ) → block_under self.new slot ≡ block_under self.old slot }
+        ensures long { OnOk result (slots ≤ length self.new) }
+    {
+        for _ in self.blocks.len()..slots {
+            self.blocks.push(None)?;
+        }
+        Ok(())
+    }
+
+    fn put(&mut self, place: usize, block: Option<Bytes>)
+        requires { place < length self.old }
+        ensures { self.new ≡ slice_set self.old place block }
+    {
+        if let Some(held) = self.blocks.get_mut(place) {
+            *held = block;
+        }
+    }
+}
