@@ -1,7 +1,8 @@
 -- What a world's books say: operations, calls, numbers and marks agree, at every moment of every run.
-use Rattle.std.proofs.Common.{◌≡◌, ℕ, ◌+◌, ◌<◌, ◌≤◌, true, false, List, Option, Some, None}
+use Rattle.std.proofs.Common.{◌≡◌, ℕ, ◌+◌, ◌<◌, ◌≤◌, ◌⊎◌, true, false, List, Option, Some, None}
 use Rattle.std.specs.Prelude.{slice_get}
 use Rattle.fab_base.specs.declared.stamps.Stamp.{Stamp}
+use Rattle.fab_base.specs.declared.asks.Op.TheVariants.{ReadStripe}
 use Rattle.reg_model.specs.declared.marks.Mark.{Mark}
 use Rattle.reg_model.specs.Marks.{Life, life_of, IsOpen, IsWellFormed, position_of}
 use Rattle.reg_model.specs.Strict.{IsAnswered}
@@ -12,6 +13,7 @@ use Rattle.protocol.specs.declared.phases.Counted.{Counted}
 use Rattle.protocol.specs.declared.phases.Phase.{Phase}
 use Rattle.protocol.specs.declared.phases.Phase.TheVariants.{Looks, LooksAt, Orders, OrdersAt, Recovers, Descends, Modifies, Bases, Stores, LooksBack}
 use Rattle.protocol.specs.Coordinators.{Coordinator, most_rounds, asked_view}
+use Rattle.protocol.specs.Jobs.{Job, job_ask}
 use Rattle.protocol.specs.Nodes.{has_block, has_length}
 use Rattle.protocol.specs.Worlds.{World, Operation, number_of}
 
@@ -66,7 +68,29 @@ InRound c (Modifies base j) = Unit {0}
 InRound c (Bases base) = Unit {0}
 InRound c Stores = Unit {0}
 
--- operation n, and its marks
+-- a stripe of a group; or stripe 0, which a synchronisation reads of any group
+abbrev pub IsReadable : Group → ℕ → Type 0
+IsReadable group stripe = (stripe ≡ 0) ⊎ (stripe < group.stripes)
+
+-- an operation that has marks, and its life in them: it is open while its call is
+pub record LifeBooks (w : World) (o : Operation) : Type 0 where
+  pub life : Life
+  pub life_is : life_of w.marks o.mark ≡ Some life
+  pub begin : life.begin ≡ o.begin
+  pub brick : life.brick ≡ o.brick.0
+  pub ask : life.ask ≡ o.ask
+  pub answered : o.answered ≡ true → IsAnswered life.ending
+  pub answered_only : IsAnswered life.ending → o.answered ≡ true
+  pub open_call : IsOpen (Some life) → (o.boot ≡ (w.nodes o.brick.0).boot) × ((c : Coordinator) × IsCall w o.brick.0 o.seq c)
+  pub unclosed : o.closed ≡ None
+
+-- an operation that has no marks is a read of a synchronisation: it was answered where it ended without a cause
+pub record UnmarkedBooks (o : Operation) : Type 0 where
+  pub op : o.ask.op ≡ ReadStripe
+  pub answered : o.answered ≡ true → o.closed ≡ Some None
+  pub answered_only : o.closed ≡ Some None → o.answered ≡ true
+
+-- operation n
 pub record OperationBooks (setting : Setting) (w : World) (n : ℕ) (o : Operation) : Type 0 where
   pub from_one : 1 ≤ n
   pub begun : n ≤ w.begun
@@ -75,18 +99,13 @@ pub record OperationBooks (setting : Setting) (w : World) (n : ℕ) (o : Operati
   pub called : (1 ≤ o.seq) × (o.boot ≡ (w.nodes o.brick.0).boot → o.seq ≤ (w.nodes o.brick.0).seq)
   pub group : Group
   pub group_is : group_of setting.layout o.ask.group.0 ≡ Some group
-  pub stripe : o.ask.stripe.0 < group.stripes
+  pub stripe : 1 ≤ o.mark → o.ask.stripe.0 < group.stripes
+  pub readable : IsReadable group o.ask.stripe.0
   pub block_fits : has_block group.m o.ask.op ≡ true
   pub length_fits : has_length group.m setting.layout.block o.ask.op ≡ true
-  pub life : Life
-  pub life_is : life_of w.marks n ≡ Some life
-  pub begin : life.begin ≡ o.begin
-  pub brick : life.brick ≡ o.brick.0
-  pub ask : life.ask ≡ o.ask
-  pub answered : o.answered ≡ true → IsAnswered life.ending
-  pub answered_only : IsAnswered life.ending → o.answered ≡ true
   pub answered_version : o.answered ≡ true → (v : _) × (o.version ≡ Some v)
-  pub open_call : IsOpen (Some life) → (o.boot ≡ (w.nodes o.brick.0).boot) × ((c : Coordinator) × IsCall w o.brick.0 o.seq c)
+  pub lived : 1 ≤ o.mark → LifeBooks w o
+  pub unmarked : o.mark ≡ 0 → UnmarkedBooks o
 
 -- call k of brick i, whose coordinator is c, and its operation
 pub record CallBooks (setting : Setting) (w : World) (i k : ℕ) (c : Coordinator) : Type 0 where
@@ -106,11 +125,25 @@ pub record CallBooks (setting : Setting) (w : World) (i k : ℕ) (c : Coordinato
   pub call_view : c.call.view ≡ asked_view c.stamp c.phase
   pub stamp_view : operation.view ≡ c.stamp.view.0
   pub call_stripe : c.call.stripe ≡ c.ask.stripe
+  pub stripes : (group : Group) → group_of setting.layout c.ask.group.0 ≡ Some group → c.group.stripes ≡ group.stripes
   pub rounds : (1 ≤ c.round) × (c.round ≤ most_rounds)
   pub in_round : InRound c c.phase
   pub made : MadeInPhase c operation c.phase
-  pub unended : (life : Life) → life_of w.marks (number_of w i k) ≡ Some life → IsOpen (Some life)
+  pub unended : 1 ≤ operation.mark → (life : Life) → life_of w.marks operation.mark ≡ Some life → IsOpen (Some life)
+  pub unclosed : operation.closed ≡ None
   pub unanswered : operation.answered ≡ false
+  pub reads : operation.mark ≡ 0 → (job : Job) × ((w.nodes i).job ≡ Some job) × (job.seq ≡ k)
+
+-- the synchronisation of brick i, and the read that it began last, which may have ended
+pub record JobBooks (w : World) (i : ℕ) (job : Job) : Type 0 where
+  pub operation : Operation
+  pub operation_is : IsOperation w (number_of w i job.seq) operation
+  pub mark : operation.mark ≡ 0
+  pub brick : operation.brick.0 ≡ i
+  pub boot : operation.boot ≡ (w.nodes i).boot
+  pub seq : operation.seq ≡ job.seq
+  pub ask : operation.ask ≡ job_ask job
+  pub view : operation.view ≡ job.view.number.0
 
 -- the books of a world
 pub record Books (setting : Setting) (w : World) : Type 0 where
@@ -122,4 +155,5 @@ pub record Books (setting : Setting) (w : World) : Type 0 where
   pub operations : (n : ℕ) (o : Operation) → IsOperation w n o → OperationBooks setting w n o
   pub calls : (i k : ℕ) (c : Coordinator) → IsCall w i k c → CallBooks setting w i k c
   pub fresh_calls : (i k : ℕ) → (w.nodes i).seq < k → (w.nodes i).calls k ≡ None
-  pub lives : (n : ℕ) (life : Life) → life_of w.marks n ≡ Some life → (1 ≤ n) × (n ≤ w.begun)
+  pub jobs : (i : ℕ) (job : Job) → (w.nodes i).job ≡ Some job → JobBooks w i job
+  pub lives : (n : ℕ) (life : Life) → life_of w.marks n ≡ Some life → (1 ≤ n) × (n ≤ w.marked)

@@ -1,17 +1,23 @@
 -- Every event keeps the books.
 use Rattle.view_laws.proofs.Syncing.{synced_each}
+use Rattle.view_laws.proofs.SyncReads.{synced_at_each}
 use Rattle.protocol_laws.proofs.StampViews.{waits_view, next_view}
 use Rattle.std.specs.Option.{option_map}
-use Rattle.protocol.specs.Views.{kept_by, view_told}
-use Rattle.std.proofs.Common.{◌≡◌, ◌≢◌, ℕ, ◌+◌, ◌-◌, ◌<◌, ◌≤◌, ◌⊎◌, inl, inr, ◌^◌, Bool, true, false, not, ◌&&◌, cond, is_some, Option, Some, None, refl, sym, ap, ◌∙◌, subst, arith, List, [], ◌++◌, ⊎_elim}
+use Rattle.protocol.specs.Views.{kept_by, group_kept, view_told}
+use Rattle.std.proofs.Common.{◌≡◌, ◌≢◌, ℕ, ◌+◌, ◌-◌, ◌<◌, ◌≤◌, ◌⊎◌, inl, inr, ◌^◌, Bool, true, false, not, ◌&&◌, cond, is_some, Option, Some, None, refl, sym, ap, ◌∙◌, subst, arith, List, [], ◌∷◌, ◌++◌, length, ⊎_elim}
 use Rattle.std.specs.Prelude.{nat_lt, max}
 use Rattle.std.proofs.lemmas.Option.{same_Some}
-use Rattle.std.proofs.lemmas.Bool.{cond_both, and_parts, not-true, not-false, ltb-true, both_ways}
+use Rattle.std.proofs.lemmas.Bool.{cond_both, and_parts, not-true, not-false, ltb-true, both_ways, false≢true}
 use Rattle.fab_base.specs.declared.identities.BrickId.{BrickId}
 use Rattle.fab_base.specs.declared.identities.ViewNo.{ViewNo}
 use Rattle.fab_base.specs.declared.asks.Ask.{Ask}
 use Rattle.fab_base.specs.declared.stamps.Stamp.{Stamp}
 use Rattle.fab_base.specs.declared.answers.Answer.{Answer}
+use Rattle.fab_base.specs.declared.answers.Answer.TheVariants.{Data, Done, Aborted}
+use Rattle.fab_base.specs.declared.answers.Cause.{Cause}
+use Rattle.reg_model.specs.declared.marks.Mark.{Mark}
+use Rattle.reg_model.specs.declared.marks.Mark.TheVariants.{End}
+use Rattle.protocol.specs.Jobs.{Job, Attempt, JobNext, Reads, Finishes, GivesUp, begun_job, job_ask, most_tries, job_after, abort_cause, synced_answer, sync_refusal_in}
 use Rattle.fab_base.specs.declared.answers.Refusal.{Refusal}
 use Rattle.messages.specs.declared.calls.Call.{Call}
 use Rattle.messages.specs.declared.packets.Message.{Message}
@@ -29,22 +35,23 @@ use Rattle.protocol.specs.declared.phases.Phase.{Phase}
 use Rattle.protocol.specs.declared.phases.Phase.TheVariants.{Looks, LooksAt, Orders, OrdersAt, Recovers, Descends, Modifies, Bases, Stores, LooksBack}
 use Rattle.protocol.specs.declared.phases.Counted.{Counted}
 use Rattle.protocol.specs.Coordinators.{Coordinator, Next, Ignores, Waits, Sends, Makes, Ends, most_rounds, with_reply, once_full, counted_at, counts_at, on_reply, asked_view}
-use Rattle.protocol.specs.Nodes.{Node, NodeStep, put, no_step, has_block, has_length, refusal_in, refusal_of, began, invoked, with_replica, replica_at, full_at, reply_packets, requested, ticked, may_open, has_later_time, next_time, new_stamp, fresh_stamp, known_after, with_call, with_known, carried_out, phase_packets, collect_packets, sending, replied_at, heard, received, group_at, vote_at, with_round, proposed, node_taught_by, node_learnt, view_counted, lists_fit, node_synced}
-use Rattle.protocol.specs.Worlds.{World, world_found, Operation, Found, Before, After, Found, Before, After, Event, is_answer, first_world, is_brick, is_up, may_begin, number_of, may_start, world_found, world_began, world_stepped, with_made, with_seen, with_answer, with_content, replies_with, voiced, run, with_held, choices_after, Choices}
+use Rattle.protocol.specs.Nodes.{Node, NodeStep, put, no_step, has_block, has_length, refusal_in, refusal_of, began, invoked, with_replica, replica_at, full_at, reply_packets, requested, ticked, may_open, has_later_time, next_time, new_stamp, fresh_stamp, known_after, with_call, with_known, carried_out, phase_packets, collect_packets, synced_packets, reporting, with_job, carried_for, job_reading, synced_at, sync_refusal, sending, replied_at, heard, received, group_at, vote_at, with_round, proposed, node_taught_by, node_learnt, view_counted, lists_fit, node_synced}
+use Rattle.protocol.specs.Worlds.{World, world_found, Operation, Found, Before, After, Found, Before, After, Event, is_answer, first_world, is_brick, is_up, may_begin, number_of, may_start, world_found, world_began, world_stepped, with_made, with_seen, with_answer, with_closed, with_content, may_sync, replies_with, voiced, run, with_held, choices_after, Choices}
 use Rattle.protocol_laws.specs.Laws.{WasSent}
 use Rattle.protocol.proofs.Served.{request_each}
 use Rattle.protocol_laws.proofs.Left.{IsLeft, kept_of, Leaves, always_leaves, found_down}
-use Rattle.protocol_laws.proofs.Books.{Replies, version_after, Books, CallBooks, IsCall, IsUnmade, MadeInPhase, InRound, IsMade}
-use Rattle.protocol_laws.proofs.MarkNumbers.{own_number, own_seen}
-use Rattle.protocol_laws.proofs.BooksKept.{KeepsNumbers, KeepsCalls, keeps_all, keeps_itself, keeps_known, keeps_with_call}
+use Rattle.protocol_laws.proofs.Books.{Replies, version_after, Books, IsReadable, IsOperation, OperationBooks, JobBooks, CallBooks, IsCall, IsUnmade, MadeInPhase, InRound, IsMade}
+use Rattle.protocol_laws.proofs.MarkNumbers.{mark_at, mark_seen}
+use Rattle.protocol_laws.proofs.BooksKept.{KeepsNumbers, KeepsCalls, KeepsJob, HasNoRead, call_marked, call_unmarked, reading_is, keeps_all, keeps_itself, keeps_known, keeps_with_call}
 use Rattle.protocol_laws.proofs.Votes.{with_vote}
 use Rattle.protocol_laws.proofs.Proposing.{ballot_each, proposed_each}
 use Rattle.protocol_laws.proofs.Teaching.{told_each, learnt_each}
+use Rattle.protocol_laws.proofs.Closing.{AfterClose, ClosesNone, closed_world, closing_each}
 use Rattle.protocol_laws.proofs.Hearing.{kept_world, taught_by, hearing_each}
 use Rattle.protocol_laws.proofs.BooksQuiet.{books_quiet, books_started}
 use Rattle.protocol_laws.proofs.BooksTurns.{IsBookedStamp, books_turned}
-use Rattle.protocol_laws.proofs.BooksEnds.{ended_world, books_ended, books_stopped}
-use Rattle.protocol_laws.proofs.BooksBegins.{books_began}
+use Rattle.protocol_laws.proofs.BooksEnds.{Ended, ended_world, books_ended, books_closed, books_stopped}
+use Rattle.protocol_laws.proofs.BooksBegins.{books_began, books_read}
 use Rattle.protocol_laws.proofs.Outcomes.{SameOperation, IsRound, ReordersFits, RecoversFits, SendsFits, EndFits, NextFits, once_full_fits, IsLook, IsMaking, RebuildsIn, RebuildsFits, MakesIn, unmade_again, unmade_recovers, BackFits, back_phase, call_after}
 use Rattle.protocol.proofs.Puts.{put_other}
 use Rattle.protocol.proofs.Tables.{put_each, put_same}
@@ -55,6 +62,10 @@ pub keeps_put : (w : World) (i : ℕ) (node : Node) → KeepsNumbers (w.nodes i)
 keeps_put w i node keeps j =
     put_each (λ (x : ℕ) (y : Node). KeepsNumbers (w.nodes x) y) w.nodes i node keeps
     (λ x other. keeps_all (w.nodes x)) j
+
+-- so with its synchronisation
+jobs_put : (w : World) (i : ℕ) (node : Node) → KeepsJob (w.nodes i) node → (j : ℕ) → KeepsJob (w.nodes j) (put w.nodes i node j)
+jobs_put w i node keeps j = put_each (λ (x : ℕ) (y : Node). KeepsJob (w.nodes x) y) w.nodes i node keeps (λ x other. inl refl) j
 
 module _ (setting : Setting) (w : World) where
   -- the world after a brick's step, with these counted replies
@@ -69,11 +80,11 @@ module _ (setting : Setting) (w : World) where
       books_quiet setting w (put w.nodes brick.0 node) (with_held w.held brick.0 node) w.clocks (w.packets ++ packets) replies w.reached _ books
       (keeps_put w brick.0 node keeps.0)
       (λ j l. put_each (λ (x : ℕ) (y : Node). y.calls l ≡ (w.nodes x).calls l) w.nodes brick.0 node (keeps.1 l) (λ x other. refl) j)
+      (jobs_put w brick.0 node (inl keeps.2))
 
   books_nothing : (replies : Replies) (brick : BrickId) (node : Node) (packets : List Packet) → Books setting w
-      → KeepsNumbers (w.nodes brick.0) node → ((l : ℕ) → node.calls l ≡ (w.nodes brick.0).calls l)
-      → Books setting (stepped replies brick (sending node packets))
-  books_nothing replies brick node packets books keeps calls = books_silent replies brick node packets [] books (keeps, calls)
+      → KeepsCalls (w.nodes brick.0) node → Books setting (stepped replies brick (sending node packets))
+  books_nothing replies brick node packets books keeps = books_silent replies brick node packets [] books keeps
 
   -- the world in which a brick keeps what it is now
   pub books_kept : (me : BrickId) (node : Node) → Books setting w → KeepsCalls (w.nodes me.0) node → Books setting (kept_world w me node)
@@ -81,18 +92,29 @@ module _ (setting : Setting) (w : World) where
       books_quiet setting w (put w.nodes me.0 node) (with_held w.held me.0 node) w.clocks w.packets w.replies w.reached _ books
       (keeps_put w me.0 node keeps.0)
       (λ j l. put_each (λ (x : ℕ) (y : Node). y.calls l ≡ (w.nodes x).calls l) w.nodes me.0 node (keeps.1 l) (λ x other. refl) j)
+      (jobs_put w me.0 node (inl keeps.2))
 
   -- a brick that changes nothing
   books_no_step : (replies : Replies) (brick : BrickId) → Books setting w
       → Books setting (stepped replies brick (no_step (w.nodes brick.0)))
   books_no_step replies brick books =
-      books_nothing replies brick (w.nodes brick.0) [] books (keeps_all (w.nodes brick.0)) (λ l. refl)
+      books_nothing replies brick (w.nodes brick.0) [] books (keeps_itself (w.nodes brick.0))
 
   -- a brick that learns of a time
   books_known : (replies : Replies) (brick : BrickId) (known : ℕ) → Books setting w → (w.nodes brick.0).known ≤ known
       → Books setting (stepped replies brick (no_step (with_known (w.nodes brick.0) known)))
   books_known replies brick known books grows =
-      books_nothing replies brick (with_known (w.nodes brick.0) known) [] books (keeps_known (w.nodes brick.0) known grows) (λ l. refl)
+      books_nothing replies brick (with_known (w.nodes brick.0) known) [] books (keeps_known (w.nodes brick.0) known grows, λ l. refl, refl)
+
+  -- a synchronisation ends that has no read open
+  pub books_dropped : (me : BrickId) (packets : List Packet) (report : Report) → Books setting w → HasNoRead (w.nodes me.0)
+      → Books setting (world_stepped setting w me (reporting (with_job (w.nodes me.0) None) packets report))
+  books_dropped me packets report books ended =
+      let node : Node = with_job (w.nodes me.0) None in
+      books_quiet setting w (put w.nodes me.0 node) (with_held w.held me.0 node) w.clocks (w.packets ++ packets) w.replies w.reached _ books
+      (keeps_put w me.0 node (record { boot = refl; seq = omega arith; known = omega arith }))
+      (λ j l. put_each (λ (x : ℕ) (y : Node). y.calls l ≡ (w.nodes x).calls l) w.nodes me.0 node refl (λ x other. refl) j)
+      (jobs_put w me.0 node (inr (refl, ended)))
 
   -- a request
   books_requested : (replies : Replies) (me from : BrickId) (call : Call) (request : Request) → Books setting w
@@ -100,15 +122,15 @@ module _ (setting : Setting) (w : World) where
   books_requested replies me from call request books =
       request_each (λ (step : NodeStep). Books setting (stepped replies me step)) setting me from (w.nodes me.0) call request
       (books_no_step replies me books)
-      (λ moved is. books_nothing replies me (w.nodes me.0) (reply_packets me from call (Some moved)) books (keeps_all (w.nodes me.0)) (λ l. refl))
+      (λ moved is. books_nothing replies me (w.nodes me.0) (reply_packets me from call (Some moved)) books (keeps_itself (w.nodes me.0)))
       (λ group seat here served.
       let reaction = handle setting.code group.m (full_at setting.layout.records (w.nodes me.0).live) seat (replica_at (w.nodes me.0) call) request in
       books_nothing replies me (with_replica (w.nodes me.0) call reaction) (reply_packets me from call reaction.reply) books
-      (record { boot = refl; seq = omega arith; known = omega arith }) (λ l. refl))
+      (record { boot = refl; seq = omega arith; known = omega arith }, λ l. refl, refl))
       (λ group ballot asked here.
       let vote : Voted = vote_at (w.nodes me.0) call ballot asked in
       books_nothing replies me (with_vote (w.nodes me.0) call vote) (reply_packets me from call (Some vote.reply)) books
-      (record { boot = refl; seq = omega arith; known = omega arith }) (λ l. refl))
+      (record { boot = refl; seq = omega arith; known = omega arith }, λ l. refl, refl))
 
   -- a brick begins a proposal
   books_proposed : (me : BrickId) (group : GroupId) (members : List BrickId) → Books setting w
@@ -117,7 +139,7 @@ module _ (setting : Setting) (w : World) where
       proposed_each (λ (step : NodeStep). Books setting (stepped w.replies me step)) setting me (w.nodes me.0) group members
       (λ seq round proposal packets reports more are.
       books_silent w.replies me (record (w.nodes me.0) { seq = seq; round = round; proposal = proposal }) packets reports books
-      (record { boot = refl; seq = more; known = omega arith }, λ l. refl))
+      (record { boot = refl; seq = more; known = omega arith }, λ l. refl, refl))
 
 -- what an operation made is of its stamp and on its base, whatever else its coordinator holds
 made_same : (c d : Coordinator) (o : Operation) (p q : Phase) → d.stamp ≡ c.stamp → d.base ≡ c.base → q ≡ p → MadeInPhase c o p → MadeInPhase d o q
@@ -275,8 +297,51 @@ fresh_is me view now boot known t is =
 pub brick_of : (a b : BrickId) → a.0 ≡ b.0 → a ≡ b
 brick_of a b same = ap (λ (x : ℕ). let b : BrickId = record { 0 = x } in b) same
 
+-- an answer that is no abort
+answered_unless : (answer : Answer) → not (is_some (abort_cause answer)) ≡ is_answer answer
+answered_unless (Data bytes) = refl
+answered_unless Done = refl
+answered_unless (Aborted cause) = refl
+
+-- a group that is kept is the layout's
+kept_is : (layout : Layout) (members : List BrickId) (g : ℕ) (group : Group) → group_kept layout members g ≡ Some group
+    → (own : Group) × (group_of layout g ≡ Some own) × (group.stripes ≡ own.stripes)
+kept_is layout members g group is = by (group_of layout g) refl is
+  where
+    by : (z : Option Group) → group_of layout g ≡ z → option_map (kept_by members) z ≡ Some group
+        → (own : Group) × (group_of layout g ≡ Some own) × (group.stripes ≡ own.stripes)
+    by None at found = absurd (let never : None ≡ Some group = found in cc)
+    by (Some own) at found = (own, at, ap (λ (x : Group). x.stripes) (sym (same_Some (kept_by members own) group found)))
+
+-- what a synchronisation reads next is a stripe of its group
+next_readable : (group : Group) (stripes : ℕ) (attempt next : Attempt) (cause : Option Cause) → stripes ≡ group.stripes → IsReadable group attempt.stripe
+    → job_after stripes attempt cause ≡ Reads next → IsReadable group next.stripe
+next_readable group stripes attempt next None same readable =
+    cond_both (nat_lt (attempt.stripe + 1) stripes) (Reads (record { stripe = attempt.stripe + 1; tries = 1 })) Finishes
+    (λ (z : JobNext). z ≡ Reads next → IsReadable group next.stripe)
+    (λ few is.
+    let one : record { stripe = attempt.stripe + 1; tries = 1 } ≡ next = cc in
+    let less : attempt.stripe + 1 < stripes = ltb-true (attempt.stripe + 1) stripes few in
+    let at : attempt.stripe + 1 ≡ next.stripe = ap (λ (a : Attempt). a.stripe) one in
+    inr (omega arith))
+    (λ all is. absurd (let never : Finishes ≡ Reads next = is in cc))
+next_readable group stripes attempt next (Some cause) same readable =
+    cond_both (nat_lt attempt.tries most_tries) (Reads (record { stripe = attempt.stripe; tries = attempt.tries + 1 })) (GivesUp cause)
+    (λ (z : JobNext). z ≡ Reads next → IsReadable group next.stripe)
+    (λ few is.
+    let one : record { stripe = attempt.stripe; tries = attempt.tries + 1 } ≡ next = cc in
+    let at : attempt.stripe ≡ next.stripe = ap (λ (a : Attempt). a.stripe) one in
+    subst (λ (s : ℕ). IsReadable group s) at readable)
+    (λ all is. absurd (let never : GivesUp cause ≡ Reads next = is in cc))
+
+-- a read that ends leaves its brick up
+closed_up : (setting : Setting) (w : World) (me : BrickId) (known : ℕ) (c : Coordinator) (answer : Answer) (seen stored : Option Stamp)
+    → (closed_world setting w me known c answer seen stored).up me.0 ≡ w.up me.0
+closed_up setting w me known c answer None stored = refl
+closed_up setting w me known c answer (Some v) stored = refl
+
 -- brick me took a reply, which counts in coordinator c, and knows this time; a new round would have this stamp
-module _ (setting : Setting) (w : World) (replies : Replies) (me : BrickId) (now known : ℕ) (c : Coordinator) (counted : List Counted)
+module _ (setting : Setting) (w : World) (me : BrickId) (now known : ℕ) (c : Coordinator) (counted : List Counted)
     (books : Books setting w) (is_call : IsCall w me.0 c.call.seq c) (grows : (w.nodes me.0).known ≤ known) where
   abbrev i : ℕ
   i = me.0
@@ -327,6 +392,10 @@ module _ (setting : Setting) (w : World) (replies : Replies) (me : BrickId) (now
   keeps_call : (time busy : ℕ) (d : Option Coordinator) → node.known ≤ time
       → (j : ℕ) → KeepsNumbers (w.nodes j) (put w.nodes i (with_call node time busy k d) j)
   keeps_call time busy d later = keeps_put w i (with_call node time busy k d) (keeps_with_call node time busy k d later)
+
+  jobs_call : (time busy : ℕ) (d : Option Coordinator) (j : ℕ) → (put w.nodes i (with_call node time busy k d) j).job ≡ (w.nodes j).job
+  jobs_call time busy d j =
+      put_each (λ (x : ℕ) (y : Node). y.job ≡ (w.nodes x).job) w.nodes i (with_call node time busy k d) refl (λ x other. refl) j
 
   -- the time that brick i then knows
   own_known : (time busy : ℕ) (d : Option Coordinator) → time ≡ (put w.nodes i (with_call node time busy k d) i).known
@@ -390,9 +459,9 @@ module _ (setting : Setting) (w : World) (replies : Replies) (me : BrickId) (now
   abbrev n : ℕ
   n = number_of w i k
 
-  -- the operation once it is answered
-  abbrev ended : Answer → Option Stamp → Operation
-  ended answer seen = record {
+  -- the operation once it ended
+  abbrev ended : Bool → Option (Option Cause) → Option Stamp → Operation
+  ended answered closed seen = record {
     brick = mine.operation.brick;
     boot = mine.operation.boot;
     seq = mine.operation.seq;
@@ -401,51 +470,89 @@ module _ (setting : Setting) (w : World) (replies : Replies) (me : BrickId) (now
     version = version_after mine.operation.version seen;
     made = mine.operation.made;
     base = mine.operation.base;
-    answered = is_answer answer;
+    answered = answered;
     mark = mine.operation.mark;
-    closed = mine.operation.closed;
+    closed = closed;
     view = mine.operation.view;
     floor = mine.operation.floor;
   }
 
-  -- an operation ends
-  books_ends : (answer : Answer) (seen stored : Option Stamp) → EndFits c.phase answer seen → (mark : ℕ) → mark ≡ n → (operations : ℕ → Option Operation)
-      → operations n ≡ Some (ended answer seen) → ((m : ℕ) → m ≢ n → operations m ≡ w.operations m)
-      → Books setting (ended_world w (put w.nodes i (with_call node known (node.busy - 1) k None))
-      (with_held w.held i (with_call node known (node.busy - 1) k None)) (w.packets ++ collect_packets me c stored) operations replies
-      (choices_after w.choices me (with_call node known (node.busy - 1) k None) []) mark answer)
-  books_ends answer seen stored fits mark own operations is_ended others =
-      subst (λ (m : ℕ). Books setting (ended_world w (put w.nodes i (with_call node known (node.busy - 1) k None))
-      (with_held w.held i (with_call node known (node.busy - 1) k None)) (w.packets ++ collect_packets me c stored) operations replies
-      (choices_after w.choices me (with_call node known (node.busy - 1) k None) []) m answer)) (sym own)
-      (books_ended setting w i k c mine.operation (ended answer seen) answer (put w.nodes i (with_call node known (node.busy - 1) k None))
-      (with_held w.held i (with_call node known (node.busy - 1) k None)) (w.packets ++ collect_packets me c stored) operations replies
-      (choices_after w.choices me (with_call node known (node.busy - 1) k None) []) books
-      (record {
-        was = is_call;
-        operation_was = mine.operation_is;
-        brick = refl;
-        boot = refl;
-        seq = refl;
-        begin = refl;
-        ask = refl;
-        mark = refl;
-        answered = refl;
-        answered_version = λ is. ends_version c mine.operation c.phase answer seen mine.made fits is;
-        keeps = keeps_call known (node.busy - 1) None grows;
-        call_is = call_put known (node.busy - 1) None;
-        other_calls = other_put known (node.busy - 1) None;
-        operation_is = is_ended;
-        other_operations = others;
-      }))
+  -- what an end leaves
+  end_fits : (busy : ℕ) (answer : Answer) (answered : Bool) (closed : Option (Option Cause)) (seen : Option Stamp) → EndFits c.phase answer seen
+      → (answered ≡ true → is_answer answer ≡ true) → (operations : ℕ → Option Operation) → operations n ≡ Some (ended answered closed seen)
+      → ((m : ℕ) → m ≢ n → operations m ≡ w.operations m)
+      → Ended w i k c mine.operation (ended answered closed seen) (put w.nodes i (with_call node known busy k None)) operations
+  end_fits busy answer answered closed seen fits answers operations is_ended others = record {
+    was = is_call;
+    operation_was = mine.operation_is;
+    same = record { brick = refl; boot = refl; seq = refl; ask = refl; mark = refl; view = refl };
+    begin = refl;
+    answered_version = λ is. ends_version c mine.operation c.phase answer seen mine.made fits (answers is);
+    keeps = keeps_call known busy None grows;
+    jobs = jobs_call known busy None;
+    call_is = call_put known busy None;
+    other_calls = other_put known busy None;
+    operation_is = is_ended;
+    other_operations = others;
+  }
+
+  -- the brick once the call is gone
+  abbrev left : ℕ → Node
+  left busy = with_call node known busy k None
+
+  -- the world with these operations and marks
+  abbrev end_world : ℕ → Option Stamp → (ℕ → Option Operation) → List Mark → World
+  end_world busy stored operations marks =
+      ended_world w (put w.nodes i (left busy)) (with_held w.held i (left busy)) (w.packets ++ collect_packets me c stored) operations w.replies
+      (choices_after w.choices me (left busy) []) marks
+
+  -- an operation that has marks ends
+  books_ends : (answer : Answer) (seen stored : Option Stamp) → EndFits c.phase answer seen → 1 ≤ mine.operation.mark → (mark : ℕ)
+      → mark ≡ mine.operation.mark → (operations : ℕ → Option Operation) → operations n ≡ Some (ended (is_answer answer) mine.operation.closed seen)
+      → ((m : ℕ) → m ≢ n → operations m ≡ w.operations m)
+      → Books setting (end_world (node.busy - 1) stored operations (w.marks ++ (End (length w.marks) mark answer ∷ [])))
+  books_ends answer seen stored fits from mark own operations is_ended others =
+      subst (λ (m : ℕ). Books setting (end_world (node.busy - 1) stored operations (w.marks ++ (End (length w.marks) m answer ∷ [])))) (sym own)
+      (books_ended setting w i k c mine.operation (ended (is_answer answer) mine.operation.closed seen) (put w.nodes i (left (node.busy - 1)))
+      (with_held w.held i (left (node.busy - 1))) (w.packets ++ collect_packets me c stored) operations w.replies
+      (choices_after w.choices me (left (node.busy - 1)) []) books
+      (end_fits (node.busy - 1) answer (is_answer answer) mine.operation.closed seen fits (λ is. is) operations is_ended others) answer from refl refl)
+
+  -- a read of a synchronisation ends
+  books_shut : (answer : Answer) (seen stored : Option Stamp) → EndFits c.phase answer seen → mine.operation.mark ≡ 0
+      → (operations : ℕ → Option Operation) → operations n ≡ Some (ended (not (is_some (abort_cause answer))) (Some (abort_cause answer)) seen)
+      → ((m : ℕ) → m ≢ n → operations m ≡ w.operations m) → Books setting (end_world node.busy stored operations w.marks)
+  books_shut answer seen stored fits none operations is_ended others =
+      let answered : Bool = not (is_some (abort_cause answer)) in
+      books_closed setting w i k c mine.operation (ended answered (Some (abort_cause answer)) seen) (put w.nodes i (left node.busy))
+      (with_held w.held i (left node.busy)) (w.packets ++ collect_packets me c stored) operations w.replies (choices_after w.choices me (left node.busy) []) books
+      (end_fits node.busy answer answered (Some (abort_cause answer)) seen fits (λ is. sym (answered_unless answer) ∙ is) operations is_ended others)
+      (abort_cause answer) none refl refl
+
+  books_closes : (answer : Answer) (seen stored : Option Stamp) → EndFits c.phase answer seen → mine.operation.mark ≡ 0
+      → Books setting (closed_world setting w me known c answer seen stored)
+  books_closes answer None stored fits none =
+      let cause : Option Cause = abort_cause answer in
+      books_shut answer None stored fits none (put w.operations n (with_closed cause (w.operations n)))
+      (put_same w.operations n (with_closed cause (w.operations n)) ∙ ap (λ (x : Option Operation). with_closed cause x) mine.operation_is)
+      (λ m other. put_other w.operations n (with_closed cause (w.operations n)) m other)
+  books_closes answer (Some v) stored fits none =
+      let cause : Option Cause = abort_cause answer in
+      let seen : ℕ → Option Operation = put w.operations n (with_seen v (w.operations n)) in
+      books_shut answer (Some v) stored fits none (put seen n (with_closed cause (seen n)))
+      (put_same seen n (with_closed cause (seen n))
+      ∙ ap (λ (x : Option Operation). with_closed cause x)
+      (put_same w.operations n (with_seen v (w.operations n)) ∙ ap (λ (x : Option Operation). with_seen v x) mine.operation_is))
+      (λ m other. put_other seen n (with_closed cause (seen n)) m other ∙ put_other w.operations n (with_seen v (w.operations n)) m other)
 
   -- what a brick does with what its coordinator decided
   books_carried_out : (next : Next) → NextFits fresh then' next
-      → Books setting (stepped setting w replies me (carried_out setting me node known c next))
-  books_carried_out Ignores fits = absurd fits
-  books_carried_out (Waits d) fits =
+      → ((answer : Answer) (seen stored : Option Stamp) → next ≡ Ends answer seen stored → 1 ≤ mine.operation.mark)
+      → Books setting (world_stepped setting w me (carried_out setting me node known c next))
+  books_carried_out Ignores fits marked = absurd fits
+  books_carried_out (Waits d) fits marked =
       books_turned setting w i k c d mine.operation mine.operation (put w.nodes i (with_call node known node.busy k (Some d))) (with_held w.held i (with_call node known node.busy k (Some d))) (w.packets ++ [])
-      w.operations w.contents replies _ books
+      w.operations w.contents w.replies _ books
       (record {
         was = is_call;
         operation_was = mine.operation_is;
@@ -454,18 +561,19 @@ module _ (setting : Setting) (w : World) (replies : Replies) (me : BrickId) (now
         call_view = waits_view c d mine.call_view fits.stamp fits.phase fits.call;
         rounds = subst (λ (x : ℕ). (1 ≤ x) × (x ≤ most_rounds)) (sym fits.round) mine.rounds;
         in_round = round_same c d c.phase d.phase (ap (λ (x : Call). x.phase) fits.call) fits.round fits.phase mine.in_round;
-        same_ask = record { brick = refl; boot = refl; seq = refl; begin = refl; ask = refl; mark = refl; view = refl; answered = refl };
+        same_ask = record { brick = refl; boot = refl; seq = refl; begin = refl; ask = refl; mark = refl; view = refl; answered = refl; closed = refl };
         made = made_same c d mine.operation c.phase d.phase fits.stamp fits.base fits.phase mine.made;
         keeps = keeps_call known node.busy (Some d) grows;
+        jobs = jobs_call known node.busy (Some d);
         call_is = call_put known node.busy (Some d);
         other_calls = other_put known node.busy (Some d);
         operation_is = mine.operation_is;
         other_operations = λ m other. refl;
       })
-  books_carried_out (Sends d) fits =
+  books_carried_out (Sends d) fits marked =
       let time : ℕ = max known d.stamp.time in
       books_turned setting w i k c d mine.operation mine.operation (put w.nodes i (with_call node time node.busy k (Some d))) (with_held w.held i (with_call node time node.busy k (Some d)))
-      (w.packets ++ phase_packets setting me d) w.operations w.contents replies _ books
+      (w.packets ++ phase_packets setting me d) w.operations w.contents w.replies _ books
       (record {
         was = is_call;
         operation_was = mine.operation_is;
@@ -474,15 +582,16 @@ module _ (setting : Setting) (w : World) (replies : Replies) (me : BrickId) (now
         call_view = asks_sends d fits.call fits.how;
         rounds = rounds_sends d fits.how;
         in_round = round_next fresh then' d fits (round_same c then' c.phase c.phase refl refl refl mine.in_round);
-        same_ask = record { brick = refl; boot = refl; seq = refl; begin = refl; ask = refl; mark = refl; view = refl; answered = refl };
+        same_ask = record { brick = refl; boot = refl; seq = refl; begin = refl; ask = refl; mark = refl; view = refl; answered = refl; closed = refl };
         made = made_sends d fits.how;
         keeps = keeps_call time node.busy (Some d) (omega arith);
+        jobs = jobs_call time node.busy (Some d);
         call_is = call_put time node.busy (Some d);
         other_calls = other_put time node.busy (Some d);
         operation_is = mine.operation_is;
         other_operations = λ m other. refl;
       })
-  books_carried_out (Makes d) fits =
+  books_carried_out (Makes d) fits marked =
       let o : Operation = record {
         brick = mine.operation.brick;
         boot = mine.operation.boot;
@@ -500,7 +609,7 @@ module _ (setting : Setting) (w : World) (replies : Replies) (me : BrickId) (now
       } in
       books_turned setting w i k c d mine.operation o (put w.nodes i (with_call node known node.busy k (Some d))) (with_held w.held i (with_call node known node.busy k (Some d)))
       (w.packets ++ phase_packets setting me d) (put w.operations n (with_made d.stamp d.base (w.operations n)))
-      (with_content setting.layout.block w.contents d.stamp d.base (w.operations n)) replies _ books
+      (with_content setting.layout.block w.contents d.stamp d.base (w.operations n)) w.replies _ books
       (record {
         was = is_call;
         operation_was = mine.operation_is;
@@ -509,26 +618,108 @@ module _ (setting : Setting) (w : World) (replies : Replies) (me : BrickId) (now
         call_view = next_view then' d (ap (λ (x : Stamp). x.view) fits.stamp) fits.call;
         rounds = subst (λ (x : ℕ). (1 ≤ x) × (x ≤ most_rounds)) (sym fits.round) mine.rounds;
         in_round = round_made d fits.phase;
-        same_ask = record { brick = refl; boot = refl; seq = refl; begin = refl; ask = refl; mark = refl; view = refl; answered = refl };
+        same_ask = record { brick = refl; boot = refl; seq = refl; begin = refl; ask = refl; mark = refl; view = refl; answered = refl; closed = refl };
         made = made_now d o fits.phase (refl, refl, refl);
         keeps = keeps_call known node.busy (Some d) grows;
+        jobs = jobs_call known node.busy (Some d);
         call_is = call_put known node.busy (Some d);
         other_calls = other_put known node.busy (Some d);
         operation_is = put_same w.operations n (with_made d.stamp d.base (w.operations n))
             ∙ ap (λ (x : Option Operation). with_made d.stamp d.base x) mine.operation_is;
         other_operations = λ m other. put_other w.operations n (with_made d.stamp d.base (w.operations n)) m other;
       })
-  books_carried_out (Ends answer None stored) fits =
-      books_ends answer None stored fits.0 _ (own_number w.marked w.begun w.operations books.own n) (put w.operations n (with_answer answer (w.operations n)))
+  books_carried_out (Ends answer None stored) fits marked =
+      books_ends answer None stored fits.0 (marked answer None stored refl) _ (mark_at w.operations n mine.operation mine.operation_is)
+      (put w.operations n (with_answer answer (w.operations n)))
       (put_same w.operations n (with_answer answer (w.operations n)) ∙ ap (λ (x : Option Operation). with_answer answer x) mine.operation_is)
       (λ m other. put_other w.operations n (with_answer answer (w.operations n)) m other)
-  books_carried_out (Ends answer (Some v) stored) fits =
+  books_carried_out (Ends answer (Some v) stored) fits marked =
       let seen : ℕ → Option Operation = put w.operations n (with_seen v (w.operations n)) in
-      books_ends answer (Some v) stored fits.0 _ (own_seen w.marked w.begun w.operations books.own n v) (put seen n (with_answer answer (seen n)))
+      books_ends answer (Some v) stored fits.0 (marked answer (Some v) stored refl) _ (mark_seen w.operations n v mine.operation mine.operation_is)
+      (put seen n (with_answer answer (seen n)))
       (put_same seen n (with_answer answer (seen n))
       ∙ ap (λ (x : Option Operation). with_answer answer x)
       (put_same w.operations n (with_seen v (w.operations n)) ∙ ap (λ (x : Option Operation). with_seen v x) mine.operation_is))
       (λ m other. put_other seen n (with_answer answer (seen n)) m other ∙ put_other w.operations n (with_seen v (w.operations n)) m other)
+
+  -- an operation that ends, and is no read of the synchronisation, has marks
+  ends_marked : (next : Next) (reading : Option Job) → job_reading node.job k ≡ reading → ClosesNone reading next
+      → (answer : Answer) (seen stored : Option Stamp) → next ≡ Ends answer seen stored → 1 ≤ mine.operation.mark
+  ends_marked next None is none answer seen stored ends = call_marked setting w i k c mine is
+  ends_marked next (Some job) is none answer seen stored ends = absurd (none job answer seen stored refl ends)
+
+  -- a read of the synchronisation ends, and that goes on
+  after_closed : (job : Job) → job_reading node.job k ≡ Some job → (answer : Answer) (seen stored : Option Stamp) → EndFits c.phase answer seen
+      → AfterClose (Books setting) setting (closed_world setting w me known c answer seen stored) me now job
+      (job_after c.group.stripes job.attempt (abort_cause answer))
+  after_closed job reading answer seen stored fits =
+      let is = reading_is node.job k job reading in
+      let x : World = closed_world setting w me known c answer seen stored in
+      let booked : Books setting x =
+      books_closes answer seen stored fits (call_unmarked setting w i k c mine job (books.jobs i job is.0) is.1) in
+      let here : x.nodes i ≡ left node.busy = put_same w.nodes i (left node.busy) in
+      let over : HasNoRead (x.nodes i) = subst HasNoRead (sym here) none_left in
+      record {
+        stays = books_no_step setting x x.replies me booked;
+        ends = λ told. books_dropped setting x me [] (Report.Sync job.group told) booked over;
+        finishes = λ finished.
+            books_dropped setting x me (synced_packets me job.group job.view.number setting.layout.bricks 0) (Report.Sync job.group (synced_answer job.view.number))
+            booked over;
+        reads = λ attempt group goes found.
+            (let own = kept_is setting.layout job.view.members job.group.0 group found in
+            books_read setting x me now (record job { attempt = attempt }) group own.0 booked (closed_up setting w me known c answer seen stored ∙ mine.up)
+            over own.1 own.2 (reads_on own.0 own.1 attempt goes));
+      }
+    where
+      -- the next stripe is one of the group
+      reads_on : (group : Group) → group_of setting.layout job.group.0 ≡ Some group → (attempt : Attempt)
+          → job_after c.group.stripes job.attempt (abort_cause answer) ≡ Reads attempt → IsReadable group attempt.stripe
+      reads_on group found attempt goes =
+          let is = reading_is node.job k job reading in
+          let its : JobBooks w i job = books.jobs i job is.0 in
+          let there : w.operations n ≡ Some its.operation =
+          subst (λ (l : ℕ). IsOperation w (number_of w i l) its.operation) is.1 its.operation_is in
+          let one : its.operation ≡ mine.operation = same_Some its.operation mine.operation (sym there ∙ mine.operation_is) in
+          let ask : mine.operation.ask ≡ job_ask job = ap (λ (x : Operation). x.ask) (sym one) ∙ its.ask in
+          let own : OperationBooks setting w n mine.operation = books.operations n mine.operation mine.operation_is in
+          let same : own.group ≡ group =
+          same_Some own.group group (sym own.group_is ∙ ap (λ (a : Ask). group_of setting.layout a.group.0) ask ∙ found) in
+          let readable : IsReadable group job.attempt.stripe =
+          subst (λ (g : Group). IsReadable g job.attempt.stripe) same (subst (λ (a : Ask). IsReadable own.group a.stripe.0) ask own.readable) in
+          next_readable group c.group.stripes job.attempt attempt (abort_cause answer)
+          (mine.stripes group (ap (λ (a : Ask). group_of setting.layout a.group.0) (mine.ask ∙ ask) ∙ found)) readable goes
+
+      none_left : HasNoRead (left node.busy)
+      none_left one at =
+          let is = reading_is node.job k job reading in
+          let same : job ≡ one = same_Some job one (sym is.0 ∙ at) in
+          ap (put node.calls k None) (ap (λ (j : Job). j.seq) (sym same) ∙ is.1) ∙ put_same node.calls k None
+
+  -- what a brick does with what a coordinator decided
+  books_carried_for : (next : Next) → NextFits fresh then' next
+      → Books setting (world_stepped setting w me (carried_for setting me now node known c next (job_reading node.job k)))
+  books_carried_for next fits =
+      closing_each (Books setting) setting w me now known c next (job_reading node.job k)
+      (λ none. books_carried_out next fits (ends_marked next (job_reading node.job k) refl none))
+      (λ job reading answer seen stored ends.
+      after_closed job reading answer seen stored (let had : NextFits fresh then' (Ends answer seen stored) = subst (NextFits fresh then') ends fits in had.0))
+
+-- a brick that may begin to synchronise is up, and does not yet
+sync_up : (setting : Setting) (w : World) (me : BrickId) (group : GroupId) → may_sync setting w me group ≡ true → w.up me.0 ≡ true
+sync_up setting w me group may =
+    let both = and_parts (is_up setting.layout w me) (not (is_some (sync_refusal setting.layout (w.nodes me.0) group.0))) may in
+    (and_parts (is_brick setting.layout me) (w.up me.0) both.0).1
+
+no_job : (job : Option Job) (group : Option Group) → is_some (sync_refusal_in job group) ≡ false → job ≡ None
+no_job job None free = absurd (false≢true (sym free))
+no_job None (Some group) free = refl
+no_job (Some job) (Some group) free = absurd (false≢true (sym free))
+
+pub sync_free : (setting : Setting) (w : World) (me : BrickId) (group : GroupId) → may_sync setting w me group ≡ true → (w.nodes me.0).job ≡ None
+unfolding sync_refusal
+sync_free setting w me group may =
+    let both = and_parts (is_up setting.layout w me) (not (is_some (sync_refusal setting.layout (w.nodes me.0) group.0))) may in
+    no_job (w.nodes me.0).job (group_of setting.layout group.0) (not-true _ both.1)
 
 -- what a reply makes known is no less
 pub known_grows : (known : ℕ) (reply : Reply) → known ≤ known_after known reply
@@ -537,59 +728,107 @@ known_grows known reply = omega arith
 
 module _ (setting : Setting) (w : World) where
   -- a reply
-  books_counted_at : (replies : Replies) (me : BrickId) (now : ℕ) (from : BrickId) (reply : Reply) (c : Coordinator)
+  books_counted_at : (me : BrickId) (now : ℕ) (from : BrickId) (reply : Reply) (c : Coordinator)
       (seat : Option ℕ) → Books setting w → IsCall w me.0 c.call.seq c
       → (let known = known_after (w.nodes me.0).known reply in
-      Books setting (stepped setting w replies me (carried_out setting me (w.nodes me.0) known c
-      (counted_at setting.layout.block setting.code (fresh_stamp me c.stamp.view now (w.nodes me.0).boot known) c from reply seat))))
-  books_counted_at replies me now from reply c None books is_call =
-      books_known setting w replies me (known_after (w.nodes me.0).known reply) books (known_grows (w.nodes me.0).known reply)
-  books_counted_at replies me now from reply c (Some seat) books is_call =
+      Books setting (world_stepped setting w me (carried_for setting me now (w.nodes me.0) known c
+      (counted_at setting.layout.block setting.code (fresh_stamp me c.stamp.view now (w.nodes me.0).boot known) c from reply seat)
+      (job_reading (w.nodes me.0).job c.call.seq))))
+  books_counted_at me now from reply c None books is_call =
+      let known = known_after (w.nodes me.0).known reply in
+      closing_each (Books setting) setting w me now known c Ignores (job_reading (w.nodes me.0).job c.call.seq)
+      (λ none. books_known setting w w.replies me known books (known_grows (w.nodes me.0).known reply))
+      (λ job reading answer seen stored ends. absurd (let never : Ignores ≡ Ends answer seen stored = ends in cc))
+  books_counted_at me now from reply c (Some seat) books is_call =
       let known = known_after (w.nodes me.0).known reply in
       let fresh = fresh_stamp me c.stamp.view now (w.nodes me.0).boot known in
-      books_carried_out setting w replies me now known c (with_reply c seat from reply).counted books is_call
+      books_carried_for setting w me now known c (with_reply c seat from reply).counted books is_call
       (known_grows (w.nodes me.0).known reply)
       (once_full setting.layout.block setting.code fresh (with_reply c seat from reply))
       (once_full_fits setting.layout.block setting.code fresh (with_reply c seat from reply))
 
-  books_replied_at : (replies : Replies) (me : BrickId) (now : ℕ) (from : BrickId) (call : Call) (reply : Reply)
+  -- once a reply ended a read of a synchronisation, before that goes on
+  pub books_closing : (me : BrickId) (now : ℕ) (from : BrickId) (call : Call) (reply : Reply) (c : Coordinator) → Books setting w
+      → IsCall w me.0 c.call.seq c → (job : Job) → job_reading (w.nodes me.0).job c.call.seq ≡ Some job
+      → (answer : Answer) (seen stored : Option Stamp)
+      → (let known = known_after (w.nodes me.0).known reply in
+      on_reply setting.layout.block setting.code (fresh_stamp me c.stamp.view now (w.nodes me.0).boot known) c from call reply ≡ Ends answer seen stored)
+      → Books setting (closed_world setting w me (known_after (w.nodes me.0).known reply) c answer seen stored)
+  unfolding on_reply mine
+  books_closing me now from call reply c books is_call job reading answer seen stored =
+      by (counts_at setting.layout.block c from.0 call reply)
+    where
+      known : ℕ
+      known = known_after (w.nodes me.0).known reply
+
+      fresh : Option Stamp
+      fresh = fresh_stamp me c.stamp.view now (w.nodes me.0).boot known
+
+      by : (seat : Option ℕ) → counted_at setting.layout.block setting.code fresh c from reply seat ≡ Ends answer seen stored
+          → Books setting (closed_world setting w me known c answer seen stored)
+      by None ends = absurd (let never : Ignores ≡ Ends answer seen stored = ends in cc)
+      by (Some seat) ends =
+          let had : NextFits fresh (with_reply c seat from reply) (Ends answer seen stored) =
+          subst (NextFits fresh (with_reply c seat from reply)) ends
+          (once_full_fits setting.layout.block setting.code fresh (with_reply c seat from reply)) in
+          let is = reading_is (w.nodes me.0).job c.call.seq job reading in
+          books_closes setting w me now known c (with_reply c seat from reply).counted books is_call (known_grows (w.nodes me.0).known reply)
+          answer seen stored had.0
+          (call_unmarked setting w me.0 c.call.seq c (books.calls me.0 c.call.seq c is_call) job (books.jobs me.0 job is.0) is.1)
+
+  books_replied_at : (me : BrickId) (now : ℕ) (from : BrickId) (call : Call) (reply : Reply)
       (found : Option Coordinator) → Books setting w → (w.nodes me.0).calls call.seq ≡ found
-      → Books setting (stepped setting w replies me (replied_at setting me now from (w.nodes me.0) call reply found))
+      → Books setting (world_stepped setting w me (replied_at setting me now from (w.nodes me.0) call reply found))
   unfolding on_reply
-  books_replied_at replies me now from call reply None books is =
+  books_replied_at me now from call reply None books is =
       let known : ℕ = known_after (w.nodes me.0).known reply in
-      ballot_each (λ (step : NodeStep). Books setting (stepped setting w replies me step)) setting.layout me from (with_known (w.nodes me.0) known) call reply
+      ballot_each (λ (step : NodeStep). Books setting (world_stepped setting w me step)) setting.layout me from (with_known (w.nodes me.0) known) call reply
       (w.nodes me.0).proposal (λ seq round proposal packets reports more are.
-      books_silent setting w replies me (record (w.nodes me.0) { known = known; seq = seq; round = round; proposal = proposal }) packets reports books
-      (record { boot = refl; seq = more; known = known_grows (w.nodes me.0).known reply }, λ l. refl))
-  books_replied_at replies me now from call reply (Some c) books is =
+      books_silent setting w w.replies me (record (w.nodes me.0) { known = known; seq = seq; round = round; proposal = proposal }) packets reports books
+      (record { boot = refl; seq = more; known = known_grows (w.nodes me.0).known reply }, λ l. refl, refl))
+  books_replied_at me now from call reply (Some c) books is =
       let seq : c.call.seq ≡ call.seq = (books.calls me.0 call.seq c is).call_seq in
-      books_counted_at replies me now from reply c (counts_at setting.layout.block c from.0 call reply) books
+      books_counted_at me now from reply c (counts_at setting.layout.block c from.0 call reply) books
       (subst (λ (l : ℕ). IsCall w me.0 l c) (sym seq) is)
+
+  -- a brick begins to synchronise
+  books_synced : (me : BrickId) (now : ℕ) (group : GroupId) → Books setting w → may_sync setting w me group ≡ true
+      → Books setting (world_stepped setting w me (synced_at setting me now (w.nodes me.0) group))
+  books_synced me now group books may =
+      let none : (w.nodes me.0).job ≡ None = sync_free setting w me group may in
+      let over : HasNoRead (w.nodes me.0) = λ job is. absurd (let never : None ≡ Some job = sym none ∙ is in cc) in
+      synced_at_each (λ (step : NodeStep). Books setting (world_stepped setting w me step)) setting me now (w.nodes me.0) group
+      (books_no_step setting w w.replies me books)
+      (λ answer. books_silent setting w w.replies me (w.nodes me.0) [] (Report.Sync group answer ∷ []) books (keeps_itself (w.nodes me.0)))
+      (λ answer. books_dropped setting w me [] (Report.Sync group answer) books over)
+      (λ kept is.
+      let job : Job = begun_job group ((w.nodes me.0).learnt group.0).view in
+      let found = kept_is setting.layout job.view.members group.0 kept is in
+      books_read setting w me now job kept found.0 books (sync_up setting w me group may) over found.1 found.2 (inl refl))
 
 -- a brick that is taught a view keeps its numbers and calls
 pub taught_keeps : (block g : ℕ) (node : Node) (view : Option View) → KeepsCalls node (node_taught_by block g node view)
 taught_keeps block g node view =
     told_each (λ (n : Node). KeepsCalls node n) block g node view (keeps_itself node)
-    (λ v later. (record { boot = refl; seq = omega arith; known = omega arith }, λ l. refl))
+    (λ v later. (record { boot = refl; seq = omega arith; known = omega arith }, λ l. refl, refl))
 
 pub synced_keeps : (layout : Layout) (node : Node) (group : GroupId) (number : ViewNo) → KeepsCalls node (node_synced layout node group number)
 synced_keeps layout node group number =
     synced_each (λ (n : Node). KeepsCalls node n) layout node group number (keeps_itself node)
-    (λ now unsynced. (record { boot = refl; seq = omega arith; known = omega arith }, λ l. refl))
+    (λ now unsynced. (record { boot = refl; seq = omega arith; known = omega arith }, λ l. refl, refl))
 
 pub learnt_keeps : (layout : Layout) (node : Node) (group : GroupId) (view : View) → KeepsCalls node (node_learnt layout node group view)
 learnt_keeps layout node group view =
     learnt_each (λ (n : Node). KeepsCalls node n) layout node group view (keeps_itself node)
-    (λ later. (record { boot = refl; seq = omega arith; known = omega arith }, λ l. refl))
+    (λ later. (record { boot = refl; seq = omega arith; known = omega arith }, λ l. refl, refl))
 
 -- so does one that hears what a reply teaches
 pub hearing_keeps : (setting : Setting) (w : World) (me from : BrickId) (call : Call) (reply : Reply)
     → KeepsCalls (w.nodes me.0) (taught_by setting w me from call reply)
 hearing_keeps setting w me from call reply =
     told_each (λ (n : Node). KeepsCalls (w.nodes me.0) n) setting.layout.block call.group.0 (with_round (w.nodes me.0) reply)
-    (view_counted setting.layout from (w.nodes me.0) call reply) (record { boot = refl; seq = omega arith; known = omega arith }, λ l. refl)
-    (λ v later. (record { boot = refl; seq = omega arith; known = omega arith }, λ l. refl))
+    (view_counted setting.layout from (w.nodes me.0) call reply) (record { boot = refl; seq = omega arith; known = omega arith }, λ l. refl, refl)
+    (λ v later. (record { boot = refl; seq = omega arith; known = omega arith }, λ l. refl, refl))
 
 module _ (setting : Setting) (w : World) where
   books_heard : (me : BrickId) (now : ℕ) (from : BrickId) (call : Call) (reply : Reply)
@@ -597,11 +836,11 @@ module _ (setting : Setting) (w : World) where
   books_heard me now from call reply books =
       hearing_each (Books setting) setting w me now from call reply
       (books_silent setting w w.replies me (with_known (with_round (w.nodes me.0) reply) (known_after (w.nodes me.0).known reply)) [] [] books
-      (record { boot = refl; seq = omega arith; known = known_grows (w.nodes me.0).known reply }, λ l. refl))
+      (record { boot = refl; seq = omega arith; known = known_grows (w.nodes me.0).known reply }, λ l. refl, refl))
       (let node : Node = taught_by setting w me from call reply in
       let keeps = hearing_keeps setting w me from call reply in
       let x : World = kept_world w me node in
-      books_replied_at setting x x.replies me now from call reply ((w.nodes me.0).calls call.seq) (books_kept setting w me node books keeps)
+      books_replied_at setting x me now from call reply ((w.nodes me.0).calls call.seq) (books_kept setting w me node books keeps)
       (ap (λ (n : Node). n.calls call.seq) (put_same w.nodes me.0 node) ∙ keeps.1 call.seq))
 
   -- a message
@@ -621,7 +860,7 @@ module _ (setting : Setting) (w : World) where
   pub books_beside : (replies : Replies) (reached : ℕ → Bool) (choices : Choices) → Books setting w
       → Books setting (record w { replies = replies; reached = reached; choices = choices })
   books_beside replies reached choices books =
-      books_quiet setting w w.nodes w.held w.clocks w.packets replies reached choices books (λ i. keeps_all (w.nodes i)) (λ i k. refl)
+      books_quiet setting w w.nodes w.held w.clocks w.packets replies reached choices books (λ i. keeps_all (w.nodes i)) (λ i k. refl) (λ i. inl refl)
 
 -- a message is handled
 books_handled : (setting : Setting) (w : World) (number : ℕ) (packet : Packet) → Books setting w → Books setting (world_handled setting w number packet)
@@ -696,8 +935,8 @@ pub requested_keeps : (setting : Setting) (me from : BrickId) (node : Node) (cal
     → KeepsCalls node (requested setting me from node call request).node
 requested_keeps setting me from node call request =
     request_each (λ (step : NodeStep). KeepsCalls node step.node) setting me from node call request (keeps_itself node) (λ moved is. keeps_itself node)
-    (λ group seat here served. (record { boot = refl; seq = omega arith; known = omega arith }, λ l. refl))
-    (λ group ballot asked here. (record { boot = refl; seq = omega arith; known = omega arith }, λ l. refl))
+    (λ group seat here served. (record { boot = refl; seq = omega arith; known = omega arith }, λ l. refl, refl))
+    (λ group ballot asked here. (record { boot = refl; seq = omega arith; known = omega arith }, λ l. refl, refl))
 
 -- so does what it keeps of a message
 pub kept_keeps : (setting : Setting) (me : BrickId) (node : Node) (from to : BrickId) (message : Message)
@@ -735,7 +974,8 @@ module _ (setting : Setting) (w : World) where
   books_found brick Before down leaves books = books
   books_found brick After down leaves books =
       let keeps : (i : ℕ) → KeepsCalls (w.nodes i) ((world_found w brick After).nodes i) = found_keeps brick After down leaves in
-      books_quiet setting w (put w.nodes brick.0 (w.after brick.0)) (with_held w.held brick.0 (w.after brick.0)) w.clocks w.packets w.replies w.reached _ books (λ i. (keeps i).0) (λ i. (keeps i).1)
+      books_quiet setting w (put w.nodes brick.0 (w.after brick.0)) (with_held w.held brick.0 (w.after brick.0)) w.clocks w.packets w.replies w.reached _ books
+      (λ i. (keeps i).0) (λ i. (keeps i).1) (λ i. inl (keeps i).2)
 
   -- a brick may start that is down, and its store is opened at least once
   pub start_fits : (brick : BrickId) (openings : ℕ) → may_start setting.layout w brick openings ≡ true
@@ -752,12 +992,13 @@ module _ (setting : Setting) (w : World) where
   books_cases leaves books = record {
     begins = λ brick ask may. books_invoked setting w brick (w.clocks brick.0) ask books may;
     proposes = λ brick group members may. books_proposed setting w brick group members books;
+    syncs = λ brick group may. books_synced setting w brick (w.clocks brick.0) group books may;
     handles = λ number packet at up. books_handled setting w number packet books;
     sets = λ brick time is.
-        books_quiet setting w w.nodes w.held (put w.clocks brick.0 time) w.packets w.replies w.reached _ books (λ i. keeps_all (w.nodes i)) (λ i k. refl);
+        books_quiet setting w w.nodes w.held (put w.clocks brick.0 time) w.packets w.replies w.reached _ books (λ i. keeps_all (w.nodes i)) (λ i k. refl) (λ i. inl refl);
     ticks = λ brick up.
         books_quiet setting w w.nodes w.held w.clocks (w.packets ++ ticked setting brick (w.nodes brick.0)) w.replies w.reached _ books
-        (λ i. keeps_all (w.nodes i)) (λ i k. refl);
+        (λ i. keeps_all (w.nodes i)) (λ i k. refl) (λ i. inl refl);
     stops = λ brick during up. books_stopped setting w brick during books;
     starts = λ brick openings found may.
         (let fits = start_fits brick openings may in
@@ -775,11 +1016,16 @@ books_first setting = record {
   };
   places = λ k mark is. absurd (let never : None ≡ Some mark = is in cc);
   boots = λ i. omega arith;
-  own = record { count = refl; each = λ n o is. absurd (let never : None ≡ Some o = is in cc) };
+  own = record {
+    within = λ n o is. absurd (let never : None ≡ Some o = is in cc);
+    in_turn = λ n m o p is. absurd (let never : None ≡ Some o = is in cc);
+    each = λ mark low high. absurd (omega arith);
+  };
   all_begun = λ n low high. absurd (omega arith);
   operations = λ n o is. absurd (let never : None ≡ Some o = is in cc);
   calls = λ i k c is. absurd (let never : None ≡ Some c = is in cc);
   fresh_calls = λ i k lt. refl;
+  jobs = λ i job is. absurd (let never : None ≡ Some job = is in cc);
   lives = λ n life is. absurd (let never : None ≡ Some life = is in cc);
 }
 

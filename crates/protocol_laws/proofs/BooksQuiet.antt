@@ -1,21 +1,21 @@
 -- The books of a world where a brick changed its part of a stripe, or learnt of a time, where a clock was set or ticks, or where a stopped brick was
 -- started again.
 use Rattle.fab_base.specs.declared.stamps.Stamp.{Stamp}
-use Rattle.std.proofs.Common.{◌≡◌, ◌≢◌, ℕ, ◌+◌, ◌≤◌, ⊎_elim, Bool, true, false, None, Some, refl, sym, ap, ◌∙◌, subst, arith, List}
+use Rattle.std.proofs.Common.{◌≡◌, ◌≢◌, ℕ, ◌+◌, ◌≤◌, ⊎_elim, inl, Bool, true, false, None, Some, refl, sym, ap, ◌∙◌, subst, arith, List}
 use Rattle.std.specs.Prelude.{nat_eq, if◌then◌else◌}
 use Rattle.std.proofs.lemmas.Bool.{cases_eq, both_ways, ne_eqb}
 use Rattle.std.proofs.lemmas.Option.{same_Some}
 use Rattle.fab_base.specs.declared.identities.BrickId.{BrickId}
 use Rattle.messages.specs.declared.packets.Packet.{Packet}
-use Rattle.reg_model.specs.Marks.{Life, life_of, IsOpen}
+use Rattle.reg_model.specs.Marks.{Life, IsOpen}
 use Rattle.protocol.specs.Settings.{Setting}
 use Rattle.protocol.specs.declared.phases.Counted.{Counted}
 use Rattle.protocol.specs.Coordinators.{Coordinator}
+use Rattle.protocol.specs.Jobs.{Job}
 use Rattle.protocol.specs.Nodes.{Node, put, no_calls, restarted}
 use Rattle.protocol.specs.Worlds.{World, Operation, number_of, known_in, world_started, Choices}
-use Rattle.protocol_laws.proofs.Books.{Books, OperationBooks, CallBooks, IsCall}
-use Rattle.protocol_laws.proofs.BooksKept.{KeepsNumbers, operation_stays, operation_kept, call_kept}
-use Rattle.reg_model.proofs.GrowingLives.{Stays-refl}
+use Rattle.protocol_laws.proofs.Books.{Books, OperationBooks, LifeBooks, CallBooks, JobBooks, IsCall}
+use Rattle.protocol_laws.proofs.BooksKept.{KeepsNumbers, KeepsJob, keeps_read, job_was, lives_same, operation_stays, operation_kept, call_kept, keeps_ask, job_kept}
 use Rattle.protocol.proofs.Puts.{put_other}
 use Rattle.protocol.proofs.Tables.{put_same}
 
@@ -41,12 +41,13 @@ quiet_world w nodes held clocks packets replies reached choices =
       reached = reached;
     }
 
--- bricks that keep their calls and numbers keep the books
+-- bricks that keep their calls and numbers keep the books; a synchronisation ends only where its read has
 pub books_quiet : (setting : Setting) (w : World) (nodes : ℕ → Node) (held : ℕ → ℕ → ℕ → Stamp → Bool) (clocks : ℕ → ℕ) (packets : List Packet) (replies : ℕ → ℕ → List Counted)
     (reached : ℕ → Bool) (choices : Choices) → Books setting w
     → ((i : ℕ) → KeepsNumbers (w.nodes i) (nodes i)) → ((i k : ℕ) → (nodes i).calls k ≡ (w.nodes i).calls k)
+    → ((i : ℕ) → KeepsJob (w.nodes i) (nodes i))
     → Books setting (quiet_world w nodes held clocks packets replies reached choices)
-books_quiet setting w nodes held clocks packets replies reached choices books keeps calls =
+books_quiet setting w nodes held clocks packets replies reached choices books keeps calls jobs =
     let later : World = quiet_world w nodes held clocks packets replies reached choices in
     record {
       well_formed = books.well_formed;
@@ -56,14 +57,19 @@ books_quiet setting w nodes held clocks packets replies reached choices books ke
       all_begun = books.all_begun;
       operations = λ n o is. (let mine : OperationBooks setting w n o = books.operations n o is in
           let seqs : (w.nodes o.brick.0).seq ≤ (nodes o.brick.0).seq = (keeps o.brick.0).seq in
-          operation_kept setting w later n o mine (omega arith) refl (keeps o.brick.0).boot (omega arith) (Stays-refl (life_of w.marks n))
+          operation_kept setting w later n o mine (omega arith) refl (keeps o.brick.0).boot (omega arith) (lives_same w later o refl)
           (λ boot c call. (c, calls o.brick.0 o.seq ∙ call)));
-      calls = λ i k c is. call_kept setting w later i k c (books.calls i k c (sym (calls i k) ∙ is)) refl (keeps i).boot
-          (ap (λ (b : ℕ). w.numbers i b k) (keeps i).boot) refl (keeps i).known
-          (Stays-refl (life_of w.marks (number_of w i k)))
-          (λ o at. ((books.operations (number_of w i k) o at).life, (books.operations (number_of w i k) o at).life_is));
+      calls = λ i k c is.
+          (let was : IsCall w i k c = sym (calls i k) ∙ is in
+          let mine : CallBooks setting w i k c = books.calls i k c was in
+          call_kept setting w later i k c was mine refl (keeps i).boot (ap (λ (b : ℕ). w.numbers i b k) (keeps i).boot) refl (keeps i).known
+          (lives_same w later mine.operation refl) (books.operations (number_of w i k)) (keeps_read (w.nodes i) (nodes i) (jobs i)));
       fresh_calls = λ i k lt. (let seqs : (w.nodes i).seq ≤ (nodes i).seq = (keeps i).seq in
           calls i k ∙ books.fresh_calls i k (omega arith));
+      jobs = λ i job is.
+          (let was : (w.nodes i).job ≡ Some job = job_was (w.nodes i) (nodes i) job (jobs i) is in
+          job_kept w later i job (books.jobs i job was) (keeps i).boot (ap (λ (b : ℕ). w.numbers i b job.seq) (keeps i).boot)
+          (λ o at. (o, at, keeps_ask o)));
       lives = books.lives;
     }
 
@@ -151,10 +157,11 @@ module _ (setting : Setting) (w : World) (brick : BrickId) (openings : ℕ) (boo
       let boot : (w.nodes o.brick.0).boot ≡ (w.nodes i).boot = ap (λ (j : ℕ). (w.nodes j).boot) at in
       let now : (later.nodes o.brick.0).boot ≡ (w.nodes i).boot + openings = ap (λ (j : ℕ). (later.nodes j).boot) at ∙ own_boot in
       let least : o.boot ≤ (w.nodes o.brick.0).boot = mine.booted.1 in
-      operation_stays setting w later n o mine (omega arith) refl (omega arith) (λ same. absurd (omega arith)) (Stays-refl (life_of w.marks n))
-      (λ life is open'.
-      let one : mine.life ≡ life = same_Some mine.life life (sym mine.life_is ∙ is) in
-      let call = (mine.open_call (subst (λ (x : Life). IsOpen (Some x)) (sym one) open')).1 in
+      operation_stays setting w later n o mine (omega arith) refl (omega arith) (λ same. absurd (omega arith)) (lives_same w later o refl)
+      (λ from life is open'.
+      let lived : LifeBooks w o = mine.lived from in
+      let one : lived.life ≡ life = same_Some lived.life life (sym lived.life_is ∙ is) in
+      let call = (lived.open_call (subst (λ (x : Life). IsOpen (Some x)) (sym one) open')).1 in
       absurd (none_open o.seq call.0 (subst (λ (j : ℕ). IsCall w j o.seq call.0) at call.1)))
 
   -- an operation of another brick
@@ -162,7 +169,7 @@ module _ (setting : Setting) (w : World) (brick : BrickId) (openings : ℕ) (boo
   other_stays n o mine other =
       let same : later.nodes o.brick.0 ≡ w.nodes o.brick.0 = unstarted o.brick.0 other in
       let seqs : (later.nodes o.brick.0).seq ≡ (w.nodes o.brick.0).seq = ap (λ (x : Node). x.seq) same in
-      operation_kept setting w later n o mine (omega arith) refl (ap (λ (x : Node). x.boot) same) (omega arith) (Stays-refl (life_of w.marks n))
+      operation_kept setting w later n o mine (omega arith) refl (ap (λ (x : Node). x.boot) same) (omega arith) (lives_same w later o refl)
       (λ boot c call. (c, ap (λ (x : Node). x.calls o.seq) same ∙ call))
 
   -- a call of another brick
@@ -172,9 +179,17 @@ module _ (setting : Setting) (w : World) (brick : BrickId) (openings : ℕ) (boo
       let boot : (later.nodes j).boot ≡ (w.nodes j).boot = ap (λ (x : Node). x.boot) same in
       let knows : (later.nodes j).known ≡ (w.nodes j).known = ap (λ (x : Node). x.known) same in
       let old : IsCall w j k c = sym (ap (λ (x : Node). x.calls k) same) ∙ is in
-      call_kept setting w later j k c (books.calls j k c old) (other_up j other) boot (ap (λ (b : ℕ). w.numbers j b k) boot) refl (omega arith)
-      (Stays-refl (life_of w.marks (number_of w j k)))
-      (λ o at. ((books.operations (number_of w j k) o at).life, (books.operations (number_of w j k) o at).life_is))
+      let mine : CallBooks setting w j k c = books.calls j k c old in
+      call_kept setting w later j k c old mine (other_up j other) boot (ap (λ (b : ℕ). w.numbers j b k) boot) refl (omega arith)
+      (lives_same w later mine.operation refl) (books.operations (number_of w j k)) (inl (ap (λ (x : Node). x.job) same))
+
+  -- the synchronisation of another brick
+  other_job : (j : ℕ) (job : Job) → j ≢ i → (later.nodes j).job ≡ Some job → JobBooks later j job
+  other_job j job other is =
+      let same : later.nodes j ≡ w.nodes j = unstarted j other in
+      let boot : (later.nodes j).boot ≡ (w.nodes j).boot = ap (λ (x : Node). x.boot) same in
+      job_kept w later j job (books.jobs j job (sym (ap (λ (x : Node). x.job) same) ∙ is)) boot (ap (λ (b : ℕ). w.numbers j b job.seq) boot)
+      (λ o at. (o, at, keeps_ask o))
 
   -- a start keeps the books
   pub books_started : Books setting later
@@ -206,6 +221,12 @@ module _ (setting : Setting) (w : World) (brick : BrickId) (openings : ℕ) (boo
         let same : later.nodes j ≡ w.nodes j = unstarted j other in
         let seqs : (later.nodes j).seq ≡ (w.nodes j).seq = ap (λ (x : Node). x.seq) same in
         ap (λ (x : Node). x.calls k) same ∙ books.fresh_calls j k (omega arith))
+        (cases_eq j i);
+    jobs = λ j job is. ⊎_elim
+        (λ (mine : j ≡ i).
+        let none : (later.nodes j).job ≡ None = ap (λ (x : ℕ). (later.nodes x).job) mine ∙ ap (λ (x : Node). x.job) own_node in
+        absurd (let never : None ≡ Some job = sym none ∙ is in cc))
+        (λ (other : j ≢ i). other_job j job other is)
         (cases_eq j i);
     lives = books.lives;
   }

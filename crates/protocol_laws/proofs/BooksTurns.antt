@@ -1,5 +1,5 @@
 -- The books of a world where an open operation went on at its coordinator.
-use Rattle.std.proofs.Common.{◌≡◌, ◌≢◌, ℕ, ◌<◌, ◌≤◌, ⊎_elim, false, Option, Some, None, refl, sym, ap, ◌∙◌, subst, arith, List, Bool}
+use Rattle.std.proofs.Common.{◌≡◌, ◌≢◌, ℕ, ◌<◌, ◌≤◌, ⊎_elim, inl, false, Option, Some, None, refl, sym, ap, ◌∙◌, subst, arith, List, Bool}
 use Rattle.std.proofs.lemmas.Option.{same_Some}
 use Rattle.std.proofs.lemmas.Bool.{cases_eq, both_ways}
 use Rattle.fab_base.specs.declared.stamps.Stamp.{Stamp}
@@ -10,12 +10,11 @@ use Rattle.protocol.specs.Settings.{Setting}
 use Rattle.protocol.specs.declared.phases.Counted.{Counted}
 use Rattle.protocol.specs.Coordinators.{Coordinator, most_rounds, asked_view}
 use Rattle.protocol.specs.Nodes.{Node}
-use Rattle.protocol.specs.Worlds.{World, Operation, own_mark, number_of, Choices}
-use Rattle.protocol_laws.proofs.Books.{Books, OperationBooks, CallBooks, IsOperation, IsCall, MadeInPhase, InRound}
+use Rattle.protocol.specs.Worlds.{World, Operation, number_of, Choices}
+use Rattle.protocol_laws.proofs.Books.{Books, IsReadable, OperationBooks, LifeBooks, UnmarkedBooks, CallBooks, IsOperation, IsCall, MadeInPhase, InRound}
 use Rattle.protocol_laws.proofs.MarkNumbers.{own_by}
-use Rattle.protocol_laws.proofs.BooksKept.{KeepsNumbers, operation_kept, call_kept, number_at, calls_apart, cases_call}
+use Rattle.protocol_laws.proofs.BooksKept.{KeepsNumbers, KeepsAsk, keeps_ask, lives_same, operation_kept, call_kept, job_kept, number_at, calls_apart, cases_call}
 use Rattle.protocol_laws.proofs.Outcomes.{SameOperation}
-use Rattle.reg_model.proofs.GrowingLives.{Stays-refl}
 
 -- what is known of an operation that is open, but for its version
 pub record SameAsk (o later : Operation) : Type 0 where
@@ -27,6 +26,7 @@ pub record SameAsk (o later : Operation) : Type 0 where
   pub mark : later.mark ≡ o.mark
   pub view : later.view ≡ o.view
   pub answered : later.answered ≡ o.answered
+  pub closed : later.closed ≡ o.closed
 
 -- a stamp of an operation, its view and its boot, whose brick knows this time
 pub record IsBookedStamp (known : ℕ) (o : Operation) (t : Stamp) : Type 0 where
@@ -48,6 +48,7 @@ pub record Turned (w : World) (i k : ℕ) (c d : Coordinator) (before o : Operat
   pub same_ask : SameAsk before o
   pub made : MadeInPhase d o d.phase
   pub keeps : (j : ℕ) → KeepsNumbers (w.nodes j) (nodes j)
+  pub jobs : (j : ℕ) → (nodes j).job ≡ (w.nodes j).job
   pub call_is : (nodes i).calls k ≡ Some d
   pub other_calls : (j l : ℕ) → (j ≡ i → l ≡ k → ⊥) → (nodes j).calls l ≡ (w.nodes j).calls l
   pub operation_is : operations (number_of w i k) ≡ Some o
@@ -96,6 +97,10 @@ module _ (setting : Setting) (w : World) (i k : ℕ) (c d : Coordinator) (before
   own_number : number_of later i k ≡ number_of w i k
   own_number = ap (λ (b : ℕ). w.numbers i b k) (turned.keeps i).boot
 
+  -- the operation keeps its marks
+  own_mark : o.mark ≡ call.operation.mark
+  own_mark = turned.same_ask.mark ∙ ap (λ (x : Operation). x.mark) (sym same_before)
+
   -- another call is of another operation
   other_number : (j l : ℕ) (e : Coordinator) → IsCall w j l e → (j ≡ i → l ≡ k → ⊥) → number_of w j l ≢ number_of w i k
   other_number j l e is other same =
@@ -125,12 +130,60 @@ module _ (setting : Setting) (w : World) (i k : ℕ) (c d : Coordinator) (before
         call_group = turned.same.group ∙ call.call_group ∙ sym (ap (λ a. a.group) turned.same.ask);
         call_view = turned.call_view;
         call_stripe = turned.same.stripe ∙ call.call_stripe ∙ sym (ap (λ a. a.stripe) turned.same.ask);
+        stripes = λ group is.
+            ap (λ (g : Group). g.stripes) turned.same.members
+            ∙ call.stripes group (sym (ap (λ a. Rattle.fab_base.specs.Layouts.group_of setting.layout a.group.0) turned.same.ask) ∙ is);
         rounds = turned.rounds;
         in_round = turned.in_round;
         made = turned.made;
-        unended = λ life is. call.unended life (sym (ap (λ (n : ℕ). life_of w.marks n) own_number) ∙ is);
+        unended = λ from life is.
+            (let mark : o.mark ≡ call.operation.mark = own_mark in
+            call.unended (omega arith) life (ap (λ (m : ℕ). life_of w.marks m) (sym mark) ∙ is));
+        unclosed = turned.same_ask.closed ∙ ap (λ (x : Operation). x.closed) (sym same_before) ∙ call.unclosed;
         unanswered = turned.same_ask.answered ∙ ap (λ (x : Operation). x.answered) (sym same_before) ∙ call.unanswered;
+        reads = λ none. (let old = call.reads (sym own_mark ∙ none) in (old.0, turned.jobs i ∙ old.1, old.2));
       }
+
+  -- the operation's life at the turn
+  own_life : 1 ≤ o.mark → LifeBooks later o
+  unfolding call_books
+  own_life from =
+      let mark : o.mark ≡ before.mark = turned.same_ask.mark in
+      let old : LifeBooks w before = own.lived (omega arith) in
+      let at : o.brick.0 ≡ i = call_books.brick in
+      record {
+        life = old.life;
+        life_is = ap (λ (m : ℕ). life_of w.marks m) mark ∙ old.life_is;
+        begin = old.begin ∙ sym turned.same_ask.begin;
+        brick = old.brick ∙ ap (λ b. b.0) (sym turned.same_ask.brick);
+        ask = old.ask ∙ sym turned.same_ask.ask;
+        answered = λ is. absurd (both_ways o.answered call_books.unanswered is);
+        answered_only = λ is. turned.same_ask.answered ∙ old.answered_only is;
+        open_call = λ is. (
+          call_books.boot ∙ ap (λ (j : ℕ). (nodes j).boot) (sym at),
+          (d, subst (λ (j : ℕ). IsCall later j o.seq d) (sym at) (subst (λ (l : ℕ). IsCall later i l d) (sym call_books.seq) turned.call_is)),
+        );
+        unclosed = call_books.unclosed;
+      }
+
+  -- what the operations ask stays
+  goes_on : (n : ℕ) (x : Operation) → IsOperation w n x → (p : Operation) × IsOperation later n p × KeepsAsk x p
+  goes_on n x is = ⊎_elim
+      (λ (mine : n ≡ number_of w i k).
+      let one : before ≡ x = same_Some before x (sym turned.operation_was ∙ ap w.operations (sym mine) ∙ is) in (
+        o,
+        ap operations mine ∙ turned.operation_is,
+        subst (λ (y : Operation). KeepsAsk y o) one (record {
+          brick = turned.same_ask.brick;
+          boot = turned.same_ask.boot;
+          seq = turned.same_ask.seq;
+          ask = turned.same_ask.ask;
+          mark = turned.same_ask.mark;
+          view = turned.same_ask.view;
+        }),
+      ))
+      (λ (other : n ≢ number_of w i k). (x, turned.other_operations n other ∙ is, keeps_ask x))
+      (cases_eq n (number_of w i k))
 
   -- the operation's books at the turn
   own_books : OperationBooks setting later (number_of w i k) o
@@ -159,21 +212,19 @@ module _ (setting : Setting) (w : World) (i k : ℕ) (c d : Coordinator) (before
             ));
         group = own.group;
         group_is = ap (λ a. Rattle.fab_base.specs.Layouts.group_of setting.layout a.group.0) ask ∙ own.group_is;
-        stripe = subst (λ a. a.stripe.0 < own.group.stripes) (sym ask) own.stripe;
+        stripe = λ from. subst (λ a. a.stripe.0 < own.group.stripes) (sym ask) (own.stripe (let mark : o.mark ≡ before.mark = turned.same_ask.mark in omega arith));
+        readable = subst (λ a. IsReadable own.group a.stripe.0) (sym ask) own.readable;
         block_fits = ap (λ a. Rattle.protocol.specs.Nodes.has_block own.group.m a.op) ask ∙ own.block_fits;
         length_fits = ap (λ a. Rattle.protocol.specs.Nodes.has_length own.group.m setting.layout.block a.op) ask ∙ own.length_fits;
-        life = own.life;
-        life_is = own.life_is;
-        begin = own.begin ∙ sym turned.same_ask.begin;
-        brick = own.brick ∙ ap (λ b. b.0) (sym brick);
-        ask = own.ask ∙ sym ask;
-        answered = λ is. absurd (both_ways o.answered never is);
-        answered_only = λ is. turned.same_ask.answered ∙ own.answered_only is;
         answered_version = λ is. absurd (both_ways o.answered never is);
-        open_call = λ is. (
-          call_books.boot ∙ ap (λ (j : ℕ). (nodes j).boot) (sym at),
-          (d, subst (λ (j : ℕ). IsCall later j o.seq d) (sym at) (subst (λ (l : ℕ). IsCall later i l d) (sym call_books.seq) turned.call_is)),
-        );
+        lived = own_life;
+        unmarked = λ none.
+            (let old : UnmarkedBooks before = own.unmarked (sym turned.same_ask.mark ∙ none) in
+            record {
+              op = ap (λ a. a.op) ask ∙ old.op;
+              answered = λ is. absurd (both_ways o.answered never is);
+              answered_only = λ is. turned.same_ask.answered ∙ old.answered_only (sym turned.same_ask.closed ∙ is);
+            });
       }
 
   -- the turn of one open operation keeps the books
@@ -181,8 +232,7 @@ module _ (setting : Setting) (w : World) (i k : ℕ) (c d : Coordinator) (before
   books_turned = record {
     well_formed = books.well_formed;
     places = books.places;
-    own = own_by w.marked w.begun w.operations books.own (number_of w i k) operations
-        (ap (own_mark (number_of w i k)) turned.operation_is ∙ turned.same_ask.mark ∙ books.own.each (number_of w i k) before turned.operation_was)
+    own = own_by w.marked w.operations books.own (number_of w i k) before o operations turned.operation_was turned.operation_is turned.same_ask.mark
         turned.other_operations;
     boots = λ j. (let e : (nodes j).boot ≡ (w.nodes j).boot = (turned.keeps j).boot in omega (arith, books.boots j));
     all_begun = λ n low high. ⊎_elim
@@ -200,7 +250,7 @@ module _ (setting : Setting) (w : World) (i k : ℕ) (c d : Coordinator) (before
         let old : IsOperation w n x = sym (turned.other_operations n other) ∙ is in
         let mine : OperationBooks setting w n x = books.operations n x old in
         let seqs : (w.nodes x.brick.0).seq ≤ (nodes x.brick.0).seq = (turned.keeps x.brick.0).seq in
-        operation_kept setting w later n x mine (omega arith) refl (turned.keeps x.brick.0).boot (omega arith) (Stays-refl (life_of w.marks n))
+        operation_kept setting w later n x mine (omega arith) refl (turned.keeps x.brick.0).boot (omega arith) (lives_same w later x refl)
         (λ present e was. (e, turned.other_calls x.brick.0 x.seq (λ at seq. other (number_at setting w n x mine present i k at seq)) ∙ was)))
         (cases_eq n (number_of w i k));
     calls = λ j l e is. ⊎_elim
@@ -213,10 +263,10 @@ module _ (setting : Setting) (w : World) (i k : ℕ) (c d : Coordinator) (before
         (λ (other : j ≡ i → l ≡ k → ⊥).
         let old : IsCall w j l e = sym (turned.other_calls j l other) ∙ is in
         let number : number_of w j l ≢ number_of w i k = other_number j l e old other in
-        call_kept setting w later j l e (books.calls j l e old) refl (turned.keeps j).boot (ap (λ (b : ℕ). w.numbers j b l) (turned.keeps j).boot)
-        (turned.other_operations (number_of w j l) number) (turned.keeps j).known
-        (Stays-refl (life_of w.marks (number_of w j l)))
-        (λ x at. ((books.operations (number_of w j l) x at).life, (books.operations (number_of w j l) x at).life_is)))
+        let mine : CallBooks setting w j l e = books.calls j l e old in
+        call_kept setting w later j l e old mine refl (turned.keeps j).boot (ap (λ (b : ℕ). w.numbers j b l) (turned.keeps j).boot)
+        (turned.other_operations (number_of w j l) number) (turned.keeps j).known (lives_same w later mine.operation refl)
+        (books.operations (number_of w j l)) (inl (turned.jobs j)))
         (cases_call i k j l);
     fresh_calls = λ j l lt.
         (let seqs : (w.nodes j).seq ≤ (nodes j).seq = (turned.keeps j).seq in
@@ -224,5 +274,8 @@ module _ (setting : Setting) (w : World) (i k : ℕ) (c d : Coordinator) (before
         turned.other_calls j l (λ at seq. (let mine : (w.nodes i).calls k ≡ None =
         subst (λ (x : ℕ). (w.nodes x).calls k ≡ None) at (subst (λ (y : ℕ). (w.nodes j).calls y ≡ None) seq fresh) in
         let never : None ≡ Some c = sym mine ∙ turned.was in cc)) ∙ fresh);
+    jobs = λ j job is.
+        job_kept w later j job (books.jobs j job (sym (turned.jobs j) ∙ is)) (turned.keeps j).boot (ap (λ (b : ℕ). w.numbers j b job.seq) (turned.keeps j).boot)
+        (goes_on (number_of w j job.seq));
     lives = books.lives;
   }

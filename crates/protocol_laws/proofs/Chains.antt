@@ -19,9 +19,8 @@ use Rattle.reg_model.proofs.Versions.{versions_are_effective}
 use Rattle.protocol.specs.Views.{Views}
 use Rattle.protocol.specs.Settings.{Setting}
 use Rattle.protocol.specs.Worlds.{World, Operation}
-use Rattle.protocol.specs.Happenings.{is_of, entries_to, ascending, was_answered, base_of, Effect, effect_of}
+use Rattle.protocol.specs.Happenings.{is_of, entries_to, ascending, is_marked, was_answered, base_of, Effect, effect_of}
 use Rattle.protocol_laws.specs.Laws.{WasMadeOn, NeighboursFollow, LowestFollows}
-use Rattle.protocol_laws.proofs.MarkNumbers.{own_marked}
 use Rattle.protocol_laws.proofs.Books.{Books, OperationBooks, IsOperation}
 use Rattle.protocol_laws.proofs.Effects.{has_front, has_behind, IsSwept, IsAboveBase, answered_swept, needed_swept, version_swept, versions_all, versions_order, all_effective}
 use Rattle.protocol_laws.proofs.Entries.{IsEntryOf, entry_of, entries_of, entries_have}
@@ -173,13 +172,14 @@ module _ (setting : Setting) (views : Views) (w : World) (g s : ℕ) (books : Bo
       by (inl whole) = absurd (let never : None ≡ Some b = sym whole.0 ∙ own in cc)
       by (inr says) = record { mine = mine; says = says; base_is = same_Some says.base b (sym says.base_is ∙ own) }
 
-  -- an answered operation's version
+  -- the version of an answered operation that has marks
   pub record IsAnsweredVersion (t : Stamp) : Type 0 where
     pub number : ℕ
     pub operation : Operation
     pub is : IsOperation w number operation
     pub of : is_of g s operation ≡ true
     pub version : operation.version ≡ Some t
+    pub marked : is_marked operation ≡ true
     pub answered : operation.answered ≡ true
 
   -- is held by a quorum
@@ -232,14 +232,16 @@ module _ (setting : Setting) (views : Views) (w : World) (g s : ℕ) (books : Bo
   versions_effective =
       (all_effective w.operations IsAnsweredVersion base entries
       (All-weaker IsOurs (λ (e : Entry). was_answered (w.operations e.operation) ≡ true → IsAnsweredVersion e.stamp)
-      (λ e mine answered. record {
+      (λ e mine was. (let parts = and_parts (is_marked mine.operation) mine.operation.answered
+      (sym (ap (λ (o : Option Operation). was_answered o) mine.is) ∙ was) in record {
         number = e.operation;
         operation = mine.operation;
         is = mine.is;
         of = mine.of;
         version = mine.version;
-        answered = (and_parts _ _ (sym (ap (λ (o : Option Operation). was_answered o) mine.is) ∙ answered)).1;
-      })
+        marked = parts.0;
+        answered = parts.1;
+      }))
       entries entries_ours)
       (All-weaker (Contains entries) (λ (e : Entry). e.reader ≡ false → base e.stamp ≡ base_of (w.operations e.operation))
       (λ e has maker. base_is e has maker)
@@ -312,8 +314,7 @@ module _ (setting : Setting) (views : Views) (w : World) (g s : ℕ) (books : Bo
       → stamp_below first_stamp t ≡ true → Contains (effect_of w.operations (ascending (entries_to w.operations g s w.begun))).versions t
   complete t (Standing _ v) above =
       (answered_swept w.operations entries (entry_of v.number v.operation t) (has_entry v.number v.operation t v.is v.of v.version)
-      (ap (λ (o : Option Operation). was_answered o) v.is ∙ and_from _ _
-      (own_marked w.marked w.begun w.operations books.own v.number v.operation v.is (books.operations v.number v.operation v.is).from_one) v.answered)).version
+      (ap (λ (o : Option Operation). was_answered o) v.is ∙ and_from _ _ v.marked v.answered)).version
   complete t (BaseOf p _ effective on) above =
       base_found p t (complete p effective (above_first t p (base_facts.below p t on))) on above
 

@@ -4,7 +4,8 @@ use Rattle.std.proofs.lemmas.List.{append-nil}
 use Rattle.protocol.specs.Settings.{Setting, IsSound}
 use Rattle.protocol.specs.Views.{Views, views_in}
 use Rattle.protocol.specs.Worlds.{World, Event, first_world, run}
-use Rattle.protocol_laws.specs.Laws.{Follows, OldVersionsAreFound, DroppedAreReplaced, RefusalsWereTrue, WritesWereGuarded, Laws, EveryRunKeepsTheLaws}
+use Rattle.protocol_laws.specs.Laws.{Follows, OldVersionsAreFound, DroppedAreReplaced, SyncedStand, RefusalsWereTrue, WritesWereGuarded, Laws, EveryRunKeepsTheLaws}
+use Rattle.protocol_laws.specs.SyncEnds.{SyncsShow}
 use Rattle.protocol_laws.proofs.Books.{Books}
 use Rattle.protocol_laws.proofs.BooksEvents.{books}
 use Rattle.protocol_laws.proofs.Chains.{neighbours_follow, lowest_follows}
@@ -16,8 +17,9 @@ use Rattle.protocol_laws.proofs.SaidAlways.{always_said}
 use Rattle.view_laws.proofs.Followed.{every_run_follows}
 use Rattle.view_laws.specs.Syncs.{SyncsAreSaidIn}
 use Rattle.view_laws.proofs.SyncedViews.{syncs_are_said}
-use Rattle.protocol_laws.proofs.OldFound.{old_found}
+use Rattle.protocol_laws.proofs.OldFound.{synced_stand, old_found}
 use Rattle.protocol_laws.proofs.Replaced.{dropped_replaced}
+use Rattle.protocol_laws.proofs.TriesEvents.{always_tried, syncs_show}
 use Rattle.protocol_laws.proofs.ViewLaws.{one_content, writes_guarded, bases_newest, collects_stand, drops_older}
 use Rattle.protocol_laws.proofs.Tallies.{Tallied}
 use Rattle.protocol_laws.proofs.TalliesEvents.{tallied}
@@ -27,8 +29,10 @@ use Rattle.protocol_laws.proofs.Guards.{writes_were_guarded}
 
 -- the laws, from the books, from what quorums show, and from the history of replies
 laws : (setting : Setting) (views : Views) (w : World) (stamps : Stamping) → Books setting w → Said setting views w stamps → Follows setting.layout views w
-    → OldVersionsAreFound setting w → DroppedAreReplaced setting views w → WritesWereGuarded setting views w → QuorumFacts setting views w → Tallied w → IsNumbered w → RefusalsWereTrue setting w → Laws setting views w
-laws setting views w stamps booked said follows old replaced guards facts history numbered truths = record {
+    → OldVersionsAreFound setting w
+    → DroppedAreReplaced setting views w → SyncedStand setting views w → WritesWereGuarded setting views w → QuorumFacts setting views w → Tallied w
+    → SyncsShow w → IsNumbered w → RefusalsWereTrue setting w → Laws setting views w
+laws setting views w stamps booked said follows old replaced synced guards facts history stopped numbered truths = record {
   one_content = one_content setting views w stamps said;
   first_is_zero = facts.first;
   contents_are_made = facts.contents;
@@ -38,6 +42,7 @@ laws setting views w stamps booked said follows old replaced guards facts histor
   collects = collects_stand setting views w stamps said;
   drops = drops_older setting views w stamps said;
   replaced = replaced;
+  synced = synced;
   bases = bases_newest setting views w stamps said;
   bases_found = facts.bases_found;
   old_found = old;
@@ -45,7 +50,8 @@ laws setting views w stamps booked said follows old replaced guards facts histor
   lowest = λ g s. lowest_follows setting views w g s booked facts;
   real_time = facts.real_time;
   counted = history.counted;
-  aborts = λ k p n cause at. (let shown = history.aborts k p n cause at in (n, shown.0, shown.1, booked.own.each n shown.0 shown.1, shown.2));
+  aborts = history.aborts;
+  stopped = stopped;
   own_marks = booked.own;
   refusals = truths;
   full = facts.full;
@@ -65,9 +71,11 @@ every_run setting views events sound follows =
     laws setting views w said.0 (books setting events) said.1 (follows events [] (sym (append-nil events)))
     (old_found setting views sound w said.0 (books setting events) said.1 syncs.called)
     (dropped_replaced setting views sound w said.0 (books setting events) said.1 syncs)
+    (synced_stand setting views sound w said.0 (books setting events) said.1)
     (writes_were_guarded setting views events sound follows)
     (facts setting views sound w said.0 (books setting events) said.1)
     (tallied setting views events sound follows)
+    (syncs_show w (always_tried setting events) (tallied setting views events sound follows))
     (always_numbered setting events)
     (refusals_true setting events)
 

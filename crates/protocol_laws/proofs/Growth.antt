@@ -4,7 +4,7 @@ use Rattle.messages.specs.declared.requests.Look.TheVariants.{Below}
 use Rattle.protocol_laws.proofs.Tops.{before_floor}
 use Rattle.protocol.specs.Views.{Views, floor_of}
 use Rattle.protocol_laws.proofs.Logs.{IsWithin}
-use Rattle.std.proofs.Common.{◌≡◌, ℕ, ◌≤◌, ◌⊎◌, inl, inr, true, false, not, List, length, Option, Some, None, refl, sym, ap, ◌∙◌, subst, ⊎_elim, arith, []}
+use Rattle.std.proofs.Common.{◌≡◌, ℕ, ◌+◌, ◌≤◌, ◌⊎◌, inl, inr, true, false, not, List, length, Option, Some, None, refl, sym, ap, ◌∙◌, subst, ⊎_elim, arith, []}
 use Rattle.std.proofs.lemmas.Bool.{not-true, not_from_false, false≢true}
 use Rattle.fab_base.specs.declared.identities.BrickId.{BrickId}
 use Rattle.fab_base.specs.declared.stamps.Stamp.{Stamp}
@@ -31,13 +31,14 @@ use Rattle.protocol.specs.declared.phases.Phase.{Phase}
 use Rattle.protocol.specs.declared.phases.Phase.TheVariants.{Orders, Stores, Modifies, LooksBack}
 use Rattle.protocol.specs.declared.phases.Counted.{Counted}
 use Rattle.protocol.specs.Coordinators.{Coordinator, request_of, old_bound}
+use Rattle.protocol.specs.Jobs.{Job}
 use Rattle.protocol.specs.Worlds.{World, Operation}
 use Rattle.protocol.specs.Happenings.{writes}
 use Rattle.fab_base.specs.Layouts.{brick_at}
 use Rattle.protocol_laws.specs.Laws.{WasSent, AskedAt, IsModified, IsGuarded, NeverFalls, top_in, AtQuorum}
 use Rattle.protocol_laws.proofs.Books.{Books, OperationBooks, IsOperation}
 use Rattle.protocol_laws.proofs.Blocking.{PartsStay, blocked_stays, stands_stays, NewIsLogged}
-use Rattle.protocol_laws.proofs.Said.{Stamping, IsBegun, IsStamped, Stands, AreBlocked, IsMadeOrFirst, IsKnown, IsCalled, IsBlockOf, VersionSays, WriteSays, RequestSays, ReadSays, want_of, OrderedSays, OrderedReadSays, FoundSays, ReplySays, MessageSays, PacketSays, HasVersion, WritesWhole, ReadsBack, OperationSays, CountedSays, CallSays, DataShown, EndShows, FitsPhase, DescendsFrom, ToldSays, MakerSays, ChangesBlock, ModifySays, OrderSays, OrderReadSays, MadeOn, WasCollected, IsPassedOver, OldReadSays, OldSays, BackSays}
+use Rattle.protocol_laws.proofs.Said.{Stamping, IsBegun, IsStamped, Stands, AreBlocked, IsMadeOrFirst, IsKnown, IsCalled, IsBlockOf, VersionSays, WriteSays, RequestSays, ReadSays, want_of, OrderedSays, OrderedReadSays, FoundSays, ReplySays, MessageSays, PacketSays, HasVersion, WritesWhole, ReadsBack, OperationSays, CountedSays, CallSays, DataShown, EndShows, FitsPhase, DescendsFrom, ToldSays, MakerSays, ChangesBlock, ModifySays, OrderSays, OrderReadSays, MadeOn, WasCollected, IsPassedOver, OldReadSays, OldSays, BackSays, JobSays, ArePassed}
 use Rattle.protocol_laws.proofs.Stampings.{StampsGrow, stays_begun, stays_stamped, stays_known}
 use Rattle.protocol_laws.proofs.Counting.{each_then}
 use Rattle.protocol.proofs.Blocks.{IsContent}
@@ -55,6 +56,7 @@ pub record Continues (o p : Operation) : Type 0 where
   pub made : (v : Stamp) → o.version ≡ Some v → p.made ≡ o.made
   pub base : (v : Stamp) → o.version ≡ Some v → p.base ≡ o.base
   pub answered : o.answered ≡ true → p.answered ≡ true
+  pub mark : p.mark ≡ o.mark
 
 -- an unchanged operation goes on
 pub continues_same : (o : Operation) → Continues o o
@@ -70,6 +72,7 @@ continues_same o = record {
   made = λ v is. refl;
   base = λ v is. refl;
   answered = λ is. is;
+  mark = refl;
 }
 
 -- from one world to the next nothing that was said is lost
@@ -172,6 +175,10 @@ module _ (setting : Setting) (views : Views) (w next : World) (stamps later : St
   -- what is guarded stays guarded
   pub stays_guarded : (g s : ℕ) (group : Group) (t : Stamp) → IsGuarded w g s group t → IsGuarded next g s group t
   stays_guarded g s group t guarded = guarded_stays w next grows.parts.tops g s group t guarded
+
+  -- what was passed stays passed
+  pub stay_passed : (g most : ℕ) → ArePassed setting views w g most → ArePassed setting views next g most
+  stay_passed g most passed e s group least less is = stays_guarded g s group (floor_of (e + 1)) (passed e s group least less is)
 
   -- what is blocked stays blocked
   pub stay_blocked : (g s : ℕ) (Q : Stamp → Type 0) → AreBlocked setting views w g s Q → AreBlocked setting views next g s Q
@@ -500,6 +507,7 @@ module _ (setting : Setting) (views : Views) (w next : World) (stamps later : St
   stays_operation n o is says = record {
     begin = omega (arith, says.begin, grows.marks);
     view = (says.view.0, (let rises = grows.parts.views o.brick.0 o.ask.group.0 in let was = says.view.1 in omega (arith, rises, was)));
+    passed = stay_passed o.ask.group.0 o.view says.passed;
     floors = λ i. stays_above o.ask.group.0 o.ask.stripe.0 i (o.floor i) (says.floors i);
     floors_known = λ i. ⊎_elim
         (λ (known : IsKnown stamps (o.floor i)). inl (stays_known stamps later grows.grow (o.floor i) known))
@@ -588,12 +596,14 @@ module _ (setting : Setting) (views : Views) (w next : World) (stamps later : St
       → DataShown setting w n bytes
       → DataShown setting next n bytes
   stays_shown said n bytes shown =
-      let goes = grows.operations n shown.operation shown.is in
+      let goes = grows.operations shown.number shown.operation shown.is in
       let made : IsMadeOrFirst w shown.operation.ask.group.0 shown.operation.ask.stripe.0 shown.version
-      = ((said n shown.operation shown.is).version shown.version shown.version_is).made in
+      = ((said shown.number shown.operation shown.is).version shown.version shown.version_is).made in
       record {
         operation = goes.0;
+        number = shown.number;
         is = goes.1;
+        mark = goes.2.mark ∙ shown.mark;
         version = shown.version;
         version_is = goes.2.version shown.version shown.version_is;
         bytes_are = ap (λ (a : Ask). read_of setting.layout.block a.op (next.contents a.group.0 a.stripe.0 shown.version)) goes.2.ask
@@ -607,5 +617,17 @@ module _ (setting : Setting) (views : Views) (w next : World) (stamps later : St
       → EndShows setting w n answer → EndShows setting next n answer
   stays_end said n (Data bytes) shows = stays_shown said n bytes shows
   stays_end said n Done shows =
-      let goes = grows.operations n shows.0 shows.1 in (goes.0, goes.1, ap (λ a. writes a.op) goes.2.ask ∙ shows.2)
-  stays_end said n (Aborted cause) shows = let goes = grows.operations n shows.0 shows.1 in (goes.0, goes.1)
+      let goes = grows.operations shows.0 shows.1 shows.2 in
+      (shows.0, goes.0, goes.1, goes.2.mark ∙ shows.3, ap (λ a. writes a.op) goes.2.ask ∙ shows.4)
+  stays_end said n (Aborted cause) shows =
+      let goes = grows.operations shows.0 shows.1 shows.2 in (shows.0, goes.0, goes.1, goes.2.mark ∙ shows.3)
+
+  -- and the stripes that a synchronisation has read stay read
+  pub stays_job : (i : ℕ) (job : Job) → JobSays setting views w i job → JobSays setting views next i job
+  stays_job i job says = record {
+    known = (says.known.0, (let rises = grows.parts.views i job.group.0 in let was = says.known.1 in omega (arith, rises, was)));
+    members = says.members;
+    prior = says.prior;
+    passed = stay_passed job.group.0 job.view.number.0 says.passed;
+    read = λ s before. let had = says.read s before in (had.0, had.1, stays_standing job.group.0 s had.0 had.2);
+  }

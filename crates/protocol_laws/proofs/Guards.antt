@@ -16,7 +16,6 @@ use Rattle.messages.specs.declared.calls.Call.{Call}
 use Rattle.messages.specs.declared.packets.Message.{Message}
 use Rattle.messages.specs.declared.packets.Packet.{Packet}
 use Rattle.messages.specs.declared.replies.Reply.{Reply}
-use Rattle.reg_model.specs.Marks.{Life, life_of, IsOpen}
 use Rattle.protocol.specs.Settings.{Setting, Code, IsSound}
 use Rattle.protocol.specs.Views.{Views, view_told}
 use Rattle.protocol.specs.declared.phases.Counted.{Counted}
@@ -33,14 +32,14 @@ use Rattle.protocol_laws.proofs.Proposing.{AreOfViews, of_views_each, resent_of_
 use Rattle.protocol_laws.proofs.Teaching.{heard_each, replied_rests}
 use Rattle.protocol.specs.Replicas.{handle}
 use Rattle.protocol.specs.Coordinators.{mover_of, lower_mover, lowest_mover, aborted_moved, decided, Coordinator, Next, Ignores, Waits, Sends, Makes, Ends, with_reply, once_full, counted_at, counts_at, on_reply, request_of, asked_group}
-use Rattle.protocol.specs.Nodes.{Node, NodeStep, put, top_at, first_phase, phase_packets, new_coordinator, began, invoked, replica_at, full_at, known_after, fresh_stamp, carried_out, group_at, replied_at, heard, received, ticked, with_round, with_known, node_taught, node_taught_by, view_counted, counts_here, vote_at, replied_ballot, proposed, ballot_resent, synced_at, carried_for, job_reading, collect_packets, read_closed, synced_packets}
+use Rattle.protocol.specs.Nodes.{Node, NodeStep, put, top_at, first_phase, phase_packets, new_coordinator, began, invoked, replica_at, full_at, known_after, fresh_stamp, carried_out, group_at, replied_at, heard, received, ticked, with_round, with_known, node_taught, node_taught_by, view_counted, counts_here, vote_at, replied_ballot, proposed, synced_at, carried_for, job_reading, collect_packets, read_closed, synced_packets}
 use Rattle.protocol.specs.Worlds.{World, Event, first_world, world_began, world_stopped, happens, run, world_ticked, world_stepped, world_started, world_found, After}
 use Rattle.protocol.proofs.Events.{EventCases, step_on, world_handled, happens_each, started_each, run-append}
-use Rattle.protocol.proofs.Packets.{OfEach, each_none, each_both, each_member, each_collect, each_reply, each_ticked}
+use Rattle.protocol.proofs.Packets.{OfEach, each_none, each_both, each_member, each_collect, each_reply}
 use Rattle.protocol.proofs.Served.{request_each}
 use Rattle.protocol.proofs.Tables.{put_each}
-use Rattle.protocol_laws.specs.Laws.{top_in, stamp_stored, IsGuarded, RunFollows, WritesWereGuarded}
-use Rattle.protocol_laws.proofs.MarkNumbers.{own_number}
+use Rattle.protocol_laws.specs.Laws.{HasNotEnded, top_in, stamp_stored, IsGuarded, RunFollows, WritesWereGuarded}
+use Rattle.protocol_laws.proofs.TalliesKept.{not_ended}
 use Rattle.protocol_laws.proofs.Books.{Books, CallBooks, IsCall}
 use Rattle.protocol_laws.proofs.BooksEvents.{books}
 use Rattle.protocol_laws.proofs.Outcomes.{NextFits, once_full_fits}
@@ -53,7 +52,7 @@ use Rattle.protocol_laws.proofs.ViewLaws.{writes_guarded}
 abbrev StoresIn : World → World → BrickId → Message → Type 0
 StoresIn w next from (Message.Request call request) =
     (t : Stamp) → stamp_stored request ≡ Some t
-    → ((g s i : ℕ) → top_in next g s i ≡ top_in w g s i) × IsOpen (life_of w.marks (w.numbers from.0 call.boot call.seq))
+    → ((g s i : ℕ) → top_in next g s i ≡ top_in w g s i) × HasNotEnded w (w.numbers from.0 call.boot call.seq)
 StoresIn w next from message = Unit {0}
 
 abbrev StoresOpen : World → World → Packet → Type 0
@@ -66,15 +65,14 @@ tops_put w next me node nodes same g s i =
     ap (λ (f : ℕ → Node). top_at (f i) g s) nodes
     ∙ put_each (λ j x. top_at x g s ≡ top_at (w.nodes j) g s) w.nodes me node (top_same (w.nodes me) node same g s) (λ j other. refl) i
 
--- an open call's operation is open
+-- an open call's operation has not ended
 call_open : (setting : Setting) (w : World) → Books setting w → (i k : ℕ) (c : Coordinator) → IsCall w i k c
-    → IsOpen (life_of w.marks (w.numbers i c.call.boot c.call.seq))
+    → HasNotEnded w (w.numbers i c.call.boot c.call.seq)
 call_open setting w books i k c is =
     let its : CallBooks setting w i k c = books.calls i k c is in
-    let own = books.operations (w.numbers i (w.nodes i).boot k) its.operation its.operation_is in
-    subst (λ (n : ℕ). IsOpen (life_of w.marks n))
+    subst (λ (n : ℕ). HasNotEnded w n)
     (ap (λ (b : ℕ). w.numbers i b k) (sym its.call_boot) ∙ ap (λ (s : ℕ). w.numbers i c.call.boot s) (sym its.call_seq))
-    (subst (λ (z : Option Life). IsOpen z) (sym own.life_is) (its.unended own.life own.life_is))
+    (not_ended setting w i k c books is)
 
 -- the first phase of an operation stores nothing
 first_stores : (code : Code) (c : Coordinator) (op : Op) (seat : ℕ) (t : Stamp)
@@ -155,18 +153,18 @@ module _ (setting : Setting) (w next : World) (me : BrickId) (books : Books sett
 
   -- a phase of an open call
   phase_stores : (c d : Coordinator) → ((g s i : ℕ) → top_in next g s i ≡ top_in w g s i)
-      → IsOpen (life_of w.marks (w.numbers me.0 c.call.boot c.call.seq)) → (d.call.boot ≡ c.call.boot) × (d.call.seq ≡ c.call.seq)
+      → HasNotEnded w (w.numbers me.0 c.call.boot c.call.seq) → (d.call.boot ≡ c.call.boot) × (d.call.seq ≡ c.call.seq)
       → OfEach P (phase_packets setting me d)
   phase_stores c d tops open' same =
       each_member P me d.call (request_of setting.code d)
       (λ seat to t stores. (
         tops,
-        subst (λ (b : ℕ). IsOpen (life_of w.marks (w.numbers me.0 b d.call.seq))) (sym same.0)
-            (subst (λ (k : ℕ). IsOpen (life_of w.marks (w.numbers me.0 c.call.boot k))) (sym same.1) open'),
+        subst (λ (b : ℕ). HasNotEnded w (w.numbers me.0 b d.call.seq)) (sym same.0)
+            (subst (λ (k : ℕ). HasNotEnded w (w.numbers me.0 c.call.boot k)) (sym same.1) open'),
       )) 0 (asked_group d).members
 
   carried_stores : (node : Node) (known : ℕ) (c : Coordinator) (decision : Next) → KeepsPlaces (w.nodes me.0) node → NextIsSame c decision
-      → IsOpen (life_of w.marks (w.numbers me.0 c.call.boot c.call.seq))
+      → HasNotEnded w (w.numbers me.0 c.call.boot c.call.seq)
       → next.nodes ≡ put w.nodes me.0 (carried_out setting me node known c decision).node
       → OfEach P (carried_out setting me node known c decision).packets
   carried_stores node known c Ignores places same open' nodes = each_none P
@@ -196,7 +194,7 @@ module _ (setting : Setting) (w next : World) (me : BrickId) (books : Books sett
 
   -- what the coordinator of an operation, or of such a read, decided
   carried_for_stores : (now : ℕ) (node : Node) (known : ℕ) (c : Coordinator) (decision : Next) (reading : Option Job) → KeepsPlaces (w.nodes me.0) node
-      → NextIsSame c decision → IsOpen (life_of w.marks (w.numbers me.0 c.call.boot c.call.seq))
+      → NextIsSame c decision → HasNotEnded w (w.numbers me.0 c.call.boot c.call.seq)
       → next.nodes ≡ put w.nodes me.0 (carried_for setting me now node known c decision reading).node
       → OfEach P (carried_for setting me now node known c decision reading).packets
   carried_for_stores now node known c decision reading places same open' =
@@ -402,9 +400,7 @@ writes_were_guarded setting views events sound follows k call from to request t 
           (subst (λ (x : World). IsGuarded x call.group.0 call.stripe.0 group t) next_is
           (guarded_there upto sent.sending.later (sent.events_are ∙ sym (rejoined sent.sending.earlier sent.sending.event sent.sending.later))
           (ap (λ (x : World). slice_get x.packets k) next_is ∙ sent.there))),
-      subst (λ (n : ℕ). IsOpen (life_of moment.marks n))
-          (sym (own_number moment.marked moment.begun moment.operations (books_then sent.sending.earlier moment sent.sending.moment_is).own
-          (moment.numbers from.0 call.boot call.seq))) here.1,
+      here.1,
     )
   where
     adds : (earlier : List Event) (event : Event)
@@ -413,9 +409,6 @@ writes_were_guarded setting views events sound follows k call from to request t 
         let w : World = run setting earlier (first_world setting.layout) in
         happens_each (λ (next : World). Adds (StoresOpen w next) w next) setting w (stores_cases setting w (books setting earlier))
         (adds_none (StoresOpen w w) w w refl) event
-
-    books_then : (earlier : List Event) (x : World) → x ≡ run setting earlier (first_world setting.layout) → Books setting x
-    books_then earlier x is = subst (λ (y : World). Books setting y) (sym is) (books setting earlier)
 
     rejoined : (earlier : List Event) (event : Event) (later : List Event) → (earlier ++ (event ∷ [])) ++ later ≡ earlier ++ (event ∷ later)
     rejoined [] event later = refl

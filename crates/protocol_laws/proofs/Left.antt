@@ -184,11 +184,12 @@ steps_on : (w : World) (b : ℕ) (node : Node) → w.up b ≡ true → (i : ℕ)
 steps_on w b node up i down = (down, put_other w.nodes b node i (apart w i b down up), refl)
 
 -- what the tellings and answers of a step leave as it is
-pub told_same : {A : Type 0} (setting : Setting) (read : World → A) (brick : BrickId)
-    → ((w : World) (told : Told) → read (world_told setting w brick told) ≡ read w) → (told : List Told) (w : World)
-    → read (world_tells setting w brick told) ≡ read w
-told_same setting read brick one [] w = refl
-told_same setting read brick one (told ∷ more) w = told_same setting read brick one more (world_told setting w brick told) ∙ one w told
+pub told_same : {A : Type 0} (setting : Setting) (nodes : ℕ → Node) (read : World → A) (brick : BrickId)
+    → ((w : World) (told : Told) → read (world_told setting nodes w brick told) ≡ read w) → (told : List Told) (w : World)
+    → read (world_tells setting nodes w brick told) ≡ read w
+told_same setting nodes read brick one [] w = refl
+told_same setting nodes read brick one (told ∷ more) w =
+    told_same setting nodes read brick one more (world_told setting nodes w brick told) ∙ one w told
 
 pub answered_same : {A : Type 0} (read : World → A) (brick : BrickId) → ((w : World) (answered : Answered) → read (world_answered w brick answered) ≡ read w)
     → (answers : List Answered) (w : World) → read (world_answers w brick answers) ≡ read w
@@ -196,27 +197,29 @@ answered_same read brick one [] w = refl
 answered_same read brick one (answered ∷ more) w = answered_same read brick one more (world_answered w brick answered) ∙ one w answered
 
 -- which bricks are up, and what the stores of those that are down would have kept, are as before a step
-up_told : (setting : Setting) (brick : BrickId) (w : World) (told : Told) → (world_told setting w brick told).up ≡ w.up
-up_told setting brick w (Made seq t base) = refl
-up_told setting brick w (Seen seq v) = refl
-up_told setting brick w (Began call) = refl
-up_told setting brick w (Closed seq cause) = refl
+up_told : (setting : Setting) (nodes : ℕ → Node) (brick : BrickId) (w : World) (told : Told) → (world_told setting nodes w brick told).up ≡ w.up
+up_told setting nodes brick w (Made seq t base) = refl
+up_told setting nodes brick w (Seen seq v) = refl
+up_told setting nodes brick w (Began call) = refl
+up_told setting nodes brick w (Closed seq cause) = refl
 
 up_stepped : (setting : Setting) (w : World) (me : BrickId) (step : NodeStep) → (world_stepped setting w me step).up ≡ w.up
 up_stepped setting w me step =
-    answered_same (λ x. x.up) me (λ x answered. refl) step.answers (world_tells setting w me step.told)
-    ∙ told_same setting (λ x. x.up) me (up_told setting me) step.told w
+    (let nodes : ℕ → Node = put w.nodes me.0 step.node in
+    answered_same (λ x. x.up) me (λ x answered. refl) step.answers (world_tells setting nodes w me step.told)
+    ∙ told_same setting nodes (λ x. x.up) me (up_told setting nodes me) step.told w)
 
-after_told : (setting : Setting) (brick : BrickId) (w : World) (told : Told) → (world_told setting w brick told).after ≡ w.after
-after_told setting brick w (Made seq t base) = refl
-after_told setting brick w (Seen seq v) = refl
-after_told setting brick w (Began call) = refl
-after_told setting brick w (Closed seq cause) = refl
+after_told : (setting : Setting) (nodes : ℕ → Node) (brick : BrickId) (w : World) (told : Told) → (world_told setting nodes w brick told).after ≡ w.after
+after_told setting nodes brick w (Made seq t base) = refl
+after_told setting nodes brick w (Seen seq v) = refl
+after_told setting nodes brick w (Began call) = refl
+after_told setting nodes brick w (Closed seq cause) = refl
 
 pub after_stepped : (setting : Setting) (w : World) (me : BrickId) (step : NodeStep) → (world_stepped setting w me step).after ≡ w.after
 after_stepped setting w me step =
-    answered_same (λ x. x.after) me (λ x answered. refl) step.answers (world_tells setting w me step.told)
-    ∙ told_same setting (λ x. x.after) me (after_told setting me) step.told w
+    (let nodes : ℕ → Node = put w.nodes me.0 step.node in
+    answered_same (λ x. x.after) me (λ x answered. refl) step.answers (world_tells setting nodes w me step.told)
+    ∙ told_same setting nodes (λ x. x.after) me (after_told setting nodes me) step.told w)
 
 leaves_stepped : (setting : Setting) (w : World) (replies : ℕ → ℕ → List Counted) (reached : ℕ → Bool) (choices : Choices) (me : BrickId) (step : NodeStep)
     → w.up me.0 ≡ true

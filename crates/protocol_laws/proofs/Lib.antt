@@ -8,7 +8,9 @@ pub mod BooksEvents
 pub mod BooksKept
 pub mod BooksQuiet
 pub mod BooksTurns
+pub mod ByMarks
 pub mod Chains
+pub mod Closing
 pub mod Counting
 pub mod Decisions
 pub mod Effects
@@ -40,6 +42,7 @@ pub mod Requests
 pub mod Said
 pub mod SaidAlways
 pub mod SaidQuiet
+pub mod SaidReads
 pub mod Sendings
 pub mod Sends
 pub mod Sorting
@@ -51,7 +54,10 @@ pub mod Tallies
 pub mod TalliesCounts
 pub mod TalliesEvents
 pub mod TalliesKept
+pub mod TalliesReads
 pub mod Teaching
+pub mod Tries
+pub mod TriesEvents
 pub mod Votes
 pub mod Tops
 pub mod ViewLaws

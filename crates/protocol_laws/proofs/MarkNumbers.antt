@@ -1,81 +1,147 @@
--- The marks of each operation have its own number: so they stay where an operation begins, and where one changes that keeps its marks' number.
-use Rattle.std.proofs.Common.{◌≡◌, ◌≢◌, ℕ, ◌+◌, ◌≤◌, ⊎_elim, true, List, [], ◌∷◌, Option, Some, None, refl, sym, ap, ◌∙◌, arith}
-use Rattle.std.specs.Prelude.{map}
-use Rattle.std.proofs.lemmas.Bool.{cases_eq, lt-ltb}
-use Rattle.fab_base.specs.declared.answers.Answer.{Answer}
+-- Marks are numbered in the order in which their operations begin: so it stays where an operation begins, with marks or without, and where one changes that keeps its
+-- marks' number.
+use Rattle.std.proofs.Common.{◌≡◌, ◌≢◌, ℕ, ◌+◌, ◌<◌, ◌≤◌, ◌⊎◌, inl, inr, ⊎_elim, true, Option, Some, refl, sym, ap, ◌∙◌, arith}
+use Rattle.std.proofs.lemmas.Bool.{cases_eq, cases_lt, lt-ltb, ltb-true}
+use Rattle.std.proofs.lemmas.Option.{same_Some}
 use Rattle.fab_base.specs.declared.stamps.Stamp.{Stamp}
-use Rattle.reg_model.specs.declared.entries.Entry.{Entry}
 use Rattle.protocol.specs.Nodes.{put}
-use Rattle.protocol.specs.Worlds.{Operation, own_mark, with_made, with_seen, with_answer}
-use Rattle.protocol.specs.Happenings.{is_marked, by_mark}
-use Rattle.protocol.proofs.Puts.{put_other}
-use Rattle.protocol.proofs.Tables.{put_same}
+use Rattle.protocol.specs.Worlds.{Operation, own_mark, with_seen}
+use Rattle.protocol.specs.Happenings.{is_marked}
+use Rattle.protocol.proofs.Tables.{put_each, put_same}
 use Rattle.protocol_laws.specs.Marked.{AreOwnMarks}
 
--- an operation's marks have its number
-own_number_at : (n : ℕ) (found : Option Operation) → ((o : Operation) → found ≡ Some o → o.mark ≡ n) → own_mark n found ≡ n
-own_number_at n None own = refl
-own_number_at n (Some o) own = own o refl
+-- an operation has marks, or has none
+pub cases_marked : (o : Operation) → (1 ≤ o.mark) ⊎ (o.mark ≡ 0)
+cases_marked o = ⊎_elim (λ (low : o.mark < 1). inr (omega arith)) (λ (high : 1 ≤ o.mark). inl high) (cases_lt o.mark 1)
 
--- a change of an operation that keeps its marks' number: it made a version, saw one, or was answered
-abbrev pub KeepsMark : (Option Operation → Option Operation) → Type 0
-KeepsMark change = (n : ℕ) (found : Option Operation) → own_mark n (change found) ≡ own_mark n found
+-- numbers of marks are from 1
+pub has_marks : (o : Operation) → 1 ≤ o.mark → is_marked o ≡ true
+has_marks o from = lt-ltb 0 o.mark (omega arith)
 
-pub made_mark : (t : Stamp) (base : Option Stamp) → KeepsMark (with_made t base)
-made_mark t base n None = refl
-made_mark t base n (Some o) = refl
+pub marks_from : (o : Operation) → is_marked o ≡ true → 1 ≤ o.mark
+marks_from o marked = let some : 0 < o.mark = ltb-true 0 o.mark marked in omega arith
 
-pub seen_mark : (v : Stamp) → KeepsMark (with_seen v)
-seen_mark v n None = refl
-seen_mark v n (Some o) = refl
+-- the number of an operation's marks, also once it saw a version
+pub mark_at : (operations : ℕ → Option Operation) (n : ℕ) (o : Operation) → operations n ≡ Some o → own_mark n (operations n) ≡ o.mark
+mark_at operations n o is = ap (own_mark n) is
 
-pub answer_mark : (answer : Answer) → KeepsMark (with_answer answer)
-answer_mark answer n None = refl
-answer_mark answer n (Some o) = refl
+pub mark_seen : (operations : ℕ → Option Operation) (n : ℕ) (v : Stamp) (o : Operation) → operations n ≡ Some o
+    → own_mark n (put operations n (with_seen v (operations n)) n) ≡ o.mark
+mark_seen operations n v o is =
+    ap (own_mark n) (put_same operations n (with_seen v (operations n))) ∙ ap (λ (x : Option Operation). own_mark n (with_seen v x)) is
 
-module _ (marked begun : ℕ) (operations : ℕ → Option Operation) (own : AreOwnMarks marked begun operations) where
-  pub own_number : (n : ℕ) → own_mark n (operations n) ≡ n
-  own_number n = own_number_at n (operations n) (own.each n)
+module _ (marked : ℕ) (operations : ℕ → Option Operation) (own : AreOwnMarks marked operations) where
+  -- two operations that have the same marks are one
+  pub by_mark_is : (n m : ℕ) (o p : Operation) → operations n ≡ Some o → operations m ≡ Some p → 1 ≤ o.mark → o.mark ≡ p.mark → n ≡ m
+  by_mark_is n m o p first second from same =
+      ⊎_elim
+      (λ (before : n < m). (let below : o.mark < p.mark = own.in_turn n m o p first second from (omega (arith, same)) before in absurd (omega arith)))
+      (λ (not_before : m ≤ n).
+      ⊎_elim
+      (λ (after : m < n). (let below : p.mark < o.mark = own.in_turn m n p o second first (omega (arith, same)) from after in absurd (omega arith)))
+      (λ (not_after : n ≤ m). omega arith)
+      (cases_lt m n))
+      (cases_lt n m)
 
-  -- also once it saw a version
-  pub own_seen : (n : ℕ) (v : Stamp) → own_mark n (put operations n (with_seen v (operations n)) n) ≡ n
-  own_seen n v = ap (own_mark n) (put_same operations n (with_seen v (operations n))) ∙ seen_mark v n (operations n) ∙ own_number n
+  -- another operation has other marks
+  pub other_mark : (n m : ℕ) (o p : Operation) → operations n ≡ Some o → operations m ≡ Some p → 1 ≤ o.mark → m ≢ n → p.mark ≢ o.mark
+  other_mark n m o p first second from other same = other (sym (by_mark_is n m o p first second from (sym same)))
 
-  -- operations are numbered from 1, so each has marks
-  pub own_marked : (n : ℕ) (o : Operation) → operations n ≡ Some o → 1 ≤ n → is_marked o ≡ true
-  own_marked n o is low = let mark : o.mark ≡ n = own.each n o is in lt-ltb 0 o.mark (omega arith)
+  -- one operation is another, of the same marks
+  module _ (n : ℕ) (o p : Operation) (later : ℕ → Option Operation) (was : operations n ≡ Some o) (is : later n ≡ Some p) (mark : p.mark ≡ o.mark)
+      (others : (m : ℕ) → m ≢ n → later m ≡ operations m) where
+    was_there : (m : ℕ) (q : Operation) → later m ≡ Some q → (r : Operation) × (operations m ≡ Some r) × (q.mark ≡ r.mark)
+    was_there m q at =
+        ⊎_elim
+        (λ (mine : m ≡ n).
+        let one : p ≡ q = same_Some p q (sym is ∙ ap later (sym mine) ∙ at) in
+        (o, ap operations mine ∙ was, ap (λ (x : Operation). x.mark) (sym one) ∙ mark))
+        (λ (other : m ≢ n). (q, sym (others m other) ∙ at, refl))
+        (cases_eq m n)
 
-  -- the walk by the numbers of marks is the walk by those of operations
-  pub own_walk : (walk : List Entry) → map (by_mark operations) walk ≡ walk
-  own_walk [] = refl
-  own_walk (e ∷ walk) =
-      ap (λ (n : ℕ). record { stamp = e.stamp; reader = e.reader; operation = n } ∷ map (by_mark operations) walk) (own_number e.operation)
-      ∙ ap (λ (l : List Entry). e ∷ l) (own_walk walk)
+    still_there : (m : ℕ) (r : Operation) → operations m ≡ Some r → (q : Operation) × (later m ≡ Some q) × (q.mark ≡ r.mark)
+    still_there m r at =
+        ⊎_elim
+        (λ (mine : m ≡ n).
+        let one : o ≡ r = same_Some o r (sym was ∙ ap operations (sym mine) ∙ at) in
+        (p, ap later mine ∙ is, mark ∙ ap (λ (x : Operation). x.mark) one))
+        (λ (other : m ≢ n). (r, others m other ∙ at, refl))
+        (cases_eq m n)
 
-  -- one operation is another, of the same number and marks
-  pub own_by : (n : ℕ) (later : ℕ → Option Operation) → own_mark n (later n) ≡ n
-      → ((m : ℕ) → m ≢ n → later m ≡ operations m) → AreOwnMarks marked begun later
-  own_by n later here others = record {
-    count = own.count;
-    each = λ m o is. ⊎_elim
-        (λ (mine : m ≡ n). sym (ap (own_mark n) (ap later (sym mine) ∙ is)) ∙ here ∙ sym mine)
-        (λ (other : m ≢ n). own.each m o (sym (others m other) ∙ is))
-        (cases_eq m n);
-  }
+    pub own_by : AreOwnMarks marked later
+    own_by = record {
+      within = λ m q at. (let old = was_there m q at in let high : old.0.mark ≤ marked = own.within m old.0 old.1 in let same : q.mark ≡ old.0.mark = old.2 in omega arith);
+      in_turn = λ m l q r first second from_first from_second before.
+          (let a = was_there m q first in
+          let b = was_there l r second in
+          let same_a : q.mark ≡ a.0.mark = a.2 in
+          let same_b : r.mark ≡ b.0.mark = b.2 in
+          let below : a.0.mark < b.0.mark = own.in_turn m l a.0 b.0 a.1 b.1 (omega arith) (omega arith) before in
+          omega arith);
+      each = λ m low high.
+          (let old = own.each m low high in
+          let now = still_there old.0 old.1 old.2 in
+          (old.0, now.0, now.1, now.2 ∙ old.3));
+    }
 
-  -- one operation changes, and keeps its marks' number
-  pub own_changed : (n : ℕ) (change : Option Operation → Option Operation) → KeepsMark change
-      → AreOwnMarks marked begun (put operations n (change (operations n)))
-  own_changed n change keeps =
-      own_by n (put operations n (change (operations n)))
-      (ap (own_mark n) (put_same operations n (change (operations n))) ∙ keeps n (operations n) ∙ own_number n)
-      (λ m other. put_other operations n (change (operations n)) m other)
+  -- an operation begins, at the next number
+  module _ (begun : ℕ) (below : (n : ℕ) (o : Operation) → operations n ≡ Some o → n ≤ begun) (o : Operation) where
+    at_last : (m : ℕ) (q : Operation) → put operations (begun + 1) (Some o) m ≡ Some q → ((m ≡ begun + 1) × (q ≡ o)) ⊎ (operations m ≡ Some q)
+    at_last m q =
+        put_each (λ (x : ℕ) (y : Option Operation). y ≡ Some q → ((x ≡ begun + 1) × (q ≡ o)) ⊎ (operations x ≡ Some q)) operations (begun + 1) (Some o)
+        (λ is. inl (refl, sym (same_Some o q is))) (λ x other is. inr is) m
 
-  -- an operation begins
-  pub own_more : (o : Operation) → o.mark ≡ marked + 1 → AreOwnMarks (marked + 1) (begun + 1) (put operations (begun + 1) (Some o))
-  own_more o mark = record {
-    count = ap (λ (n : ℕ). n + 1) own.count;
-    each = (own_by (begun + 1) (put operations (begun + 1) (Some o))
-        (ap (own_mark (begun + 1)) (put_same operations (begun + 1) (Some o)) ∙ mark ∙ ap (λ (n : ℕ). n + 1) own.count)
-        (λ m other. put_other operations (begun + 1) (Some o) m other)).each;
-  }
+    kept_there : (m : ℕ) (q : Operation) → operations m ≡ Some q → put operations (begun + 1) (Some o) m ≡ Some q
+    kept_there m q is =
+        put_each (λ (x : ℕ) (y : Option Operation). operations x ≡ Some q → y ≡ Some q) operations (begun + 1) (Some o)
+        (λ last. (let high : begun + 1 ≤ begun = below (begun + 1) q last in absurd (omega arith))) (λ x other at. at) m is
+
+    -- which has the next marks
+    pub own_more : o.mark ≡ marked + 1 → AreOwnMarks (marked + 1) (put operations (begun + 1) (Some o))
+    own_more mark = record {
+      within = λ m q at.
+          ⊎_elim
+          (λ (last : (m ≡ begun + 1) × (q ≡ o)). (let same : q.mark ≡ o.mark = ap (λ (x : Operation). x.mark) last.1 in omega arith))
+          (λ (old : operations m ≡ Some q). (let high : q.mark ≤ marked = own.within m q old in omega arith))
+          (at_last m q at);
+      in_turn = λ m l q r first second from_first from_second before.
+          ⊎_elim
+          (λ (last : (l ≡ begun + 1) × (r ≡ o)).
+          let same : r.mark ≡ o.mark = ap (λ (x : Operation). x.mark) last.1 in
+          ⊎_elim
+          (λ (twice : (m ≡ begun + 1) × (q ≡ o)). absurd (let a : m ≡ begun + 1 = twice.0 in let b : l ≡ begun + 1 = last.0 in omega arith))
+          (λ (old : operations m ≡ Some q). (let high : q.mark ≤ marked = own.within m q old in omega arith))
+          (at_last m q first))
+          (λ (later : operations l ≡ Some r).
+          ⊎_elim
+          (λ (last : (m ≡ begun + 1) × (q ≡ o)).
+          (let high : l ≤ begun = below l r later in let a : m ≡ begun + 1 = last.0 in absurd (omega arith)))
+          (λ (old : operations m ≡ Some q). own.in_turn m l q r old later from_first from_second before)
+          (at_last m q first))
+          (at_last l r second);
+      each = λ m low high.
+          ⊎_elim
+          (λ (old : m < marked + 1). (let was = own.each m low (omega arith) in (was.0, was.1, kept_there was.0 was.1 was.2, was.3)))
+          (λ (new : marked + 1 ≤ m). (begun + 1, o, put_same operations (begun + 1) (Some o), (let e : o.mark ≡ m = omega arith in e)))
+          (cases_lt m (marked + 1));
+    }
+
+    -- which has none
+    pub own_unmarked : o.mark ≡ 0 → AreOwnMarks marked (put operations (begun + 1) (Some o))
+    own_unmarked mark = record {
+      within = λ m q at.
+          ⊎_elim
+          (λ (last : (m ≡ begun + 1) × (q ≡ o)). (let same : q.mark ≡ o.mark = ap (λ (x : Operation). x.mark) last.1 in omega arith))
+          (λ (old : operations m ≡ Some q). own.within m q old)
+          (at_last m q at);
+      in_turn = λ m l q r first second from_first from_second before.
+          ⊎_elim
+          (λ (last : (l ≡ begun + 1) × (r ≡ o)). (let same : r.mark ≡ o.mark = ap (λ (x : Operation). x.mark) last.1 in absurd (omega arith)))
+          (λ (later : operations l ≡ Some r).
+          ⊎_elim
+          (λ (last : (m ≡ begun + 1) × (q ≡ o)). (let same : q.mark ≡ o.mark = ap (λ (x : Operation). x.mark) last.1 in absurd (omega arith)))
+          (λ (old : operations m ≡ Some q). own.in_turn m l q r old later from_first from_second before)
+          (at_last m q first))
+          (at_last l r second);
+      each = λ m low high. (let was = own.each m low high in (was.0, was.1, kept_there was.0 was.1 was.2, was.3));
+    }

@@ -51,15 +51,15 @@ numbered_cases setting w numbered = record {
   begins = λ brick ask may. numbered_more w.marks (Begin (length w.marks) (w.marked + 1) brick ask) w.marked refl numbered;
   proposes = λ brick group members may.
       stepped_each IsNumbered setting brick (proposed setting brick (w.nodes brick.0) group members) (λ x seq t base holds. holds)
-      (λ x seq v holds. holds) (λ x call holds. holds) (λ x seq cause holds. holds) (λ x one holds. numbered_on x.marks (End (length x.marks) _ one.answer) x.marked refl holds)
+      (λ x seq v holds. holds) (λ x nodes call holds. holds) (λ x seq cause holds. holds) (λ x one holds. numbered_on x.marks (End (length x.marks) _ one.answer) x.marked refl holds)
       (λ x nodes held packets choices holds. holds) w numbered;
   syncs = λ brick group may.
       stepped_each IsNumbered setting brick (synced_at setting brick (w.clocks brick.0) (w.nodes brick.0) group) (λ x seq t base holds. holds)
-      (λ x seq v holds. holds) (λ x call holds. holds) (λ x seq cause holds. holds)
+      (λ x seq v holds. holds) (λ x nodes call holds. holds) (λ x seq cause holds. holds)
       (λ x one holds. numbered_on x.marks (End (length x.marks) _ one.answer) x.marked refl holds) (λ x nodes held packets choices holds. holds) w numbered;
   handles = λ number packet at up.
       stepped_each IsNumbered setting packet.to (step_on setting w packet) (λ x seq t base holds. holds) (λ x seq v holds. holds)
-      (λ x call holds. holds) (λ x seq cause holds. holds)
+      (λ x nodes call holds. holds) (λ x seq cause holds. holds)
       (λ x one holds. numbered_on x.marks (End (length x.marks) _ one.answer) x.marked refl holds) (λ x nodes held packets choices holds. holds)
       (world_counting setting w number packet) numbered;
   sets = λ brick time is. numbered;

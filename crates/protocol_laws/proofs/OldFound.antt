@@ -11,7 +11,7 @@ use Rattle.messages.specs.declared.replies.Reply.{Reply}
 use Rattle.messages.specs.declared.requests.Look.TheVariants.{Below}
 use Rattle.quorum.proofs.Counts.{count_full}
 use Rattle.protocol.specs.Settings.{Setting, IsSound}
-use Rattle.protocol.specs.Views.{Views, view_of}
+use Rattle.protocol.specs.Views.{Views, view_of, group_in}
 use Rattle.protocol.specs.declared.phases.Counted.{Counted}
 use Rattle.protocol.specs.declared.phases.FullMember.{FullMember}
 use Rattle.protocol.specs.declared.phases.Mover.{Mover}
@@ -21,9 +21,9 @@ use Rattle.protocol.specs.Coordinators.{Coordinator, looks_back, asked_group, ol
 use Rattle.protocol.specs.Worlds.{World, Operation, number_of}
 use Rattle.protocol.proofs.CountsAt.{CountsAt, counts_facts}
 use Rattle.view_laws.specs.Syncs.{IsSaidSynced}
-use Rattle.protocol_laws.specs.Laws.{OldVersionsAreFound}
+use Rattle.protocol_laws.specs.Laws.{SyncedStand, OldVersionsAreFound}
 use Rattle.protocol_laws.proofs.Blocking.{blocked_never_stands}
-use Rattle.protocol_laws.proofs.Books.{Books, CallBooks, OperationBooks, IsCall}
+use Rattle.protocol_laws.proofs.Books.{Books, IsReadable, CallBooks, OperationBooks, IsCall}
 use Rattle.protocol_laws.proofs.Counting.{each_then, each_more, once_more, NoneStops}
 use Rattle.protocol_laws.proofs.Decisions.{all_read, back_unrefused}
 use Rattle.protocol_laws.proofs.OwnStamps.{own_in, back_call, asked_in}
@@ -60,7 +60,7 @@ is_there (Some x) never = refl
 
 module _ (setting : Setting) (views : Views) (sound : IsSound setting) (w : World) (stamps : Stamping) (books : Books setting w) (said : Said setting views w stamps) where
   -- of each stripe a version stands of a view that is said to be synced
-  pub synced_stands : (g e s : ℕ) (group : Group) → group_of setting.layout g ≡ Some group → s < group.stripes → IsSaidSynced w g e
+  pub synced_stands : (g e s : ℕ) (group : Group) → group_of setting.layout g ≡ Some group → IsReadable group s → IsSaidSynced w g e
       → (v : Stamp) × (view_of v ≡ e) × Stands setting views w g s v
   synced_stands g e s group at within (inl one) = (
     first_stamp,
@@ -71,6 +71,13 @@ module _ (setting : Setting) (views : Views) (sound : IsSound setting) (w : Worl
   )
   synced_stands g e s group at within (inr (from, to, sent)) =
       said.packets sent.0 (record { from = from; to = to; message = Message.Synced (record { 0 = g }) (record { 0 = e }) }) sent.1 s group at within
+
+  -- so each message that says so is true
+  pub synced_stand : SyncedStand setting views w
+  synced_stand from to number view stripe kept group sent at within is =
+      let standing : (v : Stamp) × (view_of v ≡ view.0) × Stands setting views w number.0 stripe v
+      = said.packets sent.0 (record { from = from; to = to; message = Message.Synced number view }) sent.1 stripe kept at (inr within) in
+      (standing.0, standing.1, standing.2 group (ap (λ (e : ℕ). group_in setting.layout views number.0 e) standing.1 ∙ is))
 
   -- so an operation that looks back finds one, where the view before its own is said to be synced
   pub old_found : ((i k : ℕ) (c : Coordinator) → IsCall w i k c → 1 < c.stamp.view.0 → IsSaidSynced w c.call.group.0 (c.stamp.view.0 - 1))
@@ -116,7 +123,7 @@ module _ (setting : Setting) (views : Views) (sound : IsSound setting) (w : Worl
 
       standing : (v : Stamp) × (view_of v ≡ c.stamp.view.0 - 1) × Stands setting views w o.ask.group.0 o.ask.stripe.0 v
       standing =
-          synced_stands o.ask.group.0 (c.stamp.view.0 - 1) o.ask.stripe.0 its_books.group its_books.group_is its_books.stripe
+          synced_stands o.ask.group.0 (c.stamp.view.0 - 1) o.ask.stripe.0 its_books.group its_books.group_is its_books.readable
           (subst (λ (g : ℕ). IsSaidSynced w g (c.stamp.view.0 - 1)) (ap (λ g. g.0) its.call_group ∙ ap (λ (a : Ask). a.group.0) its.ask)
           (synced i k c is back.view))
 

@@ -22,7 +22,7 @@ use Rattle.protocol_laws.proofs.Blocking.{LogsFit}
 use Rattle.protocol.proofs.Tables.{put_each, get_grown}
 use Rattle.protocol_laws.proofs.Stampings.{StampsGrow}
 use Rattle.protocol_laws.proofs.Growth.{Grows, Continues, continues_same}
-use Rattle.protocol_laws.proofs.Steps.{KeepsStamps, keeps_same, parts_by, sent_by, calls_by, said_after, new_by, part_same}
+use Rattle.protocol_laws.proofs.Steps.{KeepsStamps, keeps_same, parts_by, sent_by, calls_by, jobs_kept, said_after, new_by, part_same}
 use Rattle.protocol_laws.proofs.Tops.{KeepsPlaces}
 
 -- the world after an operation changed
@@ -52,12 +52,13 @@ pub record OperatedKeeps (w : World) (me : BrickId) (node : Node) (marks : List 
     (contents : ℕ → ℕ → Stamp → List ℕ) : Type 0 where
   pub places : KeepsPlaces (w.nodes me.0) node
   pub boot : node.boot ≡ (w.nodes me.0).boot
+  pub job : node.job ≡ (w.nodes me.0).job
   pub is : IsOperation w n o
   pub continues : Continues o p
   pub kept : (g s : ℕ) (t : Stamp) → IsMadeOrFirst w g s t → contents g s t ≡ w.contents g s t
   pub longer : length w.marks ≤ length marks
   pub lasts : (a : ℕ) → last_of (life_of w.marks a) ≤ last_of (life_of marks a)
-  pub unended : length w.marks ≤ last_of (life_of marks n)
+  pub unended : 1 ≤ o.mark → length w.marks ≤ last_of (life_of marks o.mark)
 
 module _ (setting : Setting) (views : Views) (w : World) (stamps later : Stamping) (me : BrickId) (node : Node) (more : List Packet) (marks : List Mark) (n : ℕ)
     (o p : Operation)
@@ -94,12 +95,12 @@ module _ (setting : Setting) (views : Views) (w : World) (stamps later : Stampin
 
   -- the operations stay in order: the one that changed is open
   stays_in_order : Said setting views w stamps → IsInOrder setting views next
-  stays_in_order said a b earlier late u earlier_is late_is groups stripes version =
+  stays_in_order said a b earlier late u earlier_is late_is groups stripes marked version =
       let e = came_from a earlier earlier_is in
       let l = came_from b late late_is in
       put_each (λ i x. x ≡ Some earlier → i ≡ a
-      → FloorsAbove setting views late u ⊎ (late.begin ≤ last_of (life_of marks a))) w.operations n (Some p)
-      (λ is at. inr (begins_before b l.0 late l.1 l.2 at))
+      → FloorsAbove setting views late u ⊎ (late.begin ≤ last_of (life_of marks earlier.mark))) w.operations n (Some p)
+      (λ is at. let same : p ≡ earlier = cc in inr (begins_before b l.0 late l.1 l.2 earlier.mark (ap (λ (z : Operation). z.mark) same) marked))
       (λ i other is at.
       let old : IsOperation w a earlier = subst (λ (j : ℕ). IsOperation w j earlier) at is in
       ⊎_elim
@@ -107,16 +108,20 @@ module _ (setting : Setting) (views : Views) (w : World) (stamps later : Stampin
       inl (subst (λ (f : ℕ → Stamp). FloorsAbove setting views (record late { floor = f }) u) (sym l.2.floor)
       (subst (λ (x : Ask). FloorsAbove setting views (record late { ask = x; floor = l.0.floor }) u) (sym l.2.ask)
       (record { own = floors.own; before = floors.before }))))
-      (λ (before : l.0.begin ≤ last_of (life_of w.marks a)). inr (let begins : late.begin ≡ l.0.begin = l.2.begin in omega (arith, keeps.lasts a)))
-      (said.order a b earlier l.0 u old l.1 (groups ∙ ap (λ x. x.group.0) l.2.ask) (stripes ∙ ap (λ x. x.stripe.0) l.2.ask) version))
+      (λ (before : l.0.begin ≤ last_of (life_of w.marks earlier.mark)).
+      inr (let begins : late.begin ≡ l.0.begin = l.2.begin in omega (arith, keeps.lasts earlier.mark)))
+      (said.order a b earlier l.0 u old l.1 (groups ∙ ap (λ x. x.group.0) l.2.ask) (stripes ∙ ap (λ x. x.stripe.0) l.2.ask) marked version))
       a earlier_is refl
     where
-      begins_before : (b : ℕ) (l late : Operation) → IsOperation w b l → Continues l late → n ≡ a → late.begin ≤ last_of (life_of marks a)
-      begins_before b l late l_is on at =
+      begins_before : (b : ℕ) (l late : Operation) → IsOperation w b l → Continues l late → (m : ℕ) → p.mark ≡ m → 1 ≤ m
+          → late.begin ≤ last_of (life_of marks m)
+      begins_before b l late l_is on m its some =
           let begin : l.begin ≤ length w.marks = (said.operations b l l_is).begin in
           let same : late.begin ≡ l.begin = on.begin in
-          let last : length w.marks ≤ last_of (life_of marks a) = subst (λ (j : ℕ). length w.marks ≤ last_of (life_of marks j)) at keeps.unended in
-          omega arith
+          let mark : o.mark ≡ m = sym keeps.continues.mark ∙ its in
+          let last : length w.marks ≤ last_of (life_of marks m)
+          = subst (λ (j : ℕ). 1 ≤ j → length w.marks ≤ last_of (life_of marks j)) mark keeps.unended some in
+          omega (arith, begin, same, last)
 
 -- what such a change owes
 pub record OperatedOwes (setting : Setting) (views : Views) (w next : World) (stamps later : Stamping) (me : BrickId) (node : Node) (more : List Packet) (n : ℕ)
@@ -155,6 +160,7 @@ said_operated setting views w stamps later me node more marks n o p contents boo
       calls = λ i k c.
           calls_by setting views w after stamps later me.0 node refl keeps.boot k c (owes.calls k c)
           (λ j other. owes.stamps_other j (w.nodes j).boot k other) i;
+      jobs = jobs_kept setting views w after me.0 node refl keeps.job;
       ends = owes.ends;
       order = stays_in_order setting views w stamps later me node more marks n o p contents keeps said;
     })

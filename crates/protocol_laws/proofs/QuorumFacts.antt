@@ -27,6 +27,7 @@ use Rattle.fab_base.specs.Layouts.{brick_at}
 use Rattle.protocol_laws.specs.Laws.{ContentsAreMade, StoredIsHeld, FollowsRealTime, FullIsFull, BasesAreFound}
 use Rattle.protocol_laws.specs.Marked.{WordsFit}
 use Rattle.protocol_laws.proofs.Books.{Books, OperationBooks, IsOperation}
+use Rattle.protocol_laws.proofs.ByMarks.{one_of_marks}
 use Rattle.protocol_laws.proofs.Words.{words_fit}
 use Rattle.protocol_laws.proofs.Said.{Stamping, Said, IsStamped, IsMadeOrFirst, Stands, WritesWhole, ReadsBack, FloorsAtLeast, HasVersion, DataShown, FloorsAbove, FloorsAtMost}
 use Rattle.protocol_laws.proofs.BasesFound.{bases_found}
@@ -67,7 +68,7 @@ pub record QuorumFacts (setting : Setting) (views : Views) (w : World) : Type 0 
   pub stands : (n : ℕ) (o : Operation) (t : Stamp) → IsOperation w n o → o.version ≡ Some t → (o.made ≡ false) ⊎ (o.answered ≡ true)
       → Stands setting views w o.ask.group.0 o.ask.stripe.0 t
   pub answered_data : (n : ℕ) (o : Operation) (t : Stamp) (life : Life) (p : ℕ) (bytes : List ℕ) → IsOperation w n o → o.version ≡ Some t
-      → life_of w.marks n ≡ Some life → life.ending ≡ Answered p (Data bytes)
+      → life_of w.marks o.mark ≡ Some life → life.ending ≡ Answered p (Data bytes)
       → read_of setting.layout.block o.ask.op (w.contents o.ask.group.0 o.ask.stripe.0 t) ≡ Some bytes
   pub answered_write : (n : ℕ) (o : Operation) → IsOperation w n o → o.answered ≡ true → writes o.ask.op ≡ true → o.made ≡ true
   pub first : (g s : ℕ) (group : Group) → group_of setting.layout g ≡ Some group
@@ -144,15 +145,14 @@ module _ (setting : Setting) (views : Views) (sound : IsSound setting) (w : Worl
       (views_cases (view_of u) (view_of v))
 
   real_time_holds : (g s : ℕ) → FollowsRealTime w g s
-  real_time_holds g s a b earlier later u v a_is b_is a_of b_of a_version b_version ended =
+  real_time_holds g s a b earlier later u v a_is b_is a_of b_of a_version b_version marked ended =
       let a_at = and_parts (nat_eq earlier.ask.group.0 g) (nat_eq earlier.ask.stripe.0 s) a_of in
       let b_at = and_parts (nat_eq later.ask.group.0 g) (nat_eq later.ask.stripe.0 s) b_of in
       ⊎_elim (in_order b later u v b_is b_version)
-      (λ (before : later.begin ≤ last_of (life_of w.marks a)). absurd
-      (let same = ap (λ (m : ℕ). last_of (life_of w.marks m)) (books.own.each a earlier a_is) in omega (arith, before, ended)))
+      (λ (before : later.begin ≤ last_of (life_of w.marks earlier.mark)). absurd (omega (arith, before, ended)))
       (said.order a b earlier later u a_is b_is
       (eqb-true earlier.ask.group.0 g a_at.0 ∙ sym (eqb-true later.ask.group.0 g b_at.0))
-      (eqb-true earlier.ask.stripe.0 s a_at.1 ∙ sym (eqb-true later.ask.stripe.0 s b_at.1)) a_version)
+      (eqb-true earlier.ask.stripe.0 s a_at.1 ∙ sym (eqb-true later.ask.stripe.0 s b_at.1)) marked a_version)
 
   -- a version that another was made on is the base
   base_says : (n : ℕ) (o : Operation) (t : Stamp) → IsOperation w n o → ReadsBack setting views w o t → BaseSays setting views w o t
@@ -187,15 +187,16 @@ module _ (setting : Setting) (views : Views) (sound : IsSound setting) (w : Worl
       let has : HasVersion setting views w o t = (said.operations n o is).version t version in record { op = has.reader unmade; made = has.made }
 
   answered_data_holds : (n : ℕ) (o : Operation) (t : Stamp) (life : Life) (p : ℕ) (bytes : List ℕ) → IsOperation w n o → o.version ≡ Some t
-      → life_of w.marks n ≡ Some life → life.ending ≡ Answered p (Data bytes)
+      → life_of w.marks o.mark ≡ Some life → life.ending ≡ Answered p (Data bytes)
       → read_of setting.layout.block o.ask.op (w.contents o.ask.group.0 o.ask.stripe.0 t) ≡ Some bytes
   answered_data_holds n o t life p bytes is version life_is ending =
-      let end = answered_has_end w.marks n p (Data bytes) life life_is ending in
-      let shown : DataShown setting w n bytes = said.ends end.0 p n (Data bytes) end.1 in
-      let same : shown.operation ≡ o = same_Some shown.operation o (sym shown.is ∙ is) in
-      let stamp : shown.version ≡ t = same_Some shown.version t (sym shown.version_is ∙ ap (λ (z : Operation). z.version) same ∙ version) in
+      let end = answered_has_end w.marks o.mark p (Data bytes) life life_is ending in
+      let shown : DataShown setting w o.mark bytes = said.ends end.0 p o.mark (Data bytes) end.1 in
+      let same : o ≡ shown.operation
+      = one_of_marks w.marked w.operations books.own n shown.number o shown.operation is shown.is (books.lives o.mark life life_is).0 (sym shown.mark) in
+      let stamp : shown.version ≡ t = same_Some shown.version t (sym shown.version_is ∙ ap (λ (z : Operation). z.version) (sym same) ∙ version) in
       ap (λ (u : Stamp). read_of setting.layout.block o.ask.op (w.contents o.ask.group.0 o.ask.stripe.0 u)) (sym stamp)
-      ∙ ap (λ (z : Operation). read_of setting.layout.block z.ask.op (w.contents z.ask.group.0 z.ask.stripe.0 shown.version)) (sym same)
+      ∙ ap (λ (z : Operation). read_of setting.layout.block z.ask.op (w.contents z.ask.group.0 z.ask.stripe.0 shown.version)) same
       ∙ shown.bytes_are
 
   -- a stripe write makes its bytes, and each other version is made of its base's content

@@ -39,6 +39,6 @@ module _ (setting : Setting) (views : Views) (sound : IsSound setting) (w : Worl
   pub dropped_replaced : SyncsAreSaidIn setting.layout w → DroppedAreReplaced setting views w
   dropped_replaced syncs number view stripe brick group next below at within next_is =
       let standing : (v : Stamp) × (view_of v ≡ view + 1) × Stands setting views w number stripe v
-      = synced_stands setting views sound w stamps books said number (view + 1) stripe group at within (next_synced syncs number view brick below) in
+      = synced_stands setting views sound w stamps books said number (view + 1) stripe group at (inr within) (next_synced syncs number view brick below) in
       let of = standing.1 in
       (standing.0, of, standing.2 next (subst (λ (e : ℕ). group_in setting.layout views number e ≡ Some next) (sym of) next_is))

@@ -52,7 +52,7 @@ use Rattle.protocol_laws.proofs.Decisions.{PromisesAt, ReadsAt, all_ordered, all
 use Rattle.protocol_laws.proofs.Recoveries.{version_lower, version_above, version_made, between_blocked, too_few_blocked, pieces_decode, base_enough, base_decodes, version_view, nothing_blocks}
 use Rattle.protocol_laws.proofs.Stores.{MakesOn, SendsVersion, made_content, said_made}
 use Rattle.protocol_laws.proofs.Sends.{IsCovered, MayBegin, said_sent}
-use Rattle.protocol_laws.proofs.Ends.{WillShow, said_ended}
+use Rattle.protocol_laws.proofs.Ends.{WillShow, EndsWell}
 
 -- a brick that only learns a time keeps the invariant
 pub said_known : (setting : Setting) (views : Views) (w : World) (stamps : Stamping) (me : BrickId) (known : ℕ) → Books setting w → Said setting views w stamps
@@ -68,6 +68,7 @@ said_known setting views w stamps me known books said more =
       logs = λ g e s k version is. inl (k, is);
       lowest = λ g e s x log within is. inl (log, is);
       calls = λ k c is. inl (is, λ p. refl);
+      jobs = λ job is. inl is;
       packets = λ k packet is. cc;
     })
 
@@ -153,12 +154,13 @@ module _ (setting : Setting) (views : Views) (sound : IsSound setting) (w : Worl
   says : CallSays setting views w stamps me.0 c.call.seq c
   says = said.calls me.0 c.call.seq c is
 
-  -- the world after what the coordinator decides
-  abbrev after : Next → World
-  after decision = world_stepped setting w me (carried_out setting me (w.nodes me.0) known c decision)
+  -- what must be so of what the coordinator decides: that the operation ends well, or that the invariant holds in the world after
+  abbrev pub Goes : Next → Type 0
+  Goes (Ends answer seen stored) = EndsWell setting views w o answer seen stored
+  Goes decision = IsSaid setting views (world_stepped setting w me (carried_out setting me (w.nodes me.0) known c decision))
 
   -- the coordinator waits
-  said_waits : (d : Coordinator) → CallSays setting views w stamps me.0 c.call.seq d → IsSaid setting views (after (Waits d))
+  said_waits : (d : Coordinator) → CallSays setting views w stamps me.0 c.call.seq d → Goes (Waits d)
   said_waits d d_says =
       let node : Node = with_call (w.nodes me.0) known (w.nodes me.0).busy c.call.seq (Some d) in
       let grows : Grows w (quiet w me node []) stamps stamps
@@ -183,25 +185,24 @@ module _ (setting : Setting) (views : Views) (sound : IsSound setting) (w : Worl
               (stays_call setting views w (quiet w me node []) stamps stamps books grows me.0 c.call.seq d
               (ap (λ (x : Node). x.boot) (put_same w.nodes me.0 node)) (λ p. refl) d_says)))
               (λ j other at. inl (at, λ p. refl)) k;
+          jobs = λ job is. inl is;
           packets = λ k packet at. cc;
         }),
       )
 
   -- the operation is aborted
-  said_aborts : (cause : Cause) → IsSaid setting views (after (Ends (Aborted cause) None None))
-  said_aborts cause = (
-    stamps,
-    said_ended setting views w stamps me c known books said is more_known (Aborted cause) None None
-        (λ v has. has)
-        (λ v has. (said.operations (number_of w me.0 c.call.seq) o its.operation_is).version v has)
-        (λ v has how. (said.operations (number_of w me.0 c.call.seq) o its.operation_is).stands v has (⊎_elim
+  said_aborts : (cause : Cause) → Goes (Ends (Aborted cause) None None)
+  said_aborts cause = record {
+    keeps_version = λ v has. has;
+    has_version = λ v has. (said.operations (number_of w me.0 c.call.seq) o its.operation_is).version v has;
+    stands = λ v has how. (said.operations (number_of w me.0 c.call.seq) o its.operation_is).stands v has (⊎_elim
         (λ (unmade : o.made ≡ false). inl unmade)
         (λ (bad : false ≡ true). absurd (false≢true bad))
-        how))
-        (λ bad writing. absurd (false≢true bad))
-        tt
-        (λ t bad. let never : None ≡ Some t = bad in cc),
-  )
+        how);
+    answered_made = λ bad writing. absurd (false≢true bad);
+    shows = tt;
+    collects = λ t bad. let never : None ≡ Some t = bad in cc;
+  }
 
   -- a group of its view that is the operation's is the one at hand
   same_group : (v : Stamp) → view_of v ≡ c.stamp.view.0 → (other : Group) → group_in setting.layout views o.ask.group.0 (view_of v) ≡ Some other
@@ -299,7 +300,7 @@ module _ (setting : Setting) (views : Views) (sound : IsSound setting) (w : Worl
       -- a read that sees one version is answered what it reads of that
       said_answers : looks_back c.phase ≡ false → (v : Stamp) (bytes : List ℕ) → fast_version d.counted ≡ Some v → IsUnmade o → writes o.ask.op ≡ false
           → read_of setting.layout.block o.ask.op (w.contents o.ask.group.0 o.ask.stripe.0 v) ≡ Some bytes
-          → IsSaid setting views (after (Ends (Data bytes) (Some v) None))
+          → Goes (Ends (Data bytes) (Some v) None)
       said_answers ahead v bytes fast unmade reads gives =
           let of : view_of v ≡ c.call.view.0 = fast_in setting views sound w stamps me c books said is d.counted each once many v fast in
           let has : HasVersion setting views w o v = record {
@@ -314,22 +315,20 @@ module _ (setting : Setting) (views : Views) (sound : IsSound setting) (w : Worl
                 let same : asked ≡ other = same_asked v of other other_is in
                 subst (λ (z : Group). FloorsAtMost o z v) same
                 (fast_floors setting views sound w stamps me c books said is d.counted each once many v fast);
-          } in (
-            stamps,
-            said_ended setting views w stamps me c known books said is more_known (Data bytes)
-                (Some v) None
-                (λ u old. let e : Some u ≡ None = sym old ∙ unmade.0 in cc)
-                (λ u now. let same : v ≡ u = cc in subst (λ (t : Stamp). HasVersion setting views w o t) same has)
-                (λ u now how other other_is.
+          } in
+          record {
+            keeps_version = λ u old. let e : Some u ≡ None = sym old ∙ unmade.0 in cc;
+            has_version = λ u now. let same : v ≡ u = cc in subst (λ (t : Stamp). HasVersion setting views w o t) same has;
+            stands = λ u now how other other_is.
                 let same : v ≡ u = cc in
                 let group_same : asked ≡ other = same_asked u (ap view_of (sym same) ∙ of) other other_is in
                 subst (λ (z : Group). AtQuorum z (λ seat. w.held (brick_at z seat) o.ask.group.0 o.ask.stripe.0 u)) group_same
                 (subst (λ (t : Stamp). AtQuorum asked (λ seat. w.held (brick_at asked seat) o.ask.group.0 o.ask.stripe.0 t)) same
-                (fast_stands setting views sound w stamps me c books said is d.counted each once many v fast)))
-                (λ answered writing. absurd (false≢true (sym reads ∙ writing)))
-                (v, refl, gives)
-                (λ t bad. let never : None ≡ Some t = bad in cc),
-          )
+                (fast_stands setting views sound w stamps me c books said is d.counted each once many v fast));
+            answered_made = λ answered writing. absurd (false≢true (sym reads ∙ writing));
+            shows = (v, refl, gives);
+            collects = λ t bad. let never : None ≡ Some t = bad in cc;
+          }
 
       -- the coordinator begins its next phase with its own stamp
       own_of : IsStampOf (with_known (w.nodes me.0) (max known c.stamp.time)) me.0 (w.nodes me.0).boot c.stamp
@@ -344,7 +343,7 @@ module _ (setting : Setting) (views : Views) (sound : IsSound setting) (w : Worl
       -- a phase of its own stamp begins
       begins : (base : Option Stamp) (content : List ℕ) (phase : Phase) → FitsPhase phase c.ask.op
           → MayBegin setting views w c o c.stamp base content phase → DescendsFrom phase c.ask.op c.stamp
-          → IsSaid setting views (after (Sends (record (in_phase d phase) { base = base; content = content })))
+          → Goes (Sends (record (in_phase d phase) { base = base; content = content }))
       begins base content phase fits asks down =
           said_sent setting views sound w stamps me c known books said is more_known c.stamp c.round base content phase own_of own_from refl fits asks down
 
@@ -356,10 +355,10 @@ module _ (setting : Setting) (views : Views) (sound : IsSound setting) (w : Worl
       }
 
       -- a read that saw no version told by all recovers
-      recovers_next : writes c.ask.op ≡ false → IsSaid setting views (after (Sends (in_phase d Recovers)))
+      recovers_next : writes c.ask.op ≡ false → Goes (Sends (in_phase d Recovers))
       recovers_next reads = begins c.base c.content Recovers reads tt (level Recovers c.ask.op c.stamp (λ bound bad. cc))
 
-      looks_on : c.phase ≡ Looks → (z : Option Stamp) → fast_version d.counted ≡ z → IsSaid setting views (after (answered_fast setting.code d z))
+      looks_on : c.phase ≡ Looks → (z : Option Stamp) → fast_version d.counted ≡ z → Goes (answered_fast setting.code d z)
       looks_on looks None fast =
           recovers_next (ap writes (subst (λ (p : Phase). FitsPhase p c.ask.op) looks says.fits))
       looks_on looks (Some v) fast =
@@ -392,7 +391,7 @@ module _ (setting : Setting) (views : Views) (sound : IsSound setting) (w : Worl
       has_its_length = subst (λ (m : ℕ). has_length m setting.layout.block o.ask.op ≡ true) o_group o_books.length_fits
 
       looks_at_on : (j : ℕ) → c.phase ≡ LooksAt j → (z : Option Stamp) → fast_version_at j d.counted ≡ z
-          → IsSaid setting views (after (answered_fast_at d j z))
+          → Goes (answered_fast_at d j z)
       looks_at_on j looks None fast =
           recovers_next (ap writes (subst (λ (p : Phase). FitsPhase p c.ask.op) looks says.fits))
       looks_at_on j looks (Some v) fast_at_j =
@@ -407,11 +406,11 @@ module _ (setting : Setting) (views : Views) (sound : IsSound setting) (w : Worl
       -- an order that was refused is tried again, or aborts
       again : (phase : Phase) → c.phase ≡ phase → ((t : Stamp) → MayBegin setting views w c o t c.base c.content phase)
           → ((bound : Stamp) → phase ≡ Descends bound → ⊥) → (r : Refuser) (z : Option Stamp) → fresh ≡ z
-          → IsSaid setting views (after (ordered_again z d r))
+          → Goes (ordered_again z d r)
       again phase same asks never r None none = said_aborts (Cause.Later r.brick r.stamp)
       again phase same asks never r (Some t) new =
           let own = fresh_is t new in
-          cond_both (nat_lt c.round most_rounds) (Sends (reordering d t)) (aborted_by r) (λ (z : Next). IsSaid setting views (after z))
+          cond_both (nat_lt c.round most_rounds) (Sends (reordering d t)) (aborted_by r) (λ (z : Next). Goes z)
           (λ few.
           said_sent setting views sound w stamps me c known books said is more_known t (c.round + 1) c.base c.content c.phase
           (record {
@@ -428,7 +427,7 @@ module _ (setting : Setting) (views : Views) (sound : IsSound setting) (w : Worl
           (λ all. said_aborts (Cause.Later r.brick r.stamp))
 
       orders_on : c.phase ≡ Orders → NoneStops d.counted → (z : Option Refuser) → greatest_refuser d.counted ≡ z
-          → IsSaid setting views (after (once_ordered fresh d z (Makes (in_phase d Stores))))
+          → Goes (once_ordered fresh d z (Makes (in_phase d Stores)))
       orders_on orders roomy None none =
           let all = all_ordered setting views sound w stamps me c books said is d.counted each once many orders none roomy in
           let unmade : IsUnmade o = subst (λ (p : Phase). MadeInPhase c o p) orders its.made in
@@ -508,7 +507,7 @@ module _ (setting : Setting) (views : Views) (sound : IsSound setting) (w : Worl
         -- it looks back
         backs_on : (z : Option Stamp) → 1 < c.stamp.view.0 → ((b : Stamp) → z ≡ Some b → view_of b + 1 ≡ c.stamp.view.0)
             → AreBlocked setting views w c.ask.group.0 c.ask.stripe.0 (IsCovered (old_bound c.stamp z) c.stamp)
-            → IsSaid setting views (after (Sends (in_phase d (LooksBack z))))
+            → Goes (Sends (in_phase d (LooksBack z)))
         backs_on z later bounded covered =
             begins c.base c.content (LooksBack z) not_whole
             (record {
@@ -549,7 +548,7 @@ module _ (setting : Setting) (views : Views) (sound : IsSound setting) (w : Worl
               (ap (λ (t : Stamp). group_in setting.layout views o.ask.group.0 (view_of t)) same ∙ other_is)))
               (cases_Bool (stamp_below v e))
 
-          descends_on : length (pieces_at v d.counted) < group.m → IsSaid setting views (after (Sends (in_phase d (Descends v))))
+          descends_on : length (pieces_at v d.counted) < group.m → Goes (Sends (in_phase d (Descends v)))
           descends_on few =
               begins c.base c.content (Descends v) not_whole (
                 version_above setting views sound w stamps me c books said is d.counted each once many bound looks all v greatest few,
@@ -561,10 +560,10 @@ module _ (setting : Setting) (views : Views) (sound : IsSound setting) (w : Worl
               })
 
           -- it looks further down
-          lowers_next : length (pieces_at v d.counted) < group.m → IsSaid setting views (after (Sends (in_phase d (lower_phase c.phase v))))
+          lowers_next : length (pieces_at v d.counted) < group.m → Goes (Sends (in_phase d (lower_phase c.phase v)))
           lowers_next few = by c.phase refl
             where
-              by : (p : Phase) → c.phase ≡ p → IsSaid setting views (after (Sends (in_phase d (lower_phase p v))))
+              by : (p : Phase) → c.phase ≡ p → Goes (Sends (in_phase d (lower_phase p v)))
               by (LooksBack z) at =
                   let back = says.back z at in
                   let before : c.call.view.0 ≡ c.stamp.view.0 - 1 = back_call setting views w stamps books said me.0 c.call.seq c is (ap looks_back at) in
@@ -602,14 +601,14 @@ module _ (setting : Setting) (views : Views) (sound : IsSound setting) (w : Worl
 
           -- it makes its version on that
           makes_next : (phase : Phase) (content : List ℕ) → SendsVersion setting views w c (Some v) phase content
-              → IsSaid setting views (after (Makes (record (in_phase d phase) { base = Some v; content = content })))
+              → Goes (Makes (record (in_phase d phase) { base = Some v; content = content }))
           makes_next phase content sends =
               said_made setting views sound w stamps me c known books said is more_known (Some v) phase content (unmade.0, unmade.1)
               own_guarded own_floors
               (inr makes_on) made_formed sends
 
           restores_on : want_of c.phase ≡ All → group.m ≤ length (pieces_at v d.counted)
-              → IsSaid setting views (after (Makes (restoring setting.layout.block d v (setting.code.decode group.m (pieces_at v d.counted)))))
+              → Goes (Makes (restoring setting.layout.block d v (setting.code.decode group.m (pieces_at v d.counted))))
           restores_on wanted enough =
               let content : setting.code.decode group.m (pieces_at v d.counted) ≡ w.contents o.ask.group.0 o.ask.stripe.0 v
               = pieces_decode setting views sound w stamps me c books said is d.counted each once many (Below bound) all v made_version wanted enough in
@@ -621,9 +620,9 @@ module _ (setting : Setting) (views : Views) (sound : IsSound setting) (w : Worl
               ))
 
         reads_on : want_of c.phase ≡ All → (z : Option Stamp) → greatest_found d.counted ≡ z
-            → IsSaid setting views (after (read_back setting.layout.block setting.code d z))
+            → Goes (read_back setting.layout.block setting.code d z)
         reads_on wanted None nothing =
-            cond_both (may_look_back d) (Sends (in_phase d (LooksBack None))) (Waits (forgetting d)) (λ (z : Next). IsSaid setting views (after z))
+            cond_both (may_look_back d) (Sends (in_phase d (LooksBack None))) (Waits (forgetting d)) (λ (z : Next). Goes z)
             (λ may.
             let parts = and_parts (nat_lt 1 c.stamp.view.0) (not (looks_back c.phase)) may in
             let later : 1 < c.stamp.view.0 = ltb-true 1 c.stamp.view.0 parts.0 in
@@ -634,7 +633,7 @@ module _ (setting : Setting) (views : Views) (sound : IsSound setting) (w : Worl
             (λ isnt. said_waits (forgetting d) (counting [] tt tt))
         reads_on wanted (Some v) greatest =
             cond_both (nat_lt (length (pieces_at v d.counted)) group.m) (Sends (in_phase d (lower_phase c.phase v)))
-            (Makes (restoring setting.layout.block d v (setting.code.decode group.m (pieces_at v d.counted)))) (λ (z : Next). IsSaid setting views (after z))
+            (Makes (restoring setting.layout.block d v (setting.code.decode group.m (pieces_at v d.counted)))) (λ (z : Next). Goes z)
             (λ few. lowers_next v greatest (ltb-true (length (pieces_at v d.counted)) group.m few))
             (λ enough. restores_on v greatest wanted (ltb-false (length (pieces_at v d.counted)) group.m enough))
 
@@ -643,7 +642,7 @@ module _ (setting : Setting) (views : Views) (sound : IsSound setting) (w : Worl
       reads_whole op reads bytes is = false≢true (sym reads ∙ ap writes is)
 
       recovers_on : c.phase ≡ Recovers → NoneStops d.counted → (z : Option Refuser) → greatest_refuser d.counted ≡ z
-          → IsSaid setting views (after (once_ordered fresh d z (read_back setting.layout.block setting.code d (greatest_found d.counted))))
+          → Goes (once_ordered fresh d z (read_back setting.layout.block setting.code d (greatest_found d.counted)))
       recovers_on recovers roomy None none =
           reads_on c.stamp (ap (λ (p : Phase). look_of p c.stamp) recovers) none roomy
           (reads_whole c.ask.op (subst (λ (p : Phase). FitsPhase p c.ask.op) recovers says.fits))
@@ -652,14 +651,14 @@ module _ (setting : Setting) (views : Views) (sound : IsSound setting) (w : Worl
 
       lowers_on : (bound : Stamp) → c.phase ≡ Descends bound → NoneStops d.counted → (z : Option Refuser)
           → greatest_refuser d.counted ≡ z
-          → IsSaid setting views (after (unless_refused z (read_back setting.layout.block setting.code d (greatest_found d.counted))))
+          → Goes (unless_refused z (read_back setting.layout.block setting.code d (greatest_found d.counted)))
       lowers_on bound descends roomy None none =
           reads_on bound (ap (λ (p : Phase). look_of p c.stamp) descends) none roomy (subst (λ (p : Phase). FitsPhase p c.ask.op) descends says.fits)
           (subst (λ (p : Phase). MadeInPhase c o p) descends its.made) (ap want_of descends) (greatest_found d.counted) refl
       lowers_on bound descends roomy (Some r) refused = said_aborts (Cause.Later r.brick r.stamp)
 
       backs_down : (z : Option Stamp) → c.phase ≡ LooksBack z → NoneStops d.counted
-          → IsSaid setting views (after (read_back setting.layout.block setting.code d (greatest_found d.counted)))
+          → Goes (read_back setting.layout.block setting.code d (greatest_found d.counted))
       backs_down z looks roomy =
           reads_on (old_bound c.stamp z) (ap (λ (p : Phase). look_of p c.stamp) looks)
           (back_unrefused setting views sound w stamps me c books said is d.counted each once many (ap looks_back looks)) roomy
@@ -668,7 +667,7 @@ module _ (setting : Setting) (views : Views) (sound : IsSound setting) (w : Worl
 
       -- the write of a block modifies the version that all found, or looks for the greatest below its own stamp
       orders_at_on : (j : ℕ) → c.phase ≡ OrdersAt j → NoneStops d.counted → (z : Option Refuser) → greatest_refuser d.counted ≡ z
-          → IsSaid setting views (after (once_ordered fresh d z (modified_if setting.code d j (common_version_at j d.counted))))
+          → Goes (once_ordered fresh d z (modified_if setting.code d j (common_version_at j d.counted)))
       orders_at_on j orders roomy (Some r) refused = again (OrdersAt j) orders (λ t. tt) (λ bound bad. cc) r fresh refl
       orders_at_on j orders roomy None none = goes (common_version_at j d.counted) refl
         where
@@ -694,7 +693,7 @@ module _ (setting : Setting) (views : Views) (sound : IsSound setting) (w : Worl
               (said.stamps_say.are me.0 (w.nodes me.0).boot c.call.seq c.call.phase c.stamp (c.phase, says.begun)))
 
           modifies_next : (v : Stamp) → has_seat j d.counted ≡ true → common_version d.counted ≡ Some v
-              → IsSaid setting views (after (Makes (modifying setting.code d v j)))
+              → Goes (Makes (modifying setting.code d v j))
           modifies_next v has common =
               let greatest : greatest_found d.counted ≡ Some v = common_greatest d.counted v common in
               let told = common_each d.counted v common in
@@ -734,7 +733,7 @@ module _ (setting : Setting) (views : Views) (sound : IsSound setting) (w : Worl
                     ∙ ap (λ (op : Op). setting.code.delta (block_of setting.layout.block j (w.contents c.ask.group.0 c.ask.stripe.0 v)) (block_written op)) writing.1;
               }))
 
-          goes : (y : Option Stamp) → common_version_at j d.counted ≡ y → IsSaid setting views (after (modified_if setting.code d j y))
+          goes : (y : Option Stamp) → common_version_at j d.counted ≡ y → Goes (modified_if setting.code d j y)
           goes None isnt =
               begins c.base c.content (Descends c.stamp) not_whole (own_above, none_covered)
               (record {
@@ -767,24 +766,22 @@ module _ (setting : Setting) (views : Views) (sound : IsSound setting) (w : Worl
 
       -- an operation whose version stands is answered
       answers_on : (answer : Answer) → is_answer answer ≡ true → IsMade c o → AtQuorum group (λ seat. w.held (brick_at group seat) o.ask.group.0 o.ask.stripe.0 c.stamp)
-          → WillShow setting w o None answer → IsSaid setting views (after (Ends answer None (Some c.stamp)))
-      answers_on answer is_one made stands shows = (
-        stamps,
-        said_ended setting views w stamps me c known books said is more_known answer None (Some c.stamp)
-            (λ v has. has)
-            (λ v has. (said.operations (number_of w me.0 c.call.seq) o its.operation_is).version v has)
-            (λ v has how other other_is.
+          → WillShow setting w o None answer → Goes (Ends answer None (Some c.stamp))
+      answers_on answer is_one made stands shows = record {
+        keeps_version = λ v has. has;
+        has_version = λ v has. (said.operations (number_of w me.0 c.call.seq) o its.operation_is).version v has;
+        stands = λ v has how other other_is.
             let same : c.stamp ≡ v = same_Some c.stamp v (sym made.0 ∙ has) in
             let group_same : group ≡ other = same_group v (ap view_of (sym same) ∙ own_view) other other_is in
             subst (λ (z : Group). AtQuorum z (λ seat. w.held (brick_at z seat) o.ask.group.0 o.ask.stripe.0 v)) group_same
-            (subst (λ (t : Stamp). AtQuorum group (λ seat. w.held (brick_at group seat) o.ask.group.0 o.ask.stripe.0 t)) same stands))
-            (λ answered writing. made.1)
-            shows
-            (λ t is. (made.1, made.0 ∙ is, is_one)),
-      )
+            (subst (λ (t : Stamp). AtQuorum group (λ seat. w.held (brick_at group seat) o.ask.group.0 o.ask.stripe.0 t)) same stands);
+        answered_made = λ answered writing. made.1;
+        shows = shows;
+        collects = λ t is. (made.1, made.0 ∙ is, is_one);
+      }
 
       stores_on : c.phase ≡ Stores → NoneStops d.counted → (z : Option Refuser) → greatest_refuser d.counted ≡ z
-          → IsSaid setting views (after (unless_refused z (Ends (answer_with (read_of setting.layout.block c.ask.op c.content)) None (Some c.stamp))))
+          → Goes (unless_refused z (Ends (answer_with (read_of setting.layout.block c.ask.op c.content)) None (Some c.stamp)))
       stores_on stores roomy None none =
           let made : IsMade c o = subst (λ (p : Phase). MadeInPhase c o p) stores its.made in
           answers_on (answer_with (read_of setting.layout.block c.ask.op c.content)) (answer_is (read_of setting.layout.block c.ask.op c.content)) made
@@ -796,12 +793,12 @@ module _ (setting : Setting) (views : Views) (sound : IsSound setting) (w : Worl
 
       -- a change that a quorum made is done; where a member was behind, the base is read back
       modifies_on : (base : Stamp) (j : ℕ) → c.phase ≡ Modifies base j → NoneStops d.counted → (z : Option Refuser)
-          → greatest_refuser d.counted ≡ z → IsSaid setting views (after (unless_refused z (once_modified d base)))
+          → greatest_refuser d.counted ≡ z → Goes (unless_refused z (once_modified d base))
       modifies_on base j modifies roomy (Some r) refused = said_aborts (Cause.Later r.brick r.stamp)
       modifies_on base j modifies roomy None none =
           let writing : (bytes : List ℕ) × (c.ask.op ≡ WriteBlock j bytes) = subst (λ (p : Phase). FitsPhase p c.ask.op) modifies says.fits in
           let made : IsMade c o × (c.base ≡ Some base) = subst (λ (p : Phase). MadeInPhase c o p) modifies its.made in
-          cond_both (some_behind d.counted) (Sends (in_phase d (Bases base))) (Ends Done None (Some c.stamp)) (λ (z : Next). IsSaid setting views (after z))
+          cond_both (some_behind d.counted) (Sends (in_phase d (Bases base))) (Ends Done None (Some c.stamp)) (λ (z : Next). Goes z)
           (λ behind.
           begins c.base c.content (Bases base) (j, writing.0, writing.1) (refl, refl, says.based base (ap base_in modifies))
           (level (Bases base) c.ask.op c.stamp (λ bound bad. cc)))
@@ -813,7 +810,7 @@ module _ (setting : Setting) (views : Views) (sound : IsSound setting) (w : Worl
 
       -- a base that was read back is stored, with what the operation makes of it
       bases_on : (base : Stamp) → c.phase ≡ Bases base → NoneStops d.counted → (z : Option Refuser) → greatest_refuser d.counted ≡ z
-          → IsSaid setting views (after (unless_refused z (rebuilt setting.layout.block setting.code d base)))
+          → Goes (unless_refused z (rebuilt setting.layout.block setting.code d base))
       bases_on base reads roomy (Some r) refused = said_aborts (Cause.Later r.brick r.stamp)
       bases_on base reads roomy None none =
           let on : MadeOn setting views w c base = says.based base (ap base_in reads) in
@@ -823,7 +820,7 @@ module _ (setting : Setting) (views : Views) (sound : IsSound setting) (w : Worl
           let content : setting.code.decode group.m (pieces_at base d.counted) ≡ w.contents o.ask.group.0 o.ask.stripe.0 base
           = base_decodes setting views sound w stamps me c books said is d.counted each once many base reads none roomy in
           cond_both (nat_lt (length (pieces_at base d.counted)) group.m) (Waits (forgetting d))
-          (Sends (restoring setting.layout.block d base (setting.code.decode group.m (pieces_at base d.counted)))) (λ (z : Next). IsSaid setting views (after z))
+          (Sends (restoring setting.layout.block d base (setting.code.decode group.m (pieces_at base d.counted)))) (λ (z : Next). Goes z)
           (λ few. absurd (let less : length (pieces_at base d.counted) < group.m = ltb-true (length (pieces_at base d.counted)) group.m few in omega (arith, less, enough)))
           (λ most.
           begins (Some base) (after_op setting.layout.block c.ask.op (setting.code.decode group.m (pieces_at base d.counted))) Stores tt
@@ -839,62 +836,62 @@ module _ (setting : Setting) (views : Views) (sound : IsSound setting) (w : Worl
           (level Stores c.ask.op c.stamp (λ bound bad. cc)))
 
       -- a member that moved on, that dropped the view before, or whose store is full aborts it, and else no reply tells so
-      unless_told : (next : Next) → (NoneStops d.counted → IsSaid setting views (after next)) → (x : Option Mover) (y : Option Dropper) (z : Option FullMember)
+      unless_told : (next : Next) → (NoneStops d.counted → Goes next) → (x : Option Mover) (y : Option Dropper) (z : Option FullMember)
           → lowest_mover d.counted ≡ x → lowest_dropper d.counted ≡ y → lowest_full d.counted ≡ z
-          → IsSaid setting views (after (unless_told_moved x (unless_told_gone y (unless_told_full z next))))
+          → Goes (unless_told_moved x (unless_told_gone y (unless_told_full z next)))
       unless_told next goes None None None stays kept roomy = goes (stays, kept, roomy)
       unless_told next goes None None (Some f) stays kept told = said_aborts (Cause.Full f.brick f.live)
       unless_told next goes None (Some g) z stays told roomy = said_aborts (Cause.Gone g.brick)
       unless_told next goes (Some m) y z told kept roomy = said_aborts (Cause.Moved m.brick m.view)
 
       -- what a quorum of replies decides keeps the invariant
-      decides : IsSaid setting views (after (decided setting.layout.block setting.code fresh d))
+      decides : Goes (decided setting.layout.block setting.code fresh d)
       decides = by_phase c.phase refl
         where
-          by_phase : (p : Phase) → c.phase ≡ p → IsSaid setting views (after (decided setting.layout.block setting.code fresh d))
+          by_phase : (p : Phase) → c.phase ≡ p → Goes (decided setting.layout.block setting.code fresh d)
           by_phase Looks at =
-              subst (λ (z : Next). IsSaid setting views (after z)) (sym (decided_looks setting.layout.block setting.code fresh d at))
+              subst (λ (z : Next). Goes z) (sym (decided_looks setting.layout.block setting.code fresh d at))
               (unless_told _ (λ roomy. looks_on at (fast_version d.counted) refl) (lowest_mover d.counted) (lowest_dropper d.counted) (lowest_full d.counted) refl refl refl)
           by_phase Orders at =
-              subst (λ (z : Next). IsSaid setting views (after z)) (sym (decided_orders setting.layout.block setting.code fresh d at))
+              subst (λ (z : Next). Goes z) (sym (decided_orders setting.layout.block setting.code fresh d at))
               (unless_told _ (λ roomy. orders_on at roomy (greatest_refuser d.counted) refl) (lowest_mover d.counted) (lowest_dropper d.counted) (lowest_full d.counted) refl refl refl)
           by_phase (LooksAt j) at =
-              subst (λ (z : Next). IsSaid setting views (after z)) (sym (decided_looks_at setting.layout.block setting.code fresh j d at))
+              subst (λ (z : Next). Goes z) (sym (decided_looks_at setting.layout.block setting.code fresh j d at))
               (unless_told _ (λ roomy. looks_at_on j at (fast_version_at j d.counted) refl) (lowest_mover d.counted) (lowest_dropper d.counted) (lowest_full d.counted) refl refl refl)
           by_phase (OrdersAt j) at =
-              subst (λ (z : Next). IsSaid setting views (after z)) (sym (decided_orders_at setting.layout.block setting.code fresh j d at))
+              subst (λ (z : Next). Goes z) (sym (decided_orders_at setting.layout.block setting.code fresh j d at))
               (unless_told _ (λ roomy. orders_at_on j at roomy (greatest_refuser d.counted) refl) (lowest_mover d.counted) (lowest_dropper d.counted) (lowest_full d.counted) refl refl refl)
           by_phase (Modifies base j) at =
-              subst (λ (z : Next). IsSaid setting views (after z)) (sym (decided_modifies setting.layout.block setting.code fresh base j d at))
+              subst (λ (z : Next). Goes z) (sym (decided_modifies setting.layout.block setting.code fresh base j d at))
               (unless_told _ (λ roomy. modifies_on base j at roomy (greatest_refuser d.counted) refl) (lowest_mover d.counted) (lowest_dropper d.counted) (lowest_full d.counted) refl refl refl)
           by_phase (Bases base) at =
-              subst (λ (z : Next). IsSaid setting views (after z)) (sym (decided_bases setting.layout.block setting.code fresh base d at))
+              subst (λ (z : Next). Goes z) (sym (decided_bases setting.layout.block setting.code fresh base d at))
               (unless_told _ (λ roomy. bases_on base at roomy (greatest_refuser d.counted) refl) (lowest_mover d.counted) (lowest_dropper d.counted) (lowest_full d.counted) refl refl refl)
           by_phase Recovers at =
-              subst (λ (z : Next). IsSaid setting views (after z)) (sym (decided_recovers setting.layout.block setting.code fresh d at))
+              subst (λ (z : Next). Goes z) (sym (decided_recovers setting.layout.block setting.code fresh d at))
               (unless_told _ (λ roomy. recovers_on at roomy (greatest_refuser d.counted) refl) (lowest_mover d.counted) (lowest_dropper d.counted) (lowest_full d.counted) refl refl refl)
           by_phase (Descends bound) at =
-              subst (λ (z : Next). IsSaid setting views (after z)) (sym (decided_descends setting.layout.block setting.code fresh bound d at))
+              subst (λ (z : Next). Goes z) (sym (decided_descends setting.layout.block setting.code fresh bound d at))
               (unless_told _ (λ roomy. lowers_on bound at roomy (greatest_refuser d.counted) refl) (lowest_mover d.counted) (lowest_dropper d.counted) (lowest_full d.counted) refl refl refl)
           by_phase (LooksBack z) at =
-              subst (λ (z : Next). IsSaid setting views (after z)) (sym (decided_back setting.layout.block setting.code fresh z d at))
+              subst (λ (z : Next). Goes z) (sym (decided_back setting.layout.block setting.code fresh z d at))
               (unless_told _ (λ roomy. backs_down z at roomy) (lowest_mover d.counted) (lowest_dropper d.counted) (lowest_full d.counted) refl refl refl)
           by_phase Stores at =
-              subst (λ (z : Next). IsSaid setting views (after z)) (sym (decided_stores setting.layout.block setting.code fresh d at))
+              subst (λ (z : Next). Goes z) (sym (decided_stores setting.layout.block setting.code fresh d at))
               (unless_told _ (λ roomy. stores_on at roomy (greatest_refuser d.counted) refl) (lowest_mover d.counted) (lowest_dropper d.counted) (lowest_full d.counted) refl refl refl)
 
     -- a reply that counts keeps the invariant
-    counts : IsSaid setting views (after (once_full setting.layout.block setting.code fresh d))
+    counts : Goes (once_full setting.layout.block setting.code fresh d)
     counts =
         cond_both (nat_lt (length d.counted) (quorum_of asked)) (Waits d) (decided setting.layout.block setting.code fresh d)
-        (λ (z : Next). IsSaid setting views (after z))
+        (λ (z : Next). Goes z)
         (λ fewer. said_waits d more_says)
         (λ enough. decides (ltb-false (length d.counted) (quorum_of asked) enough))
 
   -- whether or not it counts
   counted_or_not : (from : BrickId) (call : Call) (reply : Reply) → WasSent w (record { from = from; to = me; message = Message.Reply call reply })
       → (z : Option ℕ) → counts_at setting.layout.block c from.0 call reply ≡ z
-      → IsSaid setting views (after (counted_at setting.layout.block setting.code fresh c from reply z))
+      → Goes (counted_at setting.layout.block setting.code fresh c from reply z)
   counted_or_not from call reply sent None isnt = (stamps, said_known setting views w stamps me known books said more_known)
   counted_or_not from call reply sent (Some seat) at =
       let facts : CountsAt setting.layout.block c from.0 call reply seat = counts_facts setting.layout.block c from.0 call reply seat at in
@@ -902,10 +899,10 @@ module _ (setting : Setting) (views : Views) (sound : IsSound setting) (w : Worl
       (subst (λ (z : Call). WasSent w (record { from = from; to = me; message = Message.Reply z reply })) facts.call_is sent)
       facts.answers facts.seat_is facts.first
 
-  -- a coordinator's step on a reply keeps the invariant
-  pub said_after_reply : (from : BrickId) (call : Call) (reply : Reply)
+  -- what a coordinator decides on a reply is well
+  pub reply_goes : (from : BrickId) (call : Call) (reply : Reply)
       → WasSent w (record { from = from; to = me; message = Message.Reply call reply })
-      → IsSaid setting views (after (on_reply setting.layout.block setting.code fresh c from call reply))
+      → Goes (on_reply setting.layout.block setting.code fresh c from call reply)
   unfolding on_reply
-  said_after_reply from call reply sent =
+  reply_goes from call reply sent =
       counted_or_not from call reply sent (counts_at setting.layout.block c from.0 call reply) refl

@@ -536,5 +536,6 @@ module _ (setting : Setting) (views : Views) (w : World) (stamps : Stamping) (me
           logs = logs;
           lowest = lowest;
           calls = λ k c is. inl (is, λ p. refl);
+          jobs = λ job is. inl is;
           packets = packets_say;
         })

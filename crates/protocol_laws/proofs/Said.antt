@@ -33,12 +33,13 @@ use Rattle.protocol.specs.declared.phases.Phase.{Phase}
 use Rattle.protocol.specs.declared.phases.Phase.TheVariants.{Looks, LooksAt, Orders, OrdersAt, Recovers, Descends, Modifies, Bases, Stores, LooksBack}
 use Rattle.protocol.specs.declared.phases.Counted.{Counted}
 use Rattle.protocol.specs.Coordinators.{Coordinator, answers_phase, has_seat, request_of, delta_at, old_bound, asked_group, looks_back}
+use Rattle.protocol.specs.Jobs.{Job}
 use Rattle.protocol.specs.Nodes.{Node, given_content, view_at}
 use Rattle.protocol.specs.Worlds.{World, Operation, zero_content}
 use Rattle.protocol.specs.Happenings.{writes}
 use Rattle.fab_base.specs.Layouts.{brick_at}
 use Rattle.protocol_laws.specs.Laws.{WasSent, RequestSent, AskedAt, AtQuorum, IsModified, stamp_stored, IsGuarded, IsBlocked, top_in, part_in, first_kept_in}
-use Rattle.protocol_laws.proofs.Books.{IsOperation, IsCall}
+use Rattle.protocol_laws.proofs.Books.{IsOperation, IsCall, IsReadable}
 use Rattle.protocol_laws.proofs.Blocking.{LogsFit}
 use Rattle.protocol_laws.proofs.Logs.{IsWithin}
 use Rattle.protocol.proofs.Blocks.{IsContent}
@@ -344,9 +345,9 @@ module _ (setting : Setting) (views : Views) (w : World) where
   ReplySays stamps from to call (Reply.Old found) = OldSays stamps from.0 to.0 call found
   ReplySays stamps from to call reply = Unit {0}
 
-  -- each stripe of the group has a version of the view that stands
+  -- each stripe of the group, and stripe 0, has a version of the view that stands
   abbrev pub SyncedSays : ℕ → ℕ → Type 0
-  SyncedSays g e = (s : ℕ) (group : Group) → group_of setting.layout g ≡ Some group → s < group.stripes
+  SyncedSays g e = (s : ℕ) (group : Group) → group_of setting.layout g ≡ Some group → IsReadable group s
       → (v : Stamp) × (view_of v ≡ e) × Stands setting views w g s v
 
   abbrev pub MessageSays : Stamping → BrickId → BrickId → Message → Type 0
@@ -380,10 +381,16 @@ module _ (setting : Setting) (views : Views) (w : World) where
 abbrev pub WritesWhole : World → Operation → Stamp → Type 0
 WritesWhole w o v = (o.base ≡ None) × (o.ask.op ≡ WriteStripe (w.contents o.ask.group.0 o.ask.stripe.0 v))
 
+-- a quorum of each view of a group before this one takes nothing below the first stamp of the next
+abbrev pub ArePassed : Setting → Views → World → ℕ → ℕ → Type 0
+ArePassed setting views w g most =
+    (e s : ℕ) (group : Group) → 1 ≤ e → e < most → group_in setting.layout views g e ≡ Some group → IsGuarded w g s group (floor_of (e + 1))
+
 -- operation n
 pub record OperationSays (setting : Setting) (views : Views) (w : World) (stamps : Stamping) (n : ℕ) (o : Operation) : Type 0 where
   pub begin : o.begin ≤ length w.marks
   pub view : (1 ≤ o.view) × (o.view ≤ view_at (w.nodes o.brick.0) o.ask.group.0)
+  pub passed : ArePassed setting views w o.ask.group.0 o.view
   pub floors : (i : ℕ) → stamp_below (top_in w o.ask.group.0 o.ask.stripe.0 i) (o.floor i) ≡ false
   pub floors_known : (i : ℕ) → IsKnown stamps (o.floor i) ⊎ ((o.floor i).time ≡ 0)
   pub fresh : (i p : ℕ) → IsStamped stamps o.brick.0 o.boot o.seq p (o.floor i) → ⊥
@@ -469,30 +476,41 @@ pub record CallSays (setting : Setting) (views : Views) (w : World) (stamps : St
   pub counted : EachCounted (CountedSays setting views w i c) c.counted
   pub once : AreOnce c.counted
 
--- operation n reads, and the data that it was answered are what it reads of its version
+-- the operation whose marks have number n reads, and the data that it was answered are what it reads of its version
 pub record DataShown (setting : Setting) (w : World) (n : ℕ) (bytes : List ℕ) : Type 0 where
   pub operation : Operation
-  pub is : IsOperation w n operation
+  pub number : ℕ
+  pub is : IsOperation w number operation
+  pub mark : operation.mark ≡ n
   pub version : Stamp
   pub version_is : operation.version ≡ Some version
   pub bytes_are : read_of setting.layout.block operation.ask.op (w.contents operation.ask.group.0 operation.ask.stripe.0 version) ≡ Some bytes
 
--- the end of operation n by this answer
+-- the end, by this answer, of the operation whose marks have number n
 abbrev pub EndShows : Setting → World → ℕ → Answer → Type 0
 EndShows setting w n (Data bytes) = DataShown setting w n bytes
-EndShows setting w n Done = (o : Operation) × IsOperation w n o × (writes o.ask.op ≡ true)
-EndShows setting w n (Aborted cause) = (o : Operation) × IsOperation w n o
+EndShows setting w n Done = (a : ℕ) × (o : Operation) × IsOperation w a o × (o.mark ≡ n) × (writes o.ask.op ≡ true)
+EndShows setting w n (Aborted cause) = (a : ℕ) × (o : Operation) × IsOperation w a o × (o.mark ≡ n)
 
--- where one operation has a version, the bricks had come as far when another of its stripe began, or that began no later than the first may end
+-- where one operation with marks has a version, the bricks had come as far when another of its stripe began, or that began no later than the first may end
 abbrev pub IsInOrder : Setting → Views → World → Type 0
 IsInOrder setting views w =
     (a b : ℕ) (earlier later : Operation) (u : Stamp) → IsOperation w a earlier → IsOperation w b later
-    → earlier.ask.group.0 ≡ later.ask.group.0 → earlier.ask.stripe.0 ≡ later.ask.stripe.0 → earlier.version ≡ Some u
-    → FloorsAbove setting views later u ⊎ (later.begin ≤ last_of (life_of w.marks a))
+    → earlier.ask.group.0 ≡ later.ask.group.0 → earlier.ask.stripe.0 ≡ later.ask.stripe.0 → 1 ≤ earlier.mark → earlier.version ≡ Some u
+    → FloorsAbove setting views later u ⊎ (later.begin ≤ last_of (life_of w.marks earlier.mark))
 
 -- nothing of view e that is below t was ever held
 abbrev pub IsBottom : World → ℕ → ℕ → ℕ → ℕ → Stamp → Type 0
 IsBottom w g e s i t = (d : Stamp) → view_of d ≡ e → stamp_below d t ≡ true → w.held i g s d ≡ true → ⊥
+
+-- The synchronisation of brick i is of a view that the brick has learnt, whose members and those before them are as they are assigned; and it has read each stripe
+-- before that of its present try: of each of these a version of its view stands.
+pub record JobSays (setting : Setting) (views : Views) (w : World) (i : ℕ) (job : Job) : Type 0 where
+  pub known : (1 ≤ job.view.number.0) × (job.view.number.0 ≤ view_at (w.nodes i) job.group.0)
+  pub members : job.view.members ≡ views job.group.0 job.view.number.0
+  pub prior : 1 < job.view.number.0 → job.view.prior ≡ views job.group.0 (job.view.number.0 - 1)
+  pub passed : ArePassed setting views w job.group.0 job.view.number.0
+  pub read : (s : ℕ) → s < job.attempt.stripe → (v : Stamp) × (view_of v ≡ job.view.number.0) × Stands setting views w job.group.0 s v
 
 -- The invariant.
 pub record Said (setting : Setting) (views : Views) (w : World) (stamps : Stamping) : Type 0 where
@@ -508,6 +526,7 @@ pub record Said (setting : Setting) (views : Views) (w : World) (stamps : Stampi
   pub packets : (k : ℕ) (packet : Packet) → slice_get w.packets k ≡ Some packet → PacketSays setting views w stamps packet
   pub operations : (n : ℕ) (o : Operation) → IsOperation w n o → OperationSays setting views w stamps n o
   pub calls : (i k : ℕ) (c : Coordinator) → IsCall w i k c → CallSays setting views w stamps i k c
+  pub jobs : (i : ℕ) (job : Job) → (w.nodes i).job ≡ Some job → JobSays setting views w i job
   pub ends : (k p n : ℕ) (answer : Answer) → slice_get w.marks k ≡ Some (End p n answer) → EndShows setting w n answer
   pub order : IsInOrder setting views w
   pub logged : LogsFit w

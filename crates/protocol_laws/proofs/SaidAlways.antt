@@ -4,13 +4,14 @@ use Rattle.protocol_laws.proofs.OwnStamps.{own_view}
 use Rattle.protocol_laws.proofs.OldReads.{old_reply_says}
 use Rattle.protocol_laws.proofs.Blocking.{first_fits}
 use Rattle.std.proofs.Common.{◌≡◌, ℕ, ◌<◌, ◌≤◌, ◌+◌, inl, true, false, List, [], ◌∷◌, ◌++◌, length, replicate, Option, Some, None, refl, sym, ap, ◌∙◌, subst, ⊎_elim, arith, ◌⊎◌, append_assoc}
-use Rattle.std.specs.Prelude.{slice_get, nat_eq}
+use Rattle.std.specs.Prelude.{slice_get, nat_eq, not, is_some}
 use Rattle.std.proofs.lemmas.List.{length-append}
-use Rattle.std.proofs.lemmas.Bool.{false≢true, or_left, or_cases, cond_both}
+use Rattle.std.proofs.lemmas.Bool.{false≢true, or_left, or_cases, cond_both, and_parts}
 use Rattle.fab_base.specs.declared.identities.BrickId.{BrickId}
 use Rattle.fab_base.specs.declared.identities.ViewNo.{ViewNo}
 use Rattle.fab_base.specs.declared.stamps.Stamp.{Stamp}
 use Rattle.fab_base.specs.declared.asks.Ask.{Ask}
+use Rattle.fab_base.specs.declared.answers.Answer.{Answer}
 use Rattle.fab_base.specs.Stamps.{stamp_below, stamp_same, first_stamp}
 use Rattle.fab_base.proofs.StampOrder.{stamp_same_refl, stamp_same_true, stamp_below_first}
 use Rattle.messages.specs.declared.calls.Call.{Call}
@@ -24,14 +25,15 @@ use Rattle.reg_model.specs.declared.marks.Mark.TheVariants.{End, Crash}
 use Rattle.fab_base.specs.Layouts.{Group, group_of, Layout}
 use Rattle.protocol.specs.Settings.{Setting, IsSound}
 use Rattle.protocol.specs.Replicas.{Reaction, first_replica, top_of, handle, is_held, Replica}
-use Rattle.protocol.specs.Coordinators.{Coordinator}
-use Rattle.protocol.specs.Nodes.{Node, NodeStep, put, with_known, with_replica, replica_at, reacted, full_at, reply_packets, ticked, stopped, restarted, new_stamp, fresh_stamp, no_step, began, invoked, requested, known_after, replied_at, received, group_at, view_at, moved_at, vote_at, heard, with_round, proposed, node_taught_by, view_counted, lists_fit}
-use Rattle.protocol.specs.Worlds.{World, Found, Before, After, Event, replies_with, first_world, zero_content, world_ticked, left_after, packet_during, world_stopped, world_found, world_started, may_begin, world_began, world_stepped, run, reached_during, voiced}
+use Rattle.protocol.specs.Coordinators.{Coordinator, Next, Ignores, Waits, Sends, Makes, Ends, on_reply}
+use Rattle.protocol.specs.Jobs.{Job, sync_refusal_in}
+use Rattle.protocol.specs.Nodes.{Node, NodeStep, put, with_known, with_replica, replica_at, reacted, full_at, reply_packets, ticked, stopped, restarted, new_stamp, fresh_stamp, no_step, began, invoked, requested, known_after, replied_at, received, group_at, view_at, moved_at, vote_at, heard, with_round, proposed, node_taught_by, view_counted, lists_fit, carried_out, job_reading, sync_refusal}
+use Rattle.protocol.specs.Worlds.{World, Found, Before, After, Event, replies_with, first_world, is_up, zero_content, world_ticked, left_after, packet_during, world_stopped, world_found, world_started, may_begin, world_began, world_stepped, run, reached_during, voiced}
 use Rattle.protocol_laws.specs.Laws.{WasSent, Follows, RunFollows}
 use Rattle.protocol_laws.proofs.Books.{Books, IsCall}
 use Rattle.protocol_laws.proofs.Left.{IsLeft, kept_of, Leaves, always_leaves, packet_was_sent}
 use Rattle.protocol_laws.proofs.Said.{Stamping, Said, IsSaid, IsStampOf, VersionSays, PacketSays, WasCollected, IsMadeOrFirst, IsBottom}
-use Rattle.protocol_laws.proofs.BooksEvents.{known_grows, fresh_is, BeginFits, begin_fits, start_fits, books_found, books, books_beside, books_kept, hearing_keeps, group_there, fits_at}
+use Rattle.protocol_laws.proofs.BooksEvents.{known_grows, fresh_is, BeginFits, begin_fits, start_fits, books_found, books, books_beside, books_kept, hearing_keeps, group_there, fits_at, books_closing}
 use Rattle.protocol.proofs.Tables.{put_same, get_one, get_kept, get_grown}
 use Rattle.reg_model.proofs.GrowingLives.{last_grows}
 use Rattle.protocol_laws.proofs.Stampings.{ages_within, stamps_same}
@@ -45,14 +47,17 @@ use Rattle.protocol_laws.proofs.Hearing.{kept_world, taught_by, hearing_each}
 use Rattle.protocol_laws.proofs.Votes.{vote_each, moved_each}
 use Rattle.protocol_laws.proofs.Proposing.{AreOfViews, of_views_each, ballot_each, proposed_each}
 use Rattle.protocol.specs.declared.tellings.Report.{Report}
-use Rattle.protocol_laws.proofs.BooksKept.{KeepsCalls, keeps_itself}
+use Rattle.protocol_laws.proofs.BooksKept.{KeepsCalls, keeps_itself, call_marked}
 use Rattle.protocol.specs.Ballots.{Voted}
 use Rattle.protocol.specs.Proposals.{Proposal}
 use Rattle.fab_base.specs.declared.identities.GroupId.{GroupId}
 use Rattle.fab_base.specs.declared.stamps.Ballot.{Ballot}
 use Rattle.protocol_laws.proofs.Sends.{ticked_was_sent}
-use Rattle.protocol_laws.proofs.Replies.{said_known, said_after_reply}
+use Rattle.protocol_laws.proofs.Replies.{said_known, Goes, reply_goes}
 use Rattle.protocol_laws.proofs.Begins.{said_began}
+use Rattle.protocol_laws.proofs.Ends.{said_ended}
+use Rattle.protocol_laws.proofs.Closing.{ClosesNone, closing_each}
+use Rattle.protocol_laws.proofs.SaidReads.{said_after_read, said_syncs}
 use Rattle.protocol.proofs.Events.{EventCases, world_handled, world_counting, run_along}
 use Rattle.protocol_laws.proofs.StampViews.{StampViews, always_views}
 use Rattle.protocol.specs.Views.{Views, view_of, group_in, group_kept, view_told}
@@ -124,7 +129,7 @@ module _ (setting : Setting) (views : Views) (w : World) (stamps : Stamping) (bo
       })) stamps
   aside_said me known seq round proposal packets reports knows more are =
       let node : Node = record (w.nodes me.0) { known = known; seq = seq; round = round; proposal = proposal } in
-      let keeps : KeepsCalls (w.nodes me.0) node = (record { boot = refl; seq = more; known = knows }, λ l. refl) in
+      let keeps : KeepsCalls (w.nodes me.0) node = (record { boot = refl; seq = more; known = knows }, λ l. refl, refl) in
       said_reports setting views w stamps me books said node packets reports keeps
       (said_placed setting views w stamps me books said node packets (refl, refl, refl) keeps
       (of_views_each (PacketSays setting views (quiet w me node packets) stamps) (λ from to group view. tt) (λ from to call ballot. tt)
@@ -155,15 +160,55 @@ module _ (setting : Setting) (views : Views) (w : World) (stamps : Stamping) (bo
       some : IsCall w me.0 c.call.seq c → 1 ≤ c.stamp.view.0
       some is = own_view setting views w stamps books said me.0 c.call.seq c is
 
+      known : ℕ
+      known = known_after (w.nodes me.0).known reply
+
+      fresh : Option Stamp
+      fresh = fresh_stamp me c.stamp.view now (w.nodes me.0).boot known
+
+      reading : Option Job
+      reading = job_reading (w.nodes me.0).job c.call.seq
+
+      decision : Next
+      decision = on_reply setting.layout.block setting.code fresh c from call reply
+
+      -- what is well of a decision
+      IsWell : IsCall w me.0 c.call.seq c → Next → Type 0
+      IsWell is =
+          Goes setting views sound w stamps me c known books said is (known_grows (w.nodes me.0).known reply) fresh
+          (λ t new. fresh_says setting w me c.stamp.view now known t (some is) books (known_grows (w.nodes me.0).known reply) new)
+          (λ t new. ap (λ (z : Stamp). z.view) (fresh_is me c.stamp.view now (w.nodes me.0).boot known t new).0)
+
+      goes : (is : IsCall w me.0 c.call.seq c) → IsWell is decision
+      goes is =
+          reply_goes setting views sound w stamps me c known books said is (known_grows (w.nodes me.0).known reply) fresh
+          (λ t new. fresh_says setting w me c.stamp.view now known t (some is) books (known_grows (w.nodes me.0).known reply) new)
+          (λ t new. ap (λ (z : Stamp). z.view) (fresh_is me c.stamp.view now (w.nodes me.0).boot known t new).0) from call reply sent
+
+      no_read : (z : Option Job) (answer : Answer) (seen stored : Option Stamp) → ClosesNone z (Ends answer seen stored) → z ≡ None
+      no_read None answer seen stored none = refl
+      no_read (Some job) answer seen stored none = absurd (none job answer seen stored refl refl)
+
+      -- it is carried out
+      carries : (is : IsCall w me.0 c.call.seq c) (z : Next) → IsWell is z → ClosesNone reading z
+          → IsSaid setting views (stepped setting w me (carried_out setting me (w.nodes me.0) known c z))
+      carries is Ignores well none = well
+      carries is (Waits d) well none = well
+      carries is (Sends d) well none = well
+      carries is (Makes d) well none = well
+      carries is (Ends answer seen stored) well none = (
+        stamps,
+        said_ended setting views w stamps me c known books said is (known_grows (w.nodes me.0).known reply) answer seen stored
+            (call_marked setting w me.0 c.call.seq c (books.calls me.0 c.call.seq c is) (no_read reading answer seen stored none)) well,
+      )
+
       in_call : IsCall w me.0 c.call.seq c
           → IsSaid setting views (stepped setting w me (replied_at setting me now from (w.nodes me.0) call reply (Some c)))
       in_call is =
-          said_after_reply setting views sound w stamps me c (known_after (w.nodes me.0).known reply) books said is
-          (known_grows (w.nodes me.0).known reply)
-          (fresh_stamp me c.stamp.view now (w.nodes me.0).boot (known_after (w.nodes me.0).known reply))
-          (λ t new. fresh_says setting w me c.stamp.view now (known_after (w.nodes me.0).known reply) t (some is) books
-          (known_grows (w.nodes me.0).known reply) new)
-          (λ t new. ap (λ (z : Stamp). z.view) (fresh_is me c.stamp.view now (w.nodes me.0).boot (known_after (w.nodes me.0).known reply) t new).0) from call reply sent
+          closing_each (IsSaid setting views) setting w me now known c decision reading (carries is decision (goes is))
+          (λ job reads answer seen stored ends.
+          said_after_read setting views w stamps me now c known books said is (known_grows (w.nodes me.0).known reply) answer seen stored job reads
+          (subst (λ (z : Next). IsWell is z) ends (goes is)) (books_closing setting w me now from call reply c books is job reads answer seen stored ends))
 
 module _ (setting : Setting) (views : Views) (w : World) (stamps : Stamping) (books : Books setting w) (stamped : StampViews setting.layout w)
     (follows : Follows setting.layout views w) (said : Said setting views w stamps) where
@@ -233,7 +278,7 @@ module _ (setting : Setting) (views : Views) (w : World) (stamps : Stamping) (bo
       hearing_each (IsSaid setting views) setting w me now from call reply (
         stamps,
         said_placed setting views w stamps me books said (with_known (with_round (w.nodes me.0) reply) (known_after (w.nodes me.0).known reply)) []
-            (refl, refl, refl) (record { boot = refl; seq = omega arith; known = known_grows (w.nodes me.0).known reply }, λ l. refl)
+            (refl, refl, refl) (record { boot = refl; seq = omega arith; known = known_grows (w.nodes me.0).known reply }, λ l. refl, refl)
             (each_none (PacketSays setting views _ stamps)),
       )
       (let node : Node = taught_by setting w me from call reply in
@@ -292,6 +337,12 @@ module _ (setting : Setting) (views : Views) (w : World) (stamps : Stamping) (bo
   found_said me After sound down leaves =
       said_kept setting views w stamps me books said (w.after me.0) (left_said me (w.after me.0) sound (leaves me.0 down))
 
+-- a brick that may begin a synchronisation has none
+pub no_job : (job : Option Job) (group : Option Group) → not (is_some (sync_refusal_in job group)) ≡ true → job ≡ None
+no_job None group may = refl
+no_job (Some job) None may = absurd (false≢true may)
+no_job (Some job) (Some group) may = absurd (false≢true may)
+
 module _ (setting : Setting) (views : Views) where
   -- a packet is delivered
   delivery_said : (w : World) (stamps : Stamping) (number : ℕ) (packet : Packet) → IsSound setting → Books setting w → StampViews setting.layout w
@@ -326,7 +377,7 @@ module _ (setting : Setting) (views : Views) where
       let longer : length (w.marks ++ (crash ∷ [])) ≡ length w.marks + 1 = length-append w.marks (crash ∷ []) in
       said_idle setting views w stamps me.0 (stopped (w.nodes me.0))
       (put w.after me.0 (left_after setting me (w.nodes me.0) (packet_during w.packets during))) (put w.up me.0 false) w.past (w.marks ++ (crash ∷ []))
-      (reached_during w me during) books said (refl, refl, refl) (λ k. refl)
+      (reached_during w me during) books said (refl, refl, refl) (λ k. refl) refl
       (ages_within (w.nodes me.0) (stopped (w.nodes me.0)) refl (omega arith) (omega arith)) (omega arith)
       (λ a. last_grows w.marks crash a (λ k mark at. let place = books.places k mark at in omega (arith, place)) refl)
       (λ k p n answer at. ⊎_elim
@@ -341,7 +392,7 @@ module _ (setting : Setting) (views : Views) where
   unfolding restarted
   started_said w stamps me openings books said some =
       said_idle setting views w stamps me.0 (restarted openings (w.nodes me.0)) w.after (put w.up me.0 true)
-      (put w.past me.0 (put (w.past me.0) (w.nodes me.0).boot (w.nodes me.0).known)) w.marks w.reached books said (refl, refl, refl) (λ k. refl)
+      (put w.past me.0 (put (w.past me.0) (w.nodes me.0).boot (w.nodes me.0).known)) w.marks w.reached books said (refl, refl, refl) (λ k. refl) refl
       (record { boot = omega arith; known = λ same. absurd (omega arith); seq = λ same. absurd (omega arith) }) (omega arith) (λ a. omega arith)
       (λ k p n answer at. at)
 
@@ -358,11 +409,17 @@ module _ (setting : Setting) (views : Views) where
   -- every event keeps the invariant
   said_cases : IsSound setting → (w : World) → Leaves setting w × Books setting w × Follows setting.layout views w × StampViews setting.layout w → IsSaid setting views w
       → EventCases setting w (IsSaid setting views)
+  unfolding sync_refusal
   said_cases sound w known said =
       let books : Books setting w = known.1 in
       record {
         begins = λ brick ask may. invoked_said w said.0 brick ask books known.3 known.2 said.1 may;
         proposes = λ brick group members may. (said.0, proposed_said setting views w said.0 books said.1 brick group members);
+        syncs = λ brick group may.
+            said_syncs setting views w said.0 brick (w.clocks brick.0) books said.1 group
+            (no_job (w.nodes brick.0).job (group_of setting.layout group.0)
+            (and_parts (is_up setting.layout w brick) (not (is_some (sync_refusal setting.layout (w.nodes brick.0) group.0))) may).1)
+            ((known.3.nodes brick.0).views group.0) known.2;
         handles = λ number packet at up. delivery_said w said.0 number packet sound books known.3 known.2 said.1 (packet_was_sent w number packet at);
         sets = λ brick time is. (said.0, said_beside setting views w said.0 (put w.clocks brick.0 time) w.replies w.reached w.choices books said.1);
         ticks = λ brick up. (said.0, ticked_said w said.0 brick books said.1);
@@ -405,8 +462,9 @@ module _ (setting : Setting) (views : Views) where
       packets = λ k packet is. cc;
       operations = λ n o is. cc;
       calls = λ i k c is. cc;
+      jobs = λ i job is. cc;
       ends = λ k p n answer is. cc;
-      order = λ a b earlier late u earlier_is late_is groups stripes version. cc;
+      order = λ a b earlier late u earlier_is late_is groups stripes marked version. cc;
       first = λ g s. refl;
       lowest = λ g e s i x log within.
           cond_both (nat_eq e 1) (first_replica setting.layout.block) _

@@ -349,6 +349,7 @@ module _ (setting : Setting) (views : Views) (sound : IsSound setting) (w : Worl
           logs = λ g e s k version at. inl (k, at);
           lowest = λ g e s x log within at. inl (log, at);
           calls = calls;
+          jobs = λ job is. inl is;
           packets = packets;
         }),
       )

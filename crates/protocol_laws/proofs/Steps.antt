@@ -21,16 +21,17 @@ use Rattle.protocol.specs.Views.{Views, view_of, Learnt, first_kept}
 use Rattle.protocol.specs.Replicas.{Replica, top_of, is_held}
 use Rattle.protocol.specs.declared.phases.Counted.{Counted}
 use Rattle.protocol.specs.Coordinators.{Coordinator, request_of, asked_group}
+use Rattle.protocol.specs.Jobs.{Job}
 use Rattle.protocol.specs.Nodes.{Node, put, to_members, phase_packets, top_at, view_at}
 use Rattle.protocol.specs.Worlds.{World, Operation, with_held, choices_after, Choices}
 use Rattle.protocol_laws.specs.Laws.{WasSent, part_in, top_in, first_kept_in}
 use Rattle.protocol_laws.proofs.Books.{Books, IsOperation, IsCall}
 use Rattle.protocol_laws.proofs.Logs.{LogAscends, IsKept, held_stands, under_held, nothing_kept}
 use Rattle.protocol_laws.proofs.Blocking.{PartsStay, LogsFit, LogsStay, NewIsLogged, parts_from, was_kept}
-use Rattle.protocol_laws.proofs.Said.{Stamping, Said, StampsSay, IsKnown, VersionSays, PacketSays, OperationSays, CallSays, EndShows, IsInOrder, WasCollected, IsMadeOrFirst, IsBottom, FloorsAbove}
+use Rattle.protocol_laws.proofs.Said.{Stamping, Said, StampsSay, IsKnown, VersionSays, PacketSays, OperationSays, CallSays, EndShows, IsInOrder, WasCollected, IsMadeOrFirst, IsBottom, FloorsAbove, JobSays}
 use Rattle.protocol.proofs.Tables.{put_each, get_kept, get_grown, get_added, put_same}
 use Rattle.protocol_laws.proofs.Stampings.{StampsGrow, Ages, ages_within, stamps_same, stays_known, stamps_stay}
-use Rattle.protocol_laws.proofs.Growth.{Grows, continues_same, stays_version, stays_packet, stays_operation, stays_call, stays_end, stays_collected, stays_made}
+use Rattle.protocol_laws.proofs.Growth.{Grows, continues_same, stays_version, stays_packet, stays_operation, stays_call, stays_end, stays_job, stays_collected, stays_made}
 use Rattle.protocol.proofs.Puts.{put_other}
 use Rattle.protocol_laws.proofs.Tops.{KeepsPlaces, top_same}
 
@@ -55,6 +56,7 @@ pub record Owes (setting : Setting) (views : Views) (w next : World) (stamps lat
   pub operations : (n : ℕ) (o : Operation) → IsOperation next n o → IsOperation w n o ⊎ OperationSays setting views next later n o
   pub calls : (i k : ℕ) (c : Coordinator) → IsCall next i k c
       → StaysOpen w stamps later i k c (next.nodes i).boot ⊎ CallSays setting views next later i k c
+  pub jobs : (i : ℕ) (job : Job) → (next.nodes i).job ≡ Some job → ((w.nodes i).job ≡ Some job) ⊎ JobSays setting views next i job
   pub ends : (k p n : ℕ) (answer : Answer) → slice_get next.marks k ≡ Some (End p n answer)
       → (slice_get w.marks k ≡ Some (End p n answer)) ⊎ EndShows setting next n answer
   pub order : IsInOrder setting views next
@@ -103,6 +105,10 @@ said_after setting views w next stamps later books said grows owes = record {
       stays_call setting views w next stamps later books grows i k c old.1 old.2 (said.calls i k c old.0))
       (λ (new : CallSays setting views next later i k c). new)
       (owes.calls i k c is);
+  jobs = λ i job is. ⊎_elim
+      (λ (old : (w.nodes i).job ≡ Some job). stays_job setting views w next stamps later books grows i job (said.jobs i job old))
+      (λ (new : JobSays setting views next i job). new)
+      (owes.jobs i job is);
   ends = λ k p n answer is. ⊎_elim
       (λ (old : slice_get w.marks k ≡ Some (End p n answer)).
       stays_end setting views w next stamps later books grows said.operations n answer (said.ends k p n answer old))
@@ -336,6 +342,19 @@ calls_by setting views w next stamps later me node nodes boot k c own others i =
     (own is))
     (λ j other is. inl (is, refl, others j other)) i)
 
+-- what is owed for synchronisations, where one brick changes
+pub jobs_by : (setting : Setting) (views : Views) (w next : World) (me : ℕ) (node : Node) → next.nodes ≡ put w.nodes me node
+    → ((job : Job) → node.job ≡ Some job → ((w.nodes me).job ≡ Some job) ⊎ JobSays setting views next me job) → (i : ℕ) (job : Job)
+    → (next.nodes i).job ≡ Some job → ((w.nodes i).job ≡ Some job) ⊎ JobSays setting views next i job
+jobs_by setting views w next me node nodes own i job =
+    subst (λ (f : ℕ → Node). (f i).job ≡ Some job → ((w.nodes i).job ≡ Some job) ⊎ JobSays setting views next i job) (sym nodes)
+    (put_each (λ j x. x.job ≡ Some job → ((w.nodes j).job ≡ Some job) ⊎ JobSays setting views next j job) w.nodes me node (own job) (λ j other is. inl is) i)
+
+-- where it keeps its synchronisation
+pub jobs_kept : (setting : Setting) (views : Views) (w next : World) (me : ℕ) (node : Node) → next.nodes ≡ put w.nodes me node
+    → node.job ≡ (w.nodes me).job → (i : ℕ) (job : Job) → (next.nodes i).job ≡ Some job → ((w.nodes i).job ≡ Some job) ⊎ JobSays setting views next i job
+jobs_kept setting views w next me node nodes same = jobs_by setting views w next me node nodes (λ job is. inl (sym same ∙ is))
+
 -- the world after a brick's step that is told of no operation
 abbrev pub quiet : World → BrickId → Node → List Packet → World
 quiet w me node more =
@@ -374,6 +393,7 @@ pub record QuietOwes (setting : Setting) (views : Views) (w : World) (stamps lat
   pub calls : (k : ℕ) (c : Coordinator) → node.calls k ≡ Some c
       → (((w.nodes me.0).calls k ≡ Some c) × KeepsStamps stamps later me.0 (w.nodes me.0).boot k)
       ⊎ CallSays setting views (quiet w me node more) later me.0 k c
+  pub jobs : (job : Job) → node.job ≡ Some job → ((w.nodes me.0).job ≡ Some job) ⊎ JobSays setting views (quiet w me node more) me.0 job
   pub packets : (k : ℕ) (packet : Packet) → slice_get more k ≡ Some packet → PacketSays setting views (quiet w me node more) later packet
 
 pub said_quiet : (setting : Setting) (views : Views) (w : World) (stamps later : Stamping) (me : BrickId) (node : Node) (more : List Packet) → Books setting w
@@ -402,6 +422,7 @@ said_quiet setting views w stamps later me node more books said grow owes =
       calls = λ i k c.
           calls_by setting views w next stamps later me.0 node refl owes.boot k c (owes.calls k c)
           (λ j other. owes.stamps_other j (w.nodes j).boot k other) i;
+      jobs = jobs_by setting views w next me.0 node refl owes.jobs;
       ends = λ k p n answer is. inl is;
       order = said.order;
     })
@@ -470,6 +491,7 @@ said_added setting views w stamps clocks replies reached packets choices books s
           (old packet (k, is)));
       operations = λ n o is. inl is;
       calls = λ i k c is. inl (is, refl, (λ p. refl));
+      jobs = λ i job is. inl is;
       ends = λ k p n answer is. inl is;
       order = said.order;
     })
@@ -485,11 +507,11 @@ said_beside setting views w stamps clocks replies reached choices books said =
 -- last position comes forward
 pub said_idle : (setting : Setting) (views : Views) (w : World) (stamps : Stamping) (me : ℕ) (node : Node) (after : ℕ → Node) (up : ℕ → Bool) (past : ℕ → ℕ → ℕ)
     (marks : List Mark) (reached : ℕ → Bool)
-    → Books setting w → Said setting views w stamps → KeepsPlaces (w.nodes me) node → ((k : ℕ) → node.calls k ≡ None) → Ages (w.nodes me) node
-    → length w.marks ≤ length marks → ((a : ℕ) → last_of (life_of w.marks a) ≤ last_of (life_of marks a))
+    → Books setting w → Said setting views w stamps → KeepsPlaces (w.nodes me) node → ((k : ℕ) → node.calls k ≡ None) → node.job ≡ None
+    → Ages (w.nodes me) node → length w.marks ≤ length marks → ((a : ℕ) → last_of (life_of w.marks a) ≤ last_of (life_of marks a))
     → ((k p n : ℕ) (answer : Answer) → slice_get marks k ≡ Some (End p n answer) → slice_get w.marks k ≡ Some (End p n answer))
     → Said setting views (record w { nodes = put w.nodes me node; after = after; up = up; past = past; marks = marks; reached = reached }) stamps
-said_idle setting views w stamps me node after up past marks reached books said same none ages longer lasts ends =
+said_idle setting views w stamps me node after up past marks reached books said same none jobless ages longer lasts ends =
     let next : World = record w { nodes = put w.nodes me node; after = after; up = up; past = past; marks = marks; reached = reached } in
     said_after setting views w next stamps stamps books said
     (record {
@@ -513,9 +535,10 @@ said_idle setting views w stamps me node after up past marks reached books said 
           put_each (λ j x. x.calls k ≡ Some c → StaysOpen w stamps stamps j k c x.boot ⊎ CallSays setting views next stamps j k c) w.nodes me node
           (λ is. absurd (let bad : Some c ≡ None = sym is ∙ none k in let never : ⊥ = cc in never))
           (λ j other is. inl (is, refl, (λ p. refl))) i;
+      jobs = jobs_by setting views w next me node refl (λ job is. inl (absurd (let bad : None ≡ Some job = sym jobless ∙ is in let never : ⊥ = cc in never)));
       ends = λ k p n answer is. inl (ends k p n answer is);
-      order = λ a b earlier later u earlier_is later_is groups stripes version. ⊎_elim
+      order = λ a b earlier later u earlier_is later_is groups stripes marked version. ⊎_elim
           (λ (floors : FloorsAbove setting views later u). inl floors)
-          (λ (before : later.begin ≤ last_of (life_of w.marks a)). inr (omega (arith, before, lasts a)))
-          (said.order a b earlier later u earlier_is later_is groups stripes version);
+          (λ (before : later.begin ≤ last_of (life_of w.marks earlier.mark)). inr (omega (arith, before, lasts earlier.mark)))
+          (said.order a b earlier later u earlier_is later_is groups stripes marked version);
     })

@@ -26,7 +26,7 @@ use Rattle.protocol.specs.Coordinators.{Coordinator, request_of, delta_at, asked
 use Rattle.protocol.specs.declared.tellings.Told.TheVariants.{Made}
 use Rattle.protocol.specs.Nodes.{Node, put, has_block, has_length, with_call, phase_packets}
 use Rattle.protocol.specs.Worlds.{World, Operation, number_of, world_stepped, with_made, with_content, with_held, content_on, content_by, choices_after}
-use Rattle.protocol_laws.proofs.Books.{Books, OperationBooks, CallBooks, IsOperation, IsCall}
+use Rattle.protocol_laws.proofs.Books.{Books, OperationBooks, LifeBooks, CallBooks, IsOperation, IsCall}
 use Rattle.protocol_laws.proofs.Said.{Begun, Stamping, Said, IsSaid, StampsSay, IsStampOf, IsBegun, IsStamped, AreBlocked, Stands, IsMadeOrFirst, FloorsAtMost, FitsPhase, MakerSays, WriteSays, ChangesBlock, ModifySays, MadeOn, RequestSays, base_in, PacketSays, HasVersion, WritesWhole, ReadsBack, OperationSays, CallSays, bound_in}
 use Rattle.protocol_laws.specs.Laws.{IsModified, IsGuarded}
 use Rattle.fab_base.proofs.Seats.{seat_of_member, seat_within}
@@ -39,16 +39,16 @@ use Rattle.protocol_laws.proofs.Growth.{Grows, stays_guarded, stays_made, stays_
 use Rattle.protocol_laws.proofs.Operated.{operated, OperatedKeeps, operated_grows, said_operated}
 use Rattle.protocol_laws.proofs.OwnStamps.{not_made_yet, call_by, own_in, m_is, ahead_group}
 
--- an open operation may happen up to one past the last mark
-pub open_until : (setting : Setting) (w : World) (i k : ℕ) (c : Coordinator) → Books setting w → IsCall w i k c
-    → length w.marks ≤ last_of (life_of w.marks (number_of w i k))
-open_until setting w i k c books is =
+-- an open operation that has marks may happen up to one past the last mark
+pub open_until : (setting : Setting) (w : World) (i k : ℕ) (c : Coordinator) (books : Books setting w) (is : IsCall w i k c)
+    → 1 ≤ (books.calls i k c is).operation.mark → length w.marks ≤ last_of (life_of w.marks (books.calls i k c is).operation.mark)
+open_until setting w i k c books is from =
     let its : CallBooks setting w i k c = books.calls i k c is in
-    let o_books : OperationBooks setting w (number_of w i k) its.operation = books.operations (number_of w i k) its.operation its.operation_is in
-    let last : last_of (life_of w.marks (number_of w i k)) ≡ length w.marks
-    = open_last w.marks (number_of w i k) o_books.life
-    (λ j mark at. let place = books.places j mark at in omega (arith, place)) o_books.life_is (its.unended o_books.life o_books.life_is) in
-    omega arith
+    let lived : LifeBooks w its.operation = (books.operations (number_of w i k) its.operation its.operation_is).lived from in
+    let last : last_of (life_of w.marks its.operation.mark) ≡ length w.marks
+    = open_last w.marks its.operation.mark lived.life
+    (λ j mark at. let place = books.places j mark at in omega (arith, place)) lived.life_is (its.unended from lived.life lived.life_is) in
+    omega (arith, last)
 
 -- An operation makes its version on another, of which no more is held by a quorum up to its own stamp.
 pub record MakesOn (setting : Setting) (views : Views) (w : World) (c : Coordinator) (base : Option Stamp) : Type 0 where
@@ -288,6 +288,7 @@ module _ (setting : Setting) (views : Views) (sound : IsSound setting) (w : Worl
     keeps = record {
       places = (refl, refl, refl);
       boot = refl;
+      job = refl;
       is = its.operation_is;
       continues = record {
         brick = refl;
@@ -301,11 +302,12 @@ module _ (setting : Setting) (views : Views) (sound : IsSound setting) (w : Worl
         made = λ v has. let e : Some v ≡ None = sym has ∙ unmade.0 in cc;
         base = λ v has. let e : Some v ≡ None = sym has ∙ unmade.0 in cc;
         answered = λ is. is;
+        mark = refl;
       };
       kept = kept;
       longer = omega arith;
       lasts = λ a. omega arith;
-      unended = open_until setting w me.0 c.call.seq c books is;
+      unended = λ from. open_until setting w me.0 c.call.seq c books is from;
     }
 
     grows : Grows w next stamps later
@@ -367,6 +369,7 @@ module _ (setting : Setting) (views : Views) (sound : IsSound setting) (w : Worl
           record {
             begin = old.begin;
             view = old.view;
+            passed = old.passed;
             floors = old.floors;
             floors_known = old.floors_known;
             fresh = old.fresh;

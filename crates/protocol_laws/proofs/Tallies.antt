@@ -12,11 +12,10 @@ use Rattle.messages.specs.declared.packets.Message.TheVariants as Message
 use Rattle.messages.specs.declared.packets.Packet.{Packet}
 use Rattle.messages.specs.declared.requests.Request.{Request}
 use Rattle.messages.specs.declared.replies.Reply.TheVariants as Reply
-use Rattle.reg_model.specs.Marks.{life_of, IsOpen}
 use Rattle.protocol.specs.declared.phases.Counted.{Counted}
 use Rattle.protocol.specs.Coordinators.{Coordinator, looks_back, greatest_refuser, greatest_found, dropper_of}
 use Rattle.protocol.specs.Worlds.{World, Operation, number_of, known_in}
-use Rattle.protocol_laws.specs.Laws.{WasSent, RequestSent, AskedAt, stamp_asked, order_of, Evidence, IsCallOf, CountedWereSent}
+use Rattle.protocol_laws.specs.Laws.{WasSent, RequestSent, AskedAt, stamp_asked, order_of, Evidence, IsCallOf, CountedWereSent, HasNotEnded}
 use Rattle.protocol_laws.proofs.Books.{Replies, IsOperation, IsCall}
 use Rattle.protocol.specs.declared.phases.Phase.{Phase}
 use Rattle.protocol.specs.declared.phases.Phase.TheVariants.{LooksBack}
@@ -66,10 +65,14 @@ CountedSent w n phase x =
     × WasSent w (record { from = x.brick; to = o.brick; message = Message.Reply call x.reply }))
 
 -- the abort of operation n shows its evidence
-abbrev pub AbortShown : World → ℕ → Cause → Type 0
-AbortShown w n cause = (o : Operation) × IsOperation w n o × Evidence w n o cause
+abbrev pub OwnShown : World → ℕ → Cause → Type 0
+OwnShown w n cause = (o : Operation) × IsOperation w n o × Evidence w n o cause
 
--- each abort shows its evidence, by the operation's number
+-- so does that of the operation whose marks have number n
+abbrev pub AbortShown : World → ℕ → Cause → Type 0
+AbortShown w n cause = (a : ℕ) × (o : Operation) × IsOperation w a o × (o.mark ≡ n) × Evidence w a o cause
+
+-- each abort that is marked shows its evidence
 abbrev pub AbortsAreShown : World → Type 0
 AbortsAreShown w = (k p n : ℕ) (cause : Cause) → slice_get w.marks k ≡ Some (End p n (Aborted cause)) → AbortShown w n cause
 
@@ -79,6 +82,15 @@ pub record Tallied (w : World) : Type 0 where
   pub unbegun : (n p : ℕ) → w.begun < n → w.replies n p ≡ []
   pub counted : CountedWereSent w
   pub aborts : AbortsAreShown w
+  pub marked : (k p n : ℕ) (cause : Cause) → slice_get w.marks k ≡ Some (End p n (Aborted cause)) → 1 ≤ n
+  pub closed : (n : ℕ) (o : Operation) (cause : Cause) → IsOperation w n o → o.closed ≡ Some (Some cause) → Evidence w n o cause
+
+-- an operation that orders under a call asks nothing else under it
+abbrev pub OrdersAlone : World → Type 0
+OrdersAlone w =
+    (n : ℕ) (o : Operation) (call : Call) (to other : BrickId) (request : Request) (t u : Stamp) → IsOperation w n o → IsCallOf call o
+    → RequestSent w call o.brick to request → stamp_asked request ≡ Some t → RequestSent w call o.brick other (order_of o.ask.op u)
+    → request ≡ order_of o.ask.op t
 
 -- What the messages of a world show: a later stamp answers what was asked at a lower one; an operation that orders under a call asks nothing else under
 -- it, and it does so in a round of ordering; the replies that a coordinator has were sent to it, and tell of versions that were dropped only where it looks back;
@@ -87,9 +99,7 @@ pub record MessagesShow (w : World) : Type 0 where
   pub later : (call : Call) (from to : BrickId) (x : Stamp)
       → WasSent w (record { from = from; to = to; message = Message.Reply call (Reply.Later x) })
       → (t : Stamp) × AskedAt w call to from t × (stamp_below t x ≡ true)
-  pub orders_alone : (n : ℕ) (o : Operation) (call : Call) (to other : BrickId) (request : Request) (t u : Stamp) → IsOperation w n o → IsCallOf call o
-      → RequestSent w call o.brick to request → stamp_asked request ≡ Some t → RequestSent w call o.brick other (order_of o.ask.op u)
-      → request ≡ order_of o.ask.op t
+  pub orders_alone : OrdersAlone w
   pub in_round : (i k : ℕ) (c : Coordinator) (to : BrickId) (t : Stamp) → IsCall w i k c
       → RequestSent w c.call (record { 0 = i }) to (order_of c.ask.op t) → IsRound c.phase
   pub counted : (i k : ℕ) (c : Coordinator) → IsCall w i k c
@@ -104,12 +114,13 @@ pub record GoesOn (o p : Operation) : Type 0 where
   pub boot : p.boot ≡ o.boot
   pub seq : p.seq ≡ o.seq
   pub ask : p.ask ≡ o.ask
+  pub mark : p.mark ≡ o.mark
 
 -- From one world to the next: what was sent stays sent, no brick's time falls within a boot, operations stay who they are, and replies count only in
--- operations that are open.
+-- operations that have not ended.
 pub record Furthers (w next : World) : Type 0 where
   pub sent : (packet : Packet) → WasSent w packet → WasSent next packet
   pub known : (i b : ℕ) → b ≤ (w.nodes i).boot → known_in w i b ≤ known_in next i b
   pub operations : (n : ℕ) (o : Operation) → IsOperation w n o
       → (p : Operation) × IsOperation next n p × GoesOn o p
-  pub replies : (n : ℕ) → ((p : ℕ) → next.replies n p ≡ w.replies n p) ⊎ IsOpen (life_of w.marks n)
+  pub replies : (n : ℕ) → ((p : ℕ) → next.replies n p ≡ w.replies n p) ⊎ HasNotEnded w n

@@ -1,5 +1,5 @@
 -- A reply counts in an open operation: the history of replies in the world that follows.
-use Rattle.std.proofs.Common.{◌≡◌, ◌≢◌, ℕ, ◌+◌, ◌-◌, ◌<◌, ◌≤◌, ◌⊎◌, inl, inr, ⊎_elim, Bool, true, false, List, [], ◌∷◌, ◌++◌, length, Option, Some, None, is_some, refl, sym, ap, ◌∙◌, subst, append_assoc, arith}
+use Rattle.std.proofs.Common.{◌≡◌, ◌≢◌, ℕ, ◌+◌, ◌-◌, ◌<◌, ◌≤◌, ◌⊎◌, inl, inr, ⊎_elim, Bool, true, false, not, List, [], ◌∷◌, ◌++◌, length, Option, Some, None, is_some, refl, sym, ap, ◌∙◌, subst, append_assoc, arith}
 use Rattle.std.specs.Prelude.{slice_get, if◌then◌else◌, nat_lt, nat_eq, max}
 use Rattle.std.proofs.lemmas.Bool.{cond_both, cases_eq, cases_Bool, eq-eqb, false≢true}
 use Rattle.std.proofs.lemmas.List.{append-nil}
@@ -10,15 +10,15 @@ use Rattle.fab_base.specs.declared.asks.Ask.{Ask}
 use Rattle.fab_base.specs.declared.stamps.Stamp.{Stamp}
 use Rattle.fab_base.specs.Stamps.{stamp_below}
 use Rattle.fab_base.specs.declared.answers.Answer.{Answer}
-use Rattle.fab_base.specs.declared.answers.Answer.TheVariants.{Aborted}
+use Rattle.fab_base.specs.declared.answers.Answer.TheVariants.{Data, Done, Aborted}
 use Rattle.fab_base.specs.declared.answers.Cause.{Cause}
 use Rattle.messages.specs.declared.calls.Call.{Call}
 use Rattle.messages.specs.declared.packets.Message.TheVariants as Message
 use Rattle.messages.specs.declared.packets.Packet.{Packet}
 use Rattle.messages.specs.declared.requests.Request.{Request}
 use Rattle.messages.specs.declared.replies.Reply.{Reply}
+use Rattle.reg_model.specs.declared.marks.Mark.{Mark}
 use Rattle.reg_model.specs.declared.marks.Mark.TheVariants.{End}
-use Rattle.reg_model.specs.Marks.{Life, life_of, IsOpen}
 use Rattle.protocol.specs.Settings.{Setting}
 use Rattle.protocol.specs.declared.phases.Phase.{Phase}
 use Rattle.protocol.specs.declared.phases.Phase.TheVariants.{Looks, LooksAt, Orders, OrdersAt, Recovers, Descends, LooksBack, Modifies, Bases, Stores}
@@ -29,10 +29,11 @@ use Rattle.protocol.specs.Coordinators.{Coordinator, Next, Ignores, Waits, Sends
 use Rattle.protocol.specs.declared.phases.Mover.{Mover}
 use Rattle.protocol.specs.declared.phases.Dropper.{Dropper}
 use Rattle.fab_base.specs.declared.identities.ViewNo.{ViewNo}
+use Rattle.protocol.specs.Jobs.{abort_cause}
 use Rattle.protocol.specs.Nodes.{Node, put, has_later_time, new_stamp, fresh_stamp, with_call, phase_packets, collect_packets, carried_out}
-use Rattle.protocol.specs.Worlds.{World, Operation, number_of, known_in, with_made, with_seen, with_answer, with_counted, with_held, world_stepped, choices_after}
-use Rattle.protocol_laws.specs.Laws.{WasSent, RequestSent, AskedAt, IsCallOf, IsLastRound, order_of}
-use Rattle.protocol_laws.proofs.MarkNumbers.{own_number, own_seen}
+use Rattle.protocol.specs.Worlds.{World, Operation, number_of, known_in, with_made, with_seen, with_answer, with_closed, own_mark, mark_of, with_counted, with_held, world_stepped, choices_after}
+use Rattle.protocol_laws.specs.Laws.{WasSent, RequestSent, AskedAt, IsCallOf, IsLastRound, order_of, HasNotEnded, Evidence}
+use Rattle.protocol_laws.proofs.MarkNumbers.{mark_at, mark_seen}
 use Rattle.protocol_laws.proofs.Books.{Replies, Books, OperationBooks, CallBooks, IsOperation, IsCall, InRound}
 use Rattle.protocol_laws.proofs.BooksKept.{KeepsNumbers, calls_apart, keeps_with_call}
 use Rattle.protocol_laws.proofs.BooksEvents.{keeps_put, brick_of, look_first}
@@ -42,8 +43,9 @@ use Rattle.protocol_laws.proofs.Counting.{each_more, no_full, no_mover, no_dropp
 use Rattle.protocol.proofs.Puts.{put_other}
 use Rattle.protocol.proofs.Tables.{put_each, put_same, get_kept, get_grown, get_one}
 use Rattle.protocol_laws.proofs.Steps.{sent_by}
-use Rattle.protocol_laws.proofs.Tallies.{IsTally, IsAmong, BeganBack, CallTallied, CountedSent, AbortShown, Tallied, MessagesShow, GoesOn, Furthers}
-use Rattle.protocol_laws.proofs.TalliesKept.{began_on, call_tallied_on, known_kept, counted_on, asked_on, tallied_on}
+use Rattle.protocol_laws.proofs.Tallies.{IsTally, IsAmong, BeganBack, CallTallied, CountedSent, OwnShown, Tallied, MessagesShow, OrdersAlone, GoesOn, Furthers}
+use Rattle.protocol_laws.proofs.TalliesKept.{began_on, call_tallied_on, known_kept, counted_on, asked_on, not_ended, tallied_on}
+use Rattle.protocol_laws.proofs.Closing.{closed_world}
 
 -- where there is no fresh stamp no later time is left
 none_left : (me : BrickId) (view : ViewNo) (now boot known : ℕ) → fresh_stamp me view now boot known ≡ None → has_later_time known ≡ false
@@ -195,9 +197,9 @@ module _ (setting : Setting) (w : World) (me : BrickId) (now known : ℕ) (c : C
   its : CallTallied w.packets w.replies i n c
   its = tallied.calls i k c is
 
-  -- the operation is open
-  open_now : IsOpen (life_of w.marks n)
-  open_now = subst (λ (l : Option Life). IsOpen l) (sym own.life_is) (mine.unended own.life own.life_is)
+  -- the operation has not ended
+  open_now : HasNotEnded w n
+  open_now = not_ended setting w i k c books is
 
   me_is : me ≡ o.brick
   me_is = brick_of me o.brick (sym mine.brick)
@@ -483,7 +485,7 @@ module _ (setting : Setting) (w : World) (me : BrickId) (now known : ℕ) (c : C
         known = known_kept w next past (λ j. (kept j).boot) (λ j. (kept j).known);
         operations = operations;
         replies = λ m. ⊎_elim
-            (λ (at : m ≡ n). inr (subst (λ (x : ℕ). IsOpen (life_of w.marks x)) (sym at) open_now))
+            (λ (at : m ≡ n). inr (subst (λ (x : ℕ). HasNotEnded w x) (sym at) open_now))
             (λ (other : m ≢ n). inl (λ p. ap (λ (f : Replies). f m p) same ∙ other_replies m other p))
             (cases_eq m n);
       }
@@ -497,35 +499,31 @@ module _ (setting : Setting) (w : World) (me : BrickId) (now known : ℕ) (c : C
       }) me
       (carried_out setting me (w.nodes me.0) known c next)
 
-  -- the world after an end, with these operations, and an End of this number
-  abbrev marked_end : ℕ → (ℕ → Option Operation) → Answer → Option Stamp → World
-  marked_end mark operations answer stored =
+  -- the world after an end, with so many operations open, and these marks and operations
+  abbrev ended_with : ℕ → List Mark → (ℕ → Option Operation) → Option Stamp → World
+  ended_with busy marks operations stored =
       record {
-        nodes = put w.nodes me.0 (with_call (w.nodes me.0) known ((w.nodes me.0).busy - 1) c.call.seq None);
+        nodes = put w.nodes me.0 (with_call (w.nodes me.0) known busy c.call.seq None);
         after = w.after;
         up = w.up;
         clocks = w.clocks;
         packets = w.packets ++ collect_packets me c stored;
-        marks = w.marks ++ (End (length w.marks) mark answer ∷ []);
+        marks = marks;
         marked = w.marked;
         begun = w.begun;
         operations = operations;
         numbers = w.numbers;
-        choices = choices_after w.choices me (with_call (w.nodes me.0) known ((w.nodes me.0).busy - 1) c.call.seq None) [];
+        choices = choices_after w.choices me (with_call (w.nodes me.0) known busy c.call.seq None) [];
         past = w.past;
         contents = w.contents;
-        held = with_held w.held me.0 (with_call (w.nodes me.0) known ((w.nodes me.0).busy - 1) c.call.seq None);
+        held = with_held w.held me.0 (with_call (w.nodes me.0) known busy c.call.seq None);
         replies = with_counted w.replies (number_of w me.0 c.call.seq) c.call.phase
             (record { seat = seat; brick = from; reply = reply });
         reached = w.reached;
       }
 
-  -- the same, by the number of the operation
-  abbrev after_end : (ℕ → Option Operation) → Answer → Option Stamp → World
-  after_end = marked_end (number_of w me.0 c.call.seq)
-
   same_operations : (m : ℕ) (e : Operation) → IsOperation w m e → (p : Operation) × IsOperation w m p × GoesOn e p
-  same_operations m e at = (e, at, record { brick = refl; boot = refl; seq = refl; ask = refl })
+  same_operations m e at = (e, at, record { brick = refl; boot = refl; seq = refl; ask = refl; mark = refl })
 
   -- so do operations of which this one changed, and goes on as the same
   changed : (f : ℕ → Option Operation) (change : Option Operation → Option Operation)
@@ -534,7 +532,7 @@ module _ (setting : Setting) (w : World) (me : BrickId) (now known : ℕ) (c : C
   changed f change to m e =
       put_each (λ a y. f a ≡ Some e → (p : Operation) × (y ≡ Some p) × GoesOn e p) f n (change (f n))
       (λ at. (let p = to e in (p.0, ap change at ∙ p.1, p.2)))
-      (λ a other at. (e, at, record { brick = refl; boot = refl; seq = refl; ask = refl })) m
+      (λ a other at. (e, at, record { brick = refl; boot = refl; seq = refl; ask = refl; mark = refl })) m
 
   -- each reply that counts was sent
   each_sent : EachCounted (λ y. WasSent w (record { from = y.brick; to = me; message = Message.Reply c.call y.reply })) (c.counted ++ (one ∷ []))
@@ -548,9 +546,9 @@ module _ (setting : Setting) (w : World) (me : BrickId) (now known : ℕ) (c : C
       each_more (λ y. dropper_of y ≡ None) c.counted one (shows.kept i k c is ahead) (dropper_ahead setting.layout.block c.stamp c.phase one ahead answers)
 
   -- the brick whose full store aborts the operation told so
-  full_shown : (operations : ℕ → Option Operation) (answer : Answer) (stored : Option Stamp) (brick : BrickId) (live : ℕ) → FullFits (with_reply c seat from reply) brick live
-      → Furthers w (after_end operations answer stored) → AbortShown (after_end operations answer stored) n (Cause.Full brick live)
-  full_shown operations answer stored brick live fits on =
+  full_shown : (busy : ℕ) (marks : List Mark) (operations : ℕ → Option Operation) (stored : Option Stamp) (brick : BrickId) (live : ℕ) → FullFits (with_reply c seat from reply) brick live
+      → Furthers w (ended_with busy marks operations stored) → OwnShown (ended_with busy marks operations stored) n (Cause.Full brick live)
+  full_shown busy marks operations stored brick live fits on =
       let P : Counted → Type 0 = λ y. WasSent w (record { from = y.brick; to = me; message = Message.Reply c.call y.reply }) in
       let f : FullMember = record { seat = fits.seat; brick = brick; live = live } in
       let found = full_counted P (c.counted ++ (one ∷ [])) f each_sent fits.told in
@@ -565,7 +563,7 @@ module _ (setting : Setting) (w : World) (me : BrickId) (now known : ℕ) (c : C
           seat = fits.seat;
           own = (mine.call_boot ∙ sym mine.boot ∙ sym goes.2.boot, sym mine.seq ∙ sym goes.2.seq);
           told = subst (λ (b : BrickId).
-              WasSent (after_end operations answer stored) (record { from = brick; to = b; message = Message.Reply c.call (Reply.Full live) }))
+              WasSent (ended_with busy marks operations stored) (record { from = brick; to = b; message = Message.Reply c.call (Reply.Full live) }))
               (me_is ∙ sym goes.2.brick)
               (on.sent (record { from = brick; to = me; message = Message.Reply c.call (Reply.Full live) }) told);
           lowest = full_now ∙ fits.told;
@@ -574,9 +572,9 @@ module _ (setting : Setting) (w : World) (me : BrickId) (now known : ℕ) (c : C
       )
 
   -- the evidence of an abort for a later view
-  moved_shown : (operations : ℕ → Option Operation) (answer : Answer) (stored : Option Stamp) (brick : BrickId) (view : ViewNo) → MovedFits (with_reply c seat from reply) brick view
-      → Furthers w (after_end operations answer stored) → AbortShown (after_end operations answer stored) n (Cause.Moved brick view)
-  moved_shown operations answer stored brick view fits on =
+  moved_shown : (busy : ℕ) (marks : List Mark) (operations : ℕ → Option Operation) (stored : Option Stamp) (brick : BrickId) (view : ViewNo) → MovedFits (with_reply c seat from reply) brick view
+      → Furthers w (ended_with busy marks operations stored) → OwnShown (ended_with busy marks operations stored) n (Cause.Moved brick view)
+  moved_shown busy marks operations stored brick view fits on =
       let P : Counted → Type 0 = λ y. WasSent w (record { from = y.brick; to = me; message = Message.Reply c.call y.reply }) in
       let m : Mover = record { seat = fits.seat; brick = brick; view = view } in
       let found = mover_counted P (c.counted ++ (one ∷ [])) m each_sent fits.told in
@@ -592,7 +590,7 @@ module _ (setting : Setting) (w : World) (me : BrickId) (now known : ℕ) (c : C
           lineage = found.2.0;
           own = (mine.call_boot ∙ sym mine.boot ∙ sym goes.2.boot, sym mine.seq ∙ sym goes.2.seq);
           told = subst (λ (b : BrickId).
-              WasSent (after_end operations answer stored) (record { from = brick; to = b; message = Message.Reply c.call (Reply.Moved view found.2.0) }))
+              WasSent (ended_with busy marks operations stored) (record { from = brick; to = b; message = Message.Reply c.call (Reply.Moved view found.2.0) }))
               (me_is ∙ sym goes.2.brick)
               (on.sent (record { from = brick; to = me; message = Message.Reply c.call (Reply.Moved view found.2.0) }) told);
           lowest = mover_now ∙ fits.told;
@@ -601,10 +599,10 @@ module _ (setting : Setting) (w : World) (me : BrickId) (now known : ℕ) (c : C
       )
 
   -- the evidence of an abort for versions that were dropped
-  gone_shown : (operations : ℕ → Option Operation) (answer : Answer) (stored : Option Stamp) (brick : BrickId) → GoneFits (with_reply c seat from reply) brick
-      → Furthers w (after_end operations answer stored) → AbortShown (after_end operations answer stored) n (Cause.Gone brick)
-  gone_shown operations answer stored brick fits on =
-      let next : World = after_end operations answer stored in
+  gone_shown : (busy : ℕ) (marks : List Mark) (operations : ℕ → Option Operation) (stored : Option Stamp) (brick : BrickId) → GoneFits (with_reply c seat from reply) brick
+      → Furthers w (ended_with busy marks operations stored) → OwnShown (ended_with busy marks operations stored) n (Cause.Gone brick)
+  gone_shown busy marks operations stored brick fits on =
+      let next : World = ended_with busy marks operations stored in
       let P : Counted → Type 0 = λ y. WasSent w (record { from = y.brick; to = me; message = Message.Reply c.call y.reply }) in
       let d : Dropper = record { seat = fits.seat; brick = brick } in
       let found = dropper_counted P (c.counted ++ (one ∷ [])) d each_sent fits.told in
@@ -647,10 +645,10 @@ module _ (setting : Setting) (w : World) (me : BrickId) (now known : ℕ) (c : C
           (cases_Bool (looks_back c.phase))
 
   -- the evidence of an abort for a later stamp
-  later_shown : (operations : ℕ → Option Operation) (answer : Answer) (stored : Option Stamp) (brick : BrickId) (x : Stamp) → AbortFits fresh (with_reply c seat from reply) brick x
-      → MessagesShow (after_end operations answer stored) → Furthers w (after_end operations answer stored)
-      → AbortShown (after_end operations answer stored) n (Cause.Later brick x)
-  later_shown operations answer stored brick x fits later on =
+  later_shown : (busy : ℕ) (marks : List Mark) (operations : ℕ → Option Operation) (stored : Option Stamp) (brick : BrickId) (x : Stamp) → AbortFits fresh (with_reply c seat from reply) brick x
+      → OrdersAlone (ended_with busy marks operations stored) → Furthers w (ended_with busy marks operations stored)
+      → OwnShown (ended_with busy marks operations stored) n (Cause.Later brick x)
+  later_shown busy marks operations stored brick x fits later on =
       let P : Counted → Type 0 = λ y. WasSent w (record { from = y.brick; to = me; message = Message.Reply c.call y.reply }) in
       let r : Refuser = record { seat = fits.seat; brick = brick; stamp = x } in
       let found = refuser_counted P (c.counted ++ (one ∷ [])) r each_sent fits.refused in
@@ -669,9 +667,9 @@ module _ (setting : Setting) (w : World) (me : BrickId) (now known : ℕ) (c : C
           stamp = low.0;
           seat = fits.seat;
           own = own;
-          asked = subst (λ (b : BrickId). AskedAt (after_end operations answer stored) c.call b brick low.0) by
-              (asked_on w (after_end operations answer stored) on c.call me brick low.0 low.1);
-          told = subst (λ (b : BrickId). WasSent (after_end operations answer stored)
+          asked = subst (λ (b : BrickId). AskedAt (ended_with busy marks operations stored) c.call b brick low.0) by
+              (asked_on w (ended_with busy marks operations stored) on c.call me brick low.0 low.1);
+          told = subst (λ (b : BrickId). WasSent (ended_with busy marks operations stored)
               (record { from = brick; to = b; message = Message.Reply c.call (Reply.Later x) })) by
               (on.sent (record { from = brick; to = me; message = Message.Reply c.call (Reply.Later x) }) told);
           above = low.2;
@@ -687,96 +685,220 @@ module _ (setting : Setting) (w : World) (me : BrickId) (now known : ℕ) (c : C
       ahead p at last = ap (λ (x : Phase). looks_back x) at
 
       -- the time that the brick knows in its present boot
-      known_now : known_in (after_end operations answer stored) i node.boot ≡ known
+      known_now : known_in (ended_with busy marks operations stored) i node.boot ≡ known
       known_now =
           ap (λ (y : Node). if nat_eq node.boot y.boot then y.known else w.past i node.boot)
-          (put_same w.nodes i (with_call node known (node.busy - 1) k None))
+          (put_same w.nodes i (with_call node known busy k None))
           ∙ ap (λ (t : Bool). if t then known else w.past i node.boot) (eq-eqb node.boot node.boot refl)
 
       ends_rounds : (e : Operation) → me ≡ e.brick → e.boot ≡ node.boot → IsRound c.phase → NoRoundFits fresh (with_reply c seat from reply)
-          → IsLastRound (after_end operations answer stored) n e c.call.phase
+          → IsLastRound (ended_with busy marks operations stored) n e c.call.phase
       ends_rounds e by boot round (inl none) =
-          inr (subst (λ (b : BrickId). has_later_time (known_in (after_end operations answer stored) b.0 e.boot) ≡ false) by
-          (subst (λ (b : ℕ). has_later_time (known_in (after_end operations answer stored) i b) ≡ false) (sym boot)
+          inr (subst (λ (b : BrickId). has_later_time (known_in (ended_with busy marks operations stored) b.0 e.boot) ≡ false) by
+          (subst (λ (b : ℕ). has_later_time (known_in (ended_with busy marks operations stored) i b) ≡ false) (sym boot)
           (ap (λ (y : ℕ). has_later_time y) known_now ∙ none_left me c.stamp.view now node.boot known none)))
       ends_rounds e by boot round (inr most) =
           let facts = round_of c c.phase round mine.in_round in
           inl (omega (arith, facts.0, facts.1), λ p few less. refused_before round p (omega (arith, facts.0)) less)
 
       -- the operation, which sent its order under this call, is in a round of ordering
-      ordered_round : (e : Operation) → IsOperation (after_end operations answer stored) n e → me ≡ e.brick → IsCallOf c.call e → e.ask ≡ c.ask
-          → (t : Stamp) → AskedAt w c.call me brick t → RequestSent (after_end operations answer stored) c.call e.brick brick (order_of e.ask.op t)
+      ordered_round : (e : Operation) → IsOperation (ended_with busy marks operations stored) n e → me ≡ e.brick → IsCallOf c.call e → e.ask ≡ c.ask
+          → (t : Stamp) → AskedAt w c.call me brick t → RequestSent (ended_with busy marks operations stored) c.call e.brick brick (order_of e.ask.op t)
           → IsRound c.phase
       ordered_round e is_e by own ask t asked order =
-          let sent : RequestSent (after_end operations answer stored) c.call e.brick brick asked.0
-          = subst (λ (b : BrickId). RequestSent (after_end operations answer stored) c.call b brick asked.0) by
+          let sent : RequestSent (ended_with busy marks operations stored) c.call e.brick brick asked.0
+          = subst (λ (b : BrickId). RequestSent (ended_with busy marks operations stored) c.call b brick asked.0) by
           (on.sent (record { from = me; to = brick; message = Message.Request c.call asked.0 }) asked.1) in
           shows.in_round i k c brick t is
           (subst (λ (r : Request). RequestSent w c.call me brick r)
-          (later.orders_alone n e c.call brick brick asked.0 t t is_e own sent asked.2 order ∙ ap (λ (a : Ask). order_of a.op t) ask)
+          (later n e c.call brick brick asked.0 t t is_e own sent asked.2 order ∙ ap (λ (a : Ask). order_of a.op t) ask)
           asked.1)
 
       last_by : (e : Operation) → me ≡ e.brick → e.boot ≡ node.boot → (p : Phase) → c.phase ≡ p → IsRound p
-          → LastFits fresh (with_reply c seat from reply) p → IsLastRound (after_end operations answer stored) n e c.call.phase
+          → LastFits fresh (with_reply c seat from reply) p → IsLastRound (ended_with busy marks operations stored) n e c.call.phase
       last_by e by boot Orders at round fits = ends_rounds e by boot (subst (λ (x : Phase). IsRound x) (sym at) round) fits
       last_by e by boot (OrdersAt j) at round fits = ends_rounds e by boot (subst (λ (x : Phase). IsRound x) (sym at) round) fits
       last_by e by boot Recovers at round fits = ends_rounds e by boot (subst (λ (x : Phase). IsRound x) (sym at) round) fits
       last_by e by boot p at round fits = absurd round
 
       last_round : (e : Operation) → me ≡ e.brick → e.boot ≡ node.boot → IsRound c.phase
-          → LastFits fresh (with_reply c seat from reply) c.phase → IsLastRound (after_end operations answer stored) n e c.call.phase
+          → LastFits fresh (with_reply c seat from reply) c.phase → IsLastRound (ended_with busy marks operations stored) n e c.call.phase
       last_round e by boot round fits = last_by e by boot c.phase refl round fits
 
   -- the evidence of an abort, by its cause
-  abort_shown : (operations : ℕ → Option Operation) (answer : Answer) (stored : Option Stamp) (cause : Cause) → AnswerFits fresh (with_reply c seat from reply) (Aborted cause)
-      → MessagesShow (after_end operations answer stored) → Furthers w (after_end operations answer stored)
-      → AbortShown (after_end operations answer stored) n cause
-  abort_shown operations answer stored (Cause.Later brick x) fits later on = later_shown operations answer stored brick x fits later on
-  abort_shown operations answer stored (Cause.Full brick live) fits later on = full_shown operations answer stored brick live fits on
-  abort_shown operations answer stored (Cause.Moved brick view) fits later on = moved_shown operations answer stored brick view fits on
-  abort_shown operations answer stored (Cause.Gone brick) fits later on = gone_shown operations answer stored brick fits on
+  abort_shown : (busy : ℕ) (marks : List Mark) (operations : ℕ → Option Operation) (stored : Option Stamp) (cause : Cause) → AnswerFits fresh (with_reply c seat from reply) (Aborted cause)
+      → OrdersAlone (ended_with busy marks operations stored) → Furthers w (ended_with busy marks operations stored)
+      → OwnShown (ended_with busy marks operations stored) n cause
+  abort_shown busy marks operations stored (Cause.Later brick x) fits later on = later_shown busy marks operations stored brick x fits later on
+  abort_shown busy marks operations stored (Cause.Full brick live) fits later on = full_shown busy marks operations stored brick live fits on
+  abort_shown busy marks operations stored (Cause.Moved brick view) fits later on = moved_shown busy marks operations stored brick view fits on
+  abort_shown busy marks operations stored (Cause.Gone brick) fits later on = gone_shown busy marks operations stored brick fits on
 
-  -- and after an end
-  tallied_ends : (operations : ℕ → Option Operation) (answer : Answer) (stored : Option Stamp)
+  -- and after an end, where marks and operations show no other
+  tallied_ends : (busy : ℕ) (marks : List Mark) (operations : ℕ → Option Operation) (answer : Answer) (stored : Option Stamp)
       → AnswerFits fresh (with_reply c seat from reply) answer
-      → ((m : ℕ) (e : Operation) → IsOperation w m e
-      → (p : Operation) × (operations m ≡ Some p) × GoesOn e p)
-      → MessagesShow (after_end operations answer stored) → Tallied (after_end operations answer stored)
-  tallied_ends operations answer stored fits goes later =
-      let on : Furthers w (after_end operations answer stored) = furthers (after_end operations answer stored) known (node.busy - 1) None
-      (collect_packets me c stored) refl grows refl refl (λ j b. refl) goes in
-      tallied_on setting w (after_end operations answer stored) books tallied later on
-      (calls_next known (node.busy - 1) None (collect_packets me c stored) grows (λ e at. absurd (let never : None ≡ Some e = at in cc)))
-      unbegun (counted_next (after_end operations answer stored) on)
+      → ((m : ℕ) (e : Operation) → IsOperation w m e → (p : Operation) × (operations m ≡ Some p) × GoesOn e p)
+      → ((a p m : ℕ) (cause : Cause) → slice_get marks a ≡ Some (End p m (Aborted cause))
+      → (slice_get w.marks a ≡ Some (End p m (Aborted cause))) ⊎ ((1 ≤ o.mark) × (o.mark ≡ m) × (answer ≡ Aborted cause)))
+      → ((m : ℕ) (e : Operation) (cause : Cause) → operations m ≡ Some e → e.closed ≡ Some (Some cause)
+      → ((d : Operation) × IsOperation w m d × (d.closed ≡ Some (Some cause))) ⊎ ((m ≡ n) × (answer ≡ Aborted cause)))
+      → OrdersAlone (ended_with busy marks operations stored) → Tallied (ended_with busy marks operations stored)
+  tallied_ends busy marks operations answer stored fits goes added closes later =
+      tallied_on setting w next books tallied later on
+      (calls_next known busy None (collect_packets me c stored) grows (λ e at. absurd (let never : None ≡ Some e = at in cc)))
+      unbegun (counted_next next on)
       (λ a p m cause at. ⊎_elim
       (λ (old : slice_get w.marks a ≡ Some (End p m (Aborted cause))). inl old)
-      (λ (new : (j : ℕ) × (slice_get (End (length w.marks) n answer ∷ []) j ≡ Some (End p m (Aborted cause)))).
-      let mark : End (length w.marks) n answer ≡ End p m (Aborted cause)
-      = get_one (End (length w.marks) n answer) (End p m (Aborted cause)) new.0 new.1 in
-      let number : n ≡ m = cc in
-      let by : answer ≡ Aborted cause = cc in
-      let abort : AnswerFits fresh (with_reply c seat from reply) (Aborted cause)
-      = subst (λ (z : Answer). AnswerFits fresh (with_reply c seat from reply) z) by fits in
-      inr (subst (λ (z : ℕ). AbortShown (after_end operations answer stored) z cause) number
-      (abort_shown operations answer stored cause abort later on)))
-      (get_grown w.marks (End (length w.marks) n answer ∷ []) a (End p m (Aborted cause)) at))
+      (λ (new : (1 ≤ o.mark) × (o.mark ≡ m) × (answer ≡ Aborted cause)).
+      let its_one = own_shown cause new.2 in
+      let from_one = new.0 in
+      let mark = new.1 in
+      inr (omega (arith, from_one, mark), (n, its_one.0, its_one.1, own_mark_is its_one.0 its_one.1 ∙ mark, its_one.2)))
+      (added a p m cause at))
+      (λ m e cause at ended. ⊎_elim
+      (λ (old : (d : Operation) × IsOperation w m d × (d.closed ≡ Some (Some cause))). inl old)
+      (λ (new : (m ≡ n) × (answer ≡ Aborted cause)).
+      let its_one = own_shown cause new.1 in
+      let one : its_one.0 ≡ e = same_Some its_one.0 e (sym its_one.1 ∙ ap operations (sym new.0) ∙ at) in
+      inr (subst (λ (z : Operation). Evidence next m z cause) one
+      (subst (λ (x : ℕ). Evidence next x its_one.0 cause) (sym new.0) its_one.2)))
+      (closes m e cause at ended))
+    where
+      next : World
+      next = ended_with busy marks operations stored
 
-  -- the End is of the operation's number
-  by_number : (operations : ℕ → Option Operation) (answer : Answer) (stored : Option Stamp) (mark : ℕ) → mark ≡ n
-      → (MessagesShow (after_end operations answer stored) → Tallied (after_end operations answer stored))
-      → MessagesShow (marked_end mark operations answer stored) → Tallied (marked_end mark operations answer stored)
-  by_number operations answer stored mark own =
-      subst (λ (m : ℕ). MessagesShow (marked_end m operations answer stored) → Tallied (marked_end m operations answer stored)) (sym own)
+      on : Furthers w next
+      on = furthers next known busy None (collect_packets me c stored) refl grows refl refl (λ j b. refl) goes
+
+      own_shown : (cause : Cause) → answer ≡ Aborted cause → OwnShown next n cause
+      own_shown cause by =
+          abort_shown busy marks operations stored cause (subst (λ (z : Answer). AnswerFits fresh (with_reply c seat from reply) z) by fits) later on
+
+      own_mark_is : (p : Operation) → operations n ≡ Some p → p.mark ≡ o.mark
+      own_mark_is p at =
+          (let went = goes n o mine.operation_is in
+          ap (λ (z : Operation). z.mark) (same_Some p went.0 (sym at ∙ went.1)) ∙ went.2.mark)
+
+  -- an operation that a change leaves open was as closed before
+  kept_closed : (f : ℕ → Option Operation) (change : Option Operation → Option Operation)
+      → ((d : Operation) → (p : Operation) × (change (Some d) ≡ Some p) × (p.closed ≡ d.closed)) → change None ≡ None
+      → (m : ℕ) (e : Operation) → put f n (change (f n)) m ≡ Some e → (d : Operation) × (f m ≡ Some d) × (e.closed ≡ d.closed)
+  kept_closed f change some none m e =
+      put_each (λ a y. y ≡ Some e → (d : Operation) × (f a ≡ Some d) × (e.closed ≡ d.closed)) f n (change (f n)) (λ at. by (f n) refl at)
+      (λ a other at. (e, at, refl)) m
+    where
+      by : (z : Option Operation) → f n ≡ z → change z ≡ Some e → (d : Operation) × (f n ≡ Some d) × (e.closed ≡ d.closed)
+      by None is at = absurd (let never : None ≡ Some e = sym none ∙ at in cc)
+      by (Some d) is at =
+          let p = some d in
+          (d, is, ap (λ (z : Operation). z.closed) (same_Some e p.0 (sym at ∙ p.1)) ∙ p.2)
+
+  -- and one that is closed was, or is this one
+  closed_by : (f : ℕ → Option Operation) (cause : Option Cause) (m : ℕ) (e : Operation) (why : Cause) → put f n (with_closed cause (f n)) m ≡ Some e
+      → e.closed ≡ Some (Some why) → ((d : Operation) × (f m ≡ Some d) × (d.closed ≡ Some (Some why))) ⊎ ((m ≡ n) × (cause ≡ Some why))
+  closed_by f cause m e why =
+      put_each (λ a y. y ≡ Some e → e.closed ≡ Some (Some why)
+      → ((d : Operation) × (f a ≡ Some d) × (d.closed ≡ Some (Some why))) ⊎ ((a ≡ n) × (cause ≡ Some why))) f n (with_closed cause (f n))
+      (λ at ended. inr (refl, by (f n) at ended)) (λ a other at ended. inl (e, at, ended)) m
+    where
+      by : (z : Option Operation) → with_closed cause z ≡ Some e → e.closed ≡ Some (Some why) → cause ≡ Some why
+      by None at ended = absurd (let never : None ≡ Some e = at in cc)
+      by (Some d) at ended =
+          same_Some cause (Some why)
+          (ap (λ (z : Operation). z.closed) (same_Some (record d { closed = Some cause; answered = not (is_some cause) }) e at) ∙ ended)
+
+  -- two changes of this one, one after the other
+  goes_twice : (e d p : Operation) → GoesOn e d → GoesOn d p → GoesOn e p
+  goes_twice e d p first second = record {
+    brick = second.brick ∙ first.brick;
+    boot = second.boot ∙ first.boot;
+    seq = second.seq ∙ first.seq;
+    ask = second.ask ∙ first.ask;
+    mark = second.mark ∙ first.mark;
+  }
+
+  -- what it saw changes nothing of who it is, nor of how it is closed
+  sees : (v : Stamp) (m : ℕ) (e : Operation) → IsOperation w m e
+      → (p : Operation) × (put w.operations n (with_seen v (w.operations n)) m ≡ Some p) × GoesOn e p
+  sees v = changed w.operations (with_seen v) (λ x. (_, refl, record { brick = refl; boot = refl; seq = refl; ask = refl; mark = refl }))
+
+  saw_closed : (v : Stamp) (m : ℕ) (e : Operation) → put w.operations n (with_seen v (w.operations n)) m ≡ Some e
+      → (d : Operation) × IsOperation w m d × (e.closed ≡ d.closed)
+  saw_closed v = kept_closed w.operations (with_seen v) (λ d. (_, refl, refl)) refl
+
+  -- the mark of an end
+  abbrev end_mark : ℕ → Answer → Mark
+  end_mark mark answer = End (length w.marks) mark answer
+
+  -- an operation that has marks ends
+  answered_added : (answer : Answer) → 1 ≤ o.mark → (a p m : ℕ) (cause : Cause)
+      → slice_get (w.marks ++ (end_mark o.mark answer ∷ [])) a ≡ Some (End p m (Aborted cause))
+      → (slice_get w.marks a ≡ Some (End p m (Aborted cause))) ⊎ ((1 ≤ o.mark) × (o.mark ≡ m) × (answer ≡ Aborted cause))
+  answered_added answer from a p m cause at = ⊎_elim
+      (λ (old : slice_get w.marks a ≡ Some (End p m (Aborted cause))). inl old)
+      (λ (new : (j : ℕ) × (slice_get (end_mark o.mark answer ∷ []) j ≡ Some (End p m (Aborted cause)))).
+      let mark : end_mark o.mark answer ≡ End p m (Aborted cause) = get_one (end_mark o.mark answer) (End p m (Aborted cause)) new.0 new.1 in
+      let number : o.mark ≡ m = cc in
+      let by : answer ≡ Aborted cause = cc in
+      inr (from, number, by))
+      (get_grown w.marks (end_mark o.mark answer ∷ []) a (End p m (Aborted cause)) at)
+
+  tallied_answered : (operations : ℕ → Option Operation) (answer : Answer) (stored : Option Stamp) (mark : ℕ) → mark ≡ o.mark → 1 ≤ o.mark
+      → AnswerFits fresh (with_reply c seat from reply) answer
+      → ((m : ℕ) (e : Operation) → IsOperation w m e → (p : Operation) × (operations m ≡ Some p) × GoesOn e p)
+      → ((m : ℕ) (e : Operation) → operations m ≡ Some e → (d : Operation) × IsOperation w m d × (e.closed ≡ d.closed))
+      → OrdersAlone (ended_with (node.busy - 1) (w.marks ++ (end_mark mark answer ∷ [])) operations stored)
+      → Tallied (ended_with (node.busy - 1) (w.marks ++ (end_mark mark answer ∷ [])) operations stored)
+  tallied_answered operations answer stored mark own from fits goes kept =
+      subst (λ (m : ℕ). OrdersAlone (ended_with (node.busy - 1) (w.marks ++ (end_mark m answer ∷ [])) operations stored)
+      → Tallied (ended_with (node.busy - 1) (w.marks ++ (end_mark m answer ∷ [])) operations stored)) (sym own)
+      (tallied_ends (node.busy - 1) (w.marks ++ (end_mark o.mark answer ∷ [])) operations answer stored fits goes (answered_added answer from)
+      (λ m e cause at ended. let was = kept m e at in inl (was.0, was.1, sym was.2 ∙ ended)))
+
+  -- how a read of a synchronisation is closed
+  aborted_by_cause : (answer : Answer) (cause : Cause) → abort_cause answer ≡ Some cause → answer ≡ Aborted cause
+  aborted_by_cause (Data bytes) cause is = absurd (let never : None ≡ Some cause = is in cc)
+  aborted_by_cause Done cause is = absurd (let never : None ≡ Some cause = is in cc)
+  aborted_by_cause (Aborted why) cause is = ap Aborted (same_Some why cause is)
+
+  -- a read of a synchronisation is closed
+  pub tallied_closed : (answer : Answer) (seen stored : Option Stamp) → AnswerFits fresh (with_reply c seat from reply) answer
+      → (let x : World = closed_world setting (record w {
+        replies = with_counted w.replies (number_of w me.0 c.call.seq) c.call.phase (record { seat = seat; brick = from; reply = reply });
+      }) me known c answer seen stored in
+      OrdersAlone x → Tallied x)
+  tallied_closed answer None stored fits =
+      tallied_ends node.busy w.marks (put w.operations n (with_closed (abort_cause answer) (w.operations n))) answer stored fits
+      (changed w.operations (with_closed (abort_cause answer)) (λ x. (_, refl, record { brick = refl; boot = refl; seq = refl; ask = refl; mark = refl })))
+      (λ a p m cause at. inl at)
+      (λ m e cause at ended. ⊎_elim
+      (λ (old : (d : Operation) × IsOperation w m d × (d.closed ≡ Some (Some cause))). inl old)
+      (λ (new : (m ≡ n) × (abort_cause answer ≡ Some cause)). inr (new.0, aborted_by_cause answer cause new.1))
+      (closed_by w.operations (abort_cause answer) m e cause at ended))
+  tallied_closed answer (Some v) stored fits =
+      let saw : ℕ → Option Operation = put w.operations n (with_seen v (w.operations n)) in
+      tallied_ends node.busy w.marks (put saw n (with_closed (abort_cause answer) (saw n))) answer stored fits
+      (λ m e at.
+      let first = sees v m e at in
+      let second = changed saw (with_closed (abort_cause answer)) (λ x. (_, refl, record { brick = refl; boot = refl; seq = refl; ask = refl; mark = refl })) m first.0 first.1 in
+      (second.0, second.1, goes_twice e first.0 second.0 first.2 second.2))
+      (λ a p m cause at. inl at)
+      (λ m e cause at ended. ⊎_elim
+      (λ (old : (d : Operation) × (saw m ≡ Some d) × (d.closed ≡ Some (Some cause))).
+      let was = saw_closed v m old.0 old.1 in inl (was.0, was.1, sym was.2 ∙ old.2))
+      (λ (new : (m ≡ n) × (abort_cause answer ≡ Some cause)). inr (new.0, aborted_by_cause answer cause new.1))
+      (closed_by saw (abort_cause answer) m e cause at ended))
 
   -- the history of replies after what the coordinator decides
-  pub tallied_counted : (next : Next) → NextFits fresh (with_reply c seat from reply) next → MessagesShow (after next) → Tallied (after next)
-  tallied_counted Ignores fits later = absurd fits
-  tallied_counted (Waits d) fits later =
+  pub tallied_counted : (next : Next) → NextFits fresh (with_reply c seat from reply) next
+      → ((answer : Answer) (seen stored : Option Stamp) → next ≡ Ends answer seen stored → 1 ≤ o.mark) → MessagesShow (after next) → Tallied (after next)
+  tallied_counted Ignores fits marked later = absurd fits
+  tallied_counted (Waits d) fits marked later =
       let on : Furthers w (after (Waits d)) = furthers (after (Waits d)) known node.busy (Some d) [] refl grows refl refl
       (λ j b. refl) same_operations in
       let phase : d.call.phase ≡ c.call.phase = ap (λ (x : Call). x.phase) fits.call in
       let first : first_round d.phase ≡ first_round c.phase = ap (λ (x : Phase). first_round x) fits.phase in
-      tallied_on setting w (after (Waits d)) books tallied later on
+      tallied_on setting w (after (Waits d)) books tallied later.orders_alone on
       (calls_by known node.busy d [] grows (record {
         now = subst (λ (p : Phase). IsTally p (replies n d.call.phase) d.counted) (sym fits.phase)
             (subst (λ (p : ℕ). IsTally c.phase (replies n p) d.counted) (sym phase) (tally_waits d fits.counted));
@@ -784,26 +906,26 @@ module _ (setting : Setting) (w : World) (me : BrickId) (now known : ℕ) (c : C
         refused = λ round p low high. refused_before (subst (λ (x : Phase). IsRound x) fits.phase round) p (omega arith) (omega arith);
         back = λ looks. back_on [] d.call fits.same.boot fits.same.seq (omega (arith, phase)) (its.back (sym (ap (λ (p : Phase). looks_back p) fits.phase) ∙ looks));
       }))
-      unbegun (counted_next (after (Waits d)) on) (λ a p m cause at. inl at)
-  tallied_counted (Sends d) fits later =
+      unbegun (counted_next (after (Waits d)) on) (λ a p m cause at. inl at) (λ m e cause at ended. inl (e, at, ended))
+  tallied_counted (Sends d) fits marked later =
       let on : Furthers w (after (Sends d)) = furthers (after (Sends d)) (max known d.stamp.time) node.busy (Some d)
       (phase_packets setting me d) refl
       (omega arith) refl refl (λ j b. refl) same_operations in
       let phase : d.call.phase ≡ c.call.phase + 1 = ap (λ (x : Call). x.phase) fits.call in
-      tallied_on setting w (after (Sends d)) books tallied later on
+      tallied_on setting w (after (Sends d)) books tallied later.orders_alone on
       (calls_by (max known d.stamp.time) node.busy d (phase_packets setting me d) (omega arith) (record {
         now = tally_begins d.call.phase d fits.counted (omega arith);
         later = λ p above. replies_later p (omega arith);
         refused = refused_sends d fits phase;
         back = back_sends (phase_packets setting me d) d fits (later.begins_back i k d (at_next (max known d.stamp.time) node.busy d));
       }))
-      unbegun (counted_next (after (Sends d)) on) (λ a p m cause at. inl at)
-  tallied_counted (Makes d) fits later =
+      unbegun (counted_next (after (Sends d)) on) (λ a p m cause at. inl at) (λ m e cause at ended. inl (e, at, ended))
+  tallied_counted (Makes d) fits marked later =
       let on : Furthers w (after (Makes d)) = furthers (after (Makes d)) known node.busy (Some d)
       (phase_packets setting me d) refl grows refl refl
-      (λ j b. refl) (changed w.operations (with_made d.stamp d.base) (λ e. (_, refl, record { brick = refl; boot = refl; seq = refl; ask = refl }))) in
+      (λ j b. refl) (changed w.operations (with_made d.stamp d.base) (λ e. (_, refl, record { brick = refl; boot = refl; seq = refl; ask = refl; mark = refl }))) in
       let phase : d.call.phase ≡ c.call.phase + 1 = ap (λ (x : Call). x.phase) fits.call in
-      tallied_on setting w (after (Makes d)) books tallied later on
+      tallied_on setting w (after (Makes d)) books tallied later.orders_alone on
       (calls_by known node.busy d (phase_packets setting me d) grows (record {
         now = tally_begins d.call.phase d fits.counted (omega arith);
         later = λ p above. replies_later p (omega arith);
@@ -811,23 +933,24 @@ module _ (setting : Setting) (w : World) (me : BrickId) (now known : ℕ) (c : C
         back = λ looks. absurd (false≢true (sym (making_ahead d fits.phase) ∙ looks));
       }))
       unbegun (counted_next (after (Makes d)) on) (λ a p m cause at. inl at)
-  tallied_counted (Ends answer None stored) fits later =
-      by_number (put w.operations n (with_answer answer (w.operations n))) answer stored _ (own_number w.marked w.begun w.operations books.own n)
-      (tallied_ends (put w.operations n (with_answer answer (w.operations n))) answer stored fits.1
-      (changed w.operations (with_answer answer) (λ e. (_, refl, record { brick = refl; boot = refl; seq = refl; ask = refl })))) later
-  tallied_counted (Ends answer (Some v) stored) fits later =
+      (λ m e cause at ended.
+      let was = kept_closed w.operations (with_made d.stamp d.base) (λ x. (_, refl, refl)) refl m e at in
+      inl (was.0, was.1, sym was.2 ∙ ended))
+  tallied_counted (Ends answer None stored) fits marked later =
+      tallied_answered (put w.operations n (with_answer answer (w.operations n))) answer stored (mark_of w n) (mark_at w.operations n o mine.operation_is)
+      (marked answer None stored refl) fits.1
+      (changed w.operations (with_answer answer) (λ e. (_, refl, record { brick = refl; boot = refl; seq = refl; ask = refl; mark = refl })))
+      (kept_closed w.operations (with_answer answer) (λ d. (_, refl, refl)) refl) later.orders_alone
+  tallied_counted (Ends answer (Some v) stored) fits marked later =
       let seen : ℕ → Option Operation = put w.operations n (with_seen v (w.operations n)) in
-      by_number (put seen n (with_answer answer (seen n))) answer stored _ (own_seen w.marked w.begun w.operations books.own n v)
-      (tallied_ends (put seen n (with_answer answer (seen n))) answer stored fits.1
+      tallied_answered (put seen n (with_answer answer (seen n))) answer stored (own_mark n (seen n)) (mark_seen w.operations n v o mine.operation_is)
+      (marked answer (Some v) stored refl) fits.1
       (λ m e at.
-      let first = changed w.operations (with_seen v) (λ x. (_, refl, record { brick = refl; boot = refl; seq = refl; ask = refl })) m e at in
-      let second = changed seen (with_answer answer) (λ x. (_, refl, record { brick = refl; boot = refl; seq = refl; ask = refl })) m first.0 first.1 in (
-        second.0,
-        second.1,
-        record {
-          brick = second.2.brick ∙ first.2.brick;
-          boot = second.2.boot ∙ first.2.boot;
-          seq = second.2.seq ∙ first.2.seq;
-          ask = second.2.ask ∙ first.2.ask;
-        },
-      ))) later
+      let first = sees v m e at in
+      let second = changed seen (with_answer answer) (λ x. (_, refl, record { brick = refl; boot = refl; seq = refl; ask = refl; mark = refl })) m first.0 first.1 in
+      (second.0, second.1, goes_twice e first.0 second.0 first.2 second.2))
+      (λ m e at.
+      let second = kept_closed seen (with_answer answer) (λ d. (_, refl, refl)) refl m e at in
+      let first = saw_closed v m second.0 second.1 in
+      (first.0, first.1, second.2 ∙ first.2))
+      later.orders_alone

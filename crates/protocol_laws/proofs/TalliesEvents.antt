@@ -1,84 +1,69 @@
 -- Every event keeps the history of replies.
 use Rattle.std.proofs.lemmas.List.{append-nil}
 use Rattle.std.proofs.Common.{◌≡◌, ◌≢◌, ℕ, ◌+◌, ◌≤◌, inl, ⊎_elim, true, false, ap, Option, Some, None, List, [], ◌∷◌, ◌++◌, length, refl, sym, ◌∙◌, subst, arith, Bool}
-use Rattle.std.specs.Prelude.{slice_get, if◌then◌else◌}
-use Rattle.std.proofs.lemmas.Bool.{cases_eq, false≢true}
-use Rattle.std.proofs.lemmas.Option.{same_Some}
+use Rattle.std.specs.Prelude.{slice_get, if◌then◌else◌, not, is_some}
+use Rattle.std.proofs.lemmas.Bool.{cases_eq, and_parts}
 use Rattle.fab_base.specs.declared.identities.BrickId.{BrickId}
 use Rattle.fab_base.specs.declared.asks.Ask.{Ask}
 use Rattle.fab_base.specs.declared.stamps.Stamp.{Stamp}
+use Rattle.fab_base.specs.declared.answers.Answer.{Answer}
 use Rattle.fab_base.specs.declared.answers.Answer.TheVariants.{Aborted}
 use Rattle.messages.specs.declared.calls.Call.{Call}
 use Rattle.messages.specs.declared.packets.Message.{Message}
 use Rattle.messages.specs.declared.packets.Packet.{Packet}
 use Rattle.messages.specs.declared.requests.Request.{Request}
 use Rattle.messages.specs.declared.replies.Reply.{Reply}
+use Rattle.reg_model.specs.declared.marks.Mark.{Mark}
 use Rattle.reg_model.specs.declared.marks.Mark.TheVariants.{Begin, End, Crash}
-use Rattle.fab_base.specs.Layouts.{Layout, Group}
+use Rattle.fab_base.specs.Layouts.{Layout, Group, group_of}
 use Rattle.protocol.specs.Views.{Views}
 use Rattle.protocol.specs.Settings.{Setting, Code, IsSound}
 use Rattle.protocol.specs.Replicas.{handle}
-use Rattle.protocol.specs.Coordinators.{Coordinator, with_reply, once_full, counted_at, counts_at, on_reply, asked_group, dropper_of, request_of}
-use Rattle.protocol.specs.Nodes.{Node, NodeStep, ticked, new_coordinator, put, no_step, fresh_stamp, began_in, began, invoked, with_replica, replica_at, full_at, reply_packets, requested, known_after, with_known, carried_out, replied_at, replied, heard, received, vote_at, with_round, proposed, node_learnt, node_synced, lists_fit}
-use Rattle.protocol.specs.Worlds.{World, Found, Before, After, Event, first_world, may_begin, number_of, world_stopped, world_found, world_started, world_began, counted_after, replies_at, replies_with, run, with_held, Choices, voiced}
+use Rattle.protocol.specs.Jobs.{Job, begun_job, job_after, abort_cause}
+use Rattle.protocol.specs.Coordinators.{Coordinator, Next, Ignores, Ends, with_reply, once_full, counted_at, counts_at, on_reply, asked_group, dropper_of, request_of}
+use Rattle.protocol.specs.Nodes.{Node, NodeStep, ticked, new_coordinator, put, no_step, fresh_stamp, began_in, began, opened, phase_packets, top_at, carried_for, job_reading, sync_refusal, synced_at, invoked, with_replica, replica_at, full_at, reply_packets, requested, known_after, with_known, replied_at, replied, heard, received, vote_at, with_round, proposed, node_learnt, node_synced, lists_fit}
+use Rattle.protocol.specs.Worlds.{World, is_up, world_stepped, Found, Before, After, Event, first_world, may_begin, number_of, world_stopped, world_found, world_started, world_began, counted_after, replies_at, replies_with, run, with_held, Choices, voiced}
 use Rattle.protocol_laws.specs.Laws.{WasSent, RequestSent, RunFollows}
 use Rattle.protocol.proofs.Served.{request_each}
 use Rattle.protocol_laws.proofs.Books.{Books, IsCall}
 use Rattle.protocol_laws.proofs.Left.{Leaves, always_leaves, found_down, packet_was_sent}
-use Rattle.protocol_laws.proofs.BooksKept.{KeepsNumbers, KeepsCalls, cases_call, keeps_all, keeps_itself, keeps_known}
+use Rattle.protocol_laws.proofs.BooksKept.{KeepsNumbers, KeepsCalls, keeps_all, keeps_itself, keeps_known, call_marked, reading_is}
 use Rattle.protocol_laws.proofs.Votes.{with_vote}
 use Rattle.protocol_laws.proofs.Proposing.{ballot_each, proposed_each}
 use Rattle.protocol_laws.proofs.Hearing.{kept_world, taught_by, replying_each}
 use Rattle.protocol.specs.declared.phases.Counted.{Counted}
 use Rattle.protocol.specs.declared.phases.Phase.{Phase}
 use Rattle.protocol.specs.declared.phases.Phase.TheVariants.{LooksBack}
-use Rattle.protocol_laws.proofs.StampViews.{first_ahead}
 use Rattle.protocol.specs.Ballots.{Voted}
 use Rattle.protocol.specs.declared.tellings.Report.{Report}
 use Rattle.fab_base.specs.declared.identities.GroupId.{GroupId}
 use Rattle.fab_base.specs.declared.identities.ViewNo.{ViewNo}
 use Rattle.view_laws.proofs.Syncing.{synced_each}
-use Rattle.protocol_laws.proofs.BooksQuiet.{quiet_world, started_calls, unstarted, started_known}
+use Rattle.protocol_laws.proofs.BooksQuiet.{started_calls, unstarted, started_known}
 use Rattle.protocol_laws.proofs.BooksEnds.{stopped_keeps, stopped_calls, unstopped_calls}
-use Rattle.protocol_laws.proofs.BooksBegins.{call_is, other_calls, same_boots, call_number, other_number, other_operations, knows}
-use Rattle.protocol_laws.proofs.BooksEvents.{keeps_put, stepped, known_grows, BeginFits, begin_fits, found_keeps, books_found, books_kept, hearing_keeps, learnt_keeps, start_fits, books_beside, books, group_there, fits_at}
-use Rattle.protocol_laws.proofs.Outcomes.{first_round_above, once_full_fits}
+use Rattle.protocol_laws.proofs.BooksEvents.{keeps_put, stepped, known_grows, BeginFits, begin_fits, found_keeps, books_found, books_kept, hearing_keeps, learnt_keeps, start_fits, books_beside, books, group_there, fits_at, books_closing}
+use Rattle.protocol_laws.proofs.Outcomes.{NextFits, once_full_fits}
 use Rattle.protocol_laws.proofs.Said.{Stamping, Said, IsSaid, CountedSays}
-use Rattle.protocol_laws.proofs.SaidAlways.{always_said, follows_front}
+use Rattle.protocol_laws.proofs.SaidAlways.{always_said, follows_front, no_job}
 use Rattle.protocol_laws.proofs.OwnStamps.{asked_is, orders_alone, in_round}
 use Rattle.protocol_laws.proofs.Counting.{each_then}
 use Rattle.protocol.proofs.CountsAt.{CountsAt, counts_facts}
 use Rattle.protocol.proofs.Tables.{put_each, put_same, get_kept, get_grown, get_one}
-use Rattle.protocol_laws.proofs.Tallies.{CallTallied, Tallied, MessagesShow}
-use Rattle.protocol_laws.proofs.TalliesKept.{StaySent, call_tallied_on, known_kept, tallied_on}
-use Rattle.protocol_laws.proofs.TalliesCounts.{dropper_ahead, tallied_counted}
+use Rattle.protocol_laws.proofs.Tallies.{Tallied, MessagesShow}
+use Rattle.protocol_laws.proofs.TalliesKept.{call_tallied_on, known_kept, tallied_on}
+use Rattle.protocol_laws.proofs.TalliesReads.{tallied_quiet, tallied_opened, tallied_read, tallied_idle, tallied_after_close}
+use Rattle.protocol_laws.proofs.Closing.{ClosesNone, closing_each, closed_world, closed_no_read}
+use Rattle.view_laws.proofs.SyncReads.{synced_at_each}
+use Rattle.protocol_laws.proofs.TalliesCounts.{dropper_ahead, tallied_counted, tallied_closed}
 use Rattle.protocol.proofs.Events.{EventCases, world_handled, run_along}
 
 module _ (setting : Setting) (w : World) (books : Books setting w) (tallied : Tallied w) where
-  -- a step that changes no operation
-  tallied_quiet : (nodes : ℕ → Node) (held : ℕ → ℕ → ℕ → Stamp → Bool) (clocks : ℕ → ℕ) (packets : List Packet)
-      (reached : ℕ → Bool) (choices : Choices) → MessagesShow (quiet_world w nodes held clocks packets w.replies reached choices) → ((i : ℕ) → KeepsNumbers (w.nodes i) (nodes i))
-      → ((i k : ℕ) → (nodes i).calls k ≡ (w.nodes i).calls k)
-      → ((packet : Packet) → WasSent w packet → WasSent (quiet_world w nodes held clocks packets w.replies reached choices) packet)
-      → Tallied (quiet_world w nodes held clocks packets w.replies reached choices)
-  tallied_quiet nodes held clocks packets reached choices shows keeps calls sent =
-      tallied_on setting w (quiet_world w nodes held clocks packets w.replies reached choices) books tallied shows
-      (record {
-        sent = sent;
-        known = known_kept w (quiet_world w nodes held clocks packets w.replies reached choices) (λ i b. refl) (λ i. (keeps i).boot) (λ i. (keeps i).known);
-        operations = λ n o is. (o, is, record { brick = refl; boot = refl; seq = refl; ask = refl });
-        replies = λ n. inl (λ p. refl);
-      })
-      (λ i k c is. call_tallied_on w.packets packets w.replies w.replies i (number_of w i k) (w.numbers i (nodes i).boot k) c sent
-      (ap (λ (b : ℕ). w.numbers i b k) (keeps i).boot) (λ p. refl) (tallied.calls i k c (sym (calls i k) ∙ is)))
-      tallied.unbegun (λ n phase k x is. inl is) (λ k p n cause is. inl is)
-
   -- a step that tells nothing and keeps a brick's calls and numbers, whatever it reports
   tallied_silent : (me : BrickId) (node : Node) (packets : List Packet) (reports : List Report) → KeepsCalls (w.nodes me.0) node
       → (let step : NodeStep = record { node = node; packets = packets; told = []; answers = []; reports = reports } in
       MessagesShow (stepped setting w w.replies me step) → Tallied (stepped setting w w.replies me step))
   tallied_silent me node packets reports keeps shows =
-      tallied_quiet (put w.nodes me.0 node) (with_held w.held me.0 node) w.clocks (w.packets ++ packets) w.reached _ shows (keeps_put w me.0 node keeps.0)
+      tallied_quiet setting w books tallied (put w.nodes me.0 node) (with_held w.held me.0 node) w.clocks (w.packets ++ packets) w.reached _ shows.orders_alone (keeps_put w me.0 node keeps.0)
       (λ j l. put_each (λ (x : ℕ) (y : Node). y.calls l ≡ (w.nodes x).calls l) w.nodes me.0 node (keeps.1 l) (λ x other. refl) j)
       (λ packet sent. (sent.0, get_kept w.packets packets sent.0 packet sent.1))
 
@@ -90,7 +75,7 @@ module _ (setting : Setting) (w : World) (books : Books setting w) (tallied : Ta
   tallied_known : (me : BrickId) (known : ℕ) → (w.nodes me.0).known ≤ known
       → MessagesShow (stepped setting w w.replies me (no_step (with_known (w.nodes me.0) known)))
       → Tallied (stepped setting w w.replies me (no_step (with_known (w.nodes me.0) known)))
-  tallied_known me known grows = tallied_silent me (with_known (w.nodes me.0) known) [] [] (keeps_known (w.nodes me.0) known grows, λ l. refl)
+  tallied_known me known grows = tallied_silent me (with_known (w.nodes me.0) known) [] [] (keeps_known (w.nodes me.0) known grows, λ l. refl, refl)
 
   -- a request
   tallied_requested : (me from : BrickId) (call : Call) (request : Request)
@@ -103,11 +88,11 @@ module _ (setting : Setting) (w : World) (books : Books setting w) (tallied : Ta
       (λ group seat here served.
       let reaction = handle setting.code group.m (full_at setting.layout.records (w.nodes me.0).live) seat (replica_at (w.nodes me.0) call) request in
       tallied_silent me (with_replica (w.nodes me.0) call reaction) (reply_packets me from call reaction.reply) []
-      (record { boot = refl; seq = omega arith; known = omega arith }, λ l. refl))
+      (record { boot = refl; seq = omega arith; known = omega arith }, λ l. refl, refl))
       (λ group ballot asked here.
       let vote : Voted = vote_at (w.nodes me.0) call ballot asked in
       tallied_silent me (with_vote (w.nodes me.0) call vote) (reply_packets me from call (Some vote.reply)) []
-      (record { boot = refl; seq = omega arith; known = omega arith }, λ l. refl))
+      (record { boot = refl; seq = omega arith; known = omega arith }, λ l. refl, refl))
 
   -- a brick begins a proposal
   tallied_proposed : (me : BrickId) (group : GroupId) (members : List BrickId)
@@ -117,7 +102,7 @@ module _ (setting : Setting) (w : World) (books : Books setting w) (tallied : Ta
       proposed_each (λ (step : NodeStep). MessagesShow (stepped setting w w.replies me step) → Tallied (stepped setting w w.replies me step)) setting me
       (w.nodes me.0) group members (λ seq round proposal packets reports more are.
       tallied_silent me (record (w.nodes me.0) { seq = seq; round = round; proposal = proposal }) packets reports
-      (record { boot = refl; seq = more; known = omega arith }, λ l. refl))
+      (record { boot = refl; seq = more; known = omega arith }, λ l. refl, refl))
 
   -- a reply to an open operation, or to a proposal
   tallied_replied : (me : BrickId) (now : ℕ) (from : BrickId) (call : Call) (reply : Reply) (found : Option Coordinator) → MessagesShow w
@@ -127,40 +112,69 @@ module _ (setting : Setting) (w : World) (books : Books setting w) (tallied : Ta
   unfolding on_reply
   tallied_replied me now from call reply found shows sent = at_call found
     where
-      at_seat : (c : Coordinator) → IsCall w me.0 call.seq c → (z : Option ℕ)
-          → counts_at setting.layout.block c from.0 call reply ≡ z
-          → MessagesShow (stepped setting w (counted_after w.replies (number_of w me.0 call.seq) from call reply z) me
-          (carried_out setting me (w.nodes me.0) (known_after (w.nodes me.0).known reply) c
-          (counted_at setting.layout.block setting.code (fresh_stamp me c.stamp.view now (w.nodes me.0).boot (known_after (w.nodes me.0).known reply)) c from reply z)))
-          → Tallied (stepped setting w (counted_after w.replies (number_of w me.0 call.seq) from call reply z) me
-          (carried_out setting me (w.nodes me.0) (known_after (w.nodes me.0).known reply) c
-          (counted_at setting.layout.block setting.code (fresh_stamp me c.stamp.view now (w.nodes me.0).boot (known_after (w.nodes me.0).known reply)) c from reply z)))
-      at_seat c is None none later =
-          tallied_known me (known_after (w.nodes me.0).known reply) (known_grows (w.nodes me.0).known reply) later
-      at_seat c is (Some seat) counts later =
+      known : ℕ
+      known = known_after (w.nodes me.0).known reply
+
+      IsTalliedNext : World → Type 0
+      IsTalliedNext next = MessagesShow next → Tallied next
+
+      fresh : Coordinator → Option Stamp
+      fresh c = fresh_stamp me c.stamp.view now (w.nodes me.0).boot known
+
+      -- the world where this reply counts
+      counting : ℕ → Call → Option ℕ → World
+      counting n k z = record w { replies = counted_after w.replies n from k reply z }
+
+      no_read : (z : Option Job) (answer : Answer) (seen stored : Option Stamp) → ClosesNone z (Ends answer seen stored) → z ≡ None
+      no_read None answer seen stored none = refl
+      no_read (Some job) answer seen stored none = absurd (none job answer seen stored refl refl)
+
+      at_seat : (c : Coordinator) → IsCall w me.0 c.call.seq c → (z : Option ℕ) → counts_at setting.layout.block c from.0 call reply ≡ z
+          → IsTalliedNext (world_stepped setting (counting (number_of w me.0 call.seq) call z) me
+          (carried_for setting me now (w.nodes me.0) known c (counted_at setting.layout.block setting.code (fresh c) c from reply z)
+          (job_reading (w.nodes me.0).job c.call.seq)))
+      at_seat c is None none =
+          closing_each IsTalliedNext setting (counting (number_of w me.0 call.seq) call None) me now known c Ignores (job_reading (w.nodes me.0).job c.call.seq)
+          (λ isnt. tallied_known me known (known_grows (w.nodes me.0).known reply))
+          (λ job reads answer seen stored ends. absurd (let never : Ignores ≡ Ends answer seen stored = ends in cc))
+      at_seat c is (Some seat) counts =
           let facts : CountsAt setting.layout.block c from.0 call reply seat = counts_facts setting.layout.block c from.0 call reply seat counts in
-          let time : ℕ = known_after (w.nodes me.0).known reply in
-          let fresh : Option Stamp = fresh_stamp me c.stamp.view now (w.nodes me.0).boot time in
-          let after : Call → World = λ k. stepped setting w (counted_after w.replies (number_of w me.0 k.seq) from k reply (Some seat)) me
-          (carried_out setting me (w.nodes me.0) time c (once_full setting.layout.block setting.code fresh (with_reply c seat from reply))) in
-          subst (λ (k : Call). MessagesShow (after k) → Tallied (after k)) (sym facts.call_is)
-          (tallied_counted setting w me now time c from reply seat books tallied shows
-          (subst (λ (k : Call). IsCall w me.0 k.seq c) facts.call_is is)
-          (subst (λ (k : Call). WasSent w (record { from = from; to = me; message = Message.Reply k reply })) facts.call_is sent)
-          (known_grows (w.nodes me.0).known reply) facts.answers (once_full setting.layout.block setting.code fresh (with_reply c seat from reply))
-          (once_full_fits setting.layout.block setting.code fresh (with_reply c seat from reply)))
-          later
+          let next : Next = once_full setting.layout.block setting.code (fresh c) (with_reply c seat from reply) in
+          let reading : Option Job = job_reading (w.nodes me.0).job c.call.seq in
+          let fits = once_full_fits setting.layout.block setting.code (fresh c) (with_reply c seat from reply) in
+          let sent_it = subst (λ (k : Call). WasSent w (record { from = from; to = me; message = Message.Reply k reply })) facts.call_is sent in
+          let its = books.calls me.0 c.call.seq c is in
+          subst (λ (k : Call). IsTalliedNext (world_stepped setting (counting (number_of w me.0 k.seq) k (Some seat)) me
+          (carried_for setting me now (w.nodes me.0) known c next reading))) (sym facts.call_is)
+          (closing_each IsTalliedNext setting (counting (number_of w me.0 c.call.seq) c.call (Some seat)) me now known c next reading
+          (λ none.
+          tallied_counted setting w me now known c from reply seat books tallied shows is sent_it (known_grows (w.nodes me.0).known reply) facts.answers next fits
+          (λ answer seen stored ends.
+          call_marked setting w me.0 c.call.seq c its
+          (no_read reading answer seen stored (λ job a s t at same. none job a s t at (ends ∙ same)))))
+          (λ job reads answer seen stored ends.
+          let mine = reading_is (w.nodes me.0).job c.call.seq job reads in
+          let found : on_reply setting.layout.block setting.code (fresh c) c from call reply ≡ next
+          = ap (λ (z : Option ℕ). counted_at setting.layout.block setting.code (fresh c) c from reply z) counts in
+          tallied_after_close setting (closed_world setting (counting (number_of w me.0 c.call.seq) c.call (Some seat)) me known c answer seen stored) me now job
+          (job_after c.group.stripes job.attempt (abort_cause answer))
+          (books_closing setting (counting (number_of w me.0 c.call.seq) c.call (Some seat)) me now from call reply c
+          (books_beside setting w (counted_after w.replies (number_of w me.0 c.call.seq) from c.call reply (Some seat)) w.reached w.choices books) is job reads
+          answer seen stored (found ∙ ends))
+          (closed_no_read setting (counting (number_of w me.0 c.call.seq) c.call (Some seat)) me known c answer seen stored job mine.0 mine.1)
+          (tallied_closed setting w me now known c from reply seat books tallied shows is sent_it (known_grows (w.nodes me.0).known reply) facts.answers answer
+          seen stored (subst (λ (z : Next). NextFits (fresh c) (with_reply c seat from reply) z) ends fits).1)))
 
       at_call : (z : Option Coordinator) → (w.nodes me.0).calls call.seq ≡ z
           → MessagesShow (stepped setting w (replies_at setting w me from call reply z) me (replied_at setting me now from (w.nodes me.0) call reply z))
           → Tallied (stepped setting w (replies_at setting w me from call reply z) me (replied_at setting me now from (w.nodes me.0) call reply z))
       at_call None none =
-          let known : ℕ = known_after (w.nodes me.0).known reply in
           ballot_each (λ (step : NodeStep). MessagesShow (stepped setting w w.replies me step) → Tallied (stepped setting w w.replies me step)) setting.layout me from
           (with_known (w.nodes me.0) known) call reply (w.nodes me.0).proposal (λ seq round proposal packets reports more are.
           tallied_silent me (record (w.nodes me.0) { known = known; seq = seq; round = round; proposal = proposal }) packets reports
-          (record { boot = refl; seq = more; known = known_grows (w.nodes me.0).known reply }, λ l. refl))
-      at_call (Some c) is = at_seat c is (counts_at setting.layout.block c from.0 call reply) refl
+          (record { boot = refl; seq = more; known = known_grows (w.nodes me.0).known reply }, λ l. refl, refl))
+      at_call (Some c) is =
+          at_seat c (subst (λ (l : ℕ). IsCall w me.0 l c) (sym (books.calls me.0 call.seq c is).call_seq) is) (counts_at setting.layout.block c from.0 call reply) refl
 
 -- what messages show does not change where a brick keeps what it is now, and has the calls that it had
 shows_kept : (w : World) (me : BrickId) (node : Node) → ((i k : ℕ) → ((kept_world w me node).nodes i).calls k ≡ (w.nodes i).calls k) → MessagesShow w
@@ -186,7 +200,7 @@ replies_kept setting w me node from call reply (Some c) same =
 synced_calls : (layout : Layout) (node : Node) (group : GroupId) (number : ViewNo) → KeepsCalls node (node_synced layout node group number)
 synced_calls layout node group number =
     synced_each (λ (n : Node). KeepsCalls node n) layout node group number (keeps_itself node)
-    (λ now unsynced. (record { boot = refl; seq = omega arith; known = omega arith }, λ l. refl))
+    (λ now unsynced. (record { boot = refl; seq = omega arith; known = omega arith }, λ l. refl, refl))
 
 module _ (setting : Setting) (w : World) (books : Books setting w) (tallied : Tallied w) where
   tallied_kept : (me : BrickId) (node : Node) → KeepsCalls (w.nodes me.0) node → MessagesShow w → MessagesShow (kept_world w me node) × Tallied (kept_world w me node)
@@ -195,7 +209,7 @@ module _ (setting : Setting) (w : World) (books : Books setting w) (tallied : Ta
       = λ j l. put_each (λ (x : ℕ) (y : Node). y.calls l ≡ (w.nodes x).calls l) w.nodes me.0 node (keeps.1 l) (λ x other. refl) j in
       let shown = shows_kept w me node calls shows in (
         shown,
-        tallied_quiet setting w books tallied (put w.nodes me.0 node) (with_held w.held me.0 node) w.clocks w.packets w.reached _ shown
+        tallied_quiet setting w books tallied (put w.nodes me.0 node) (with_held w.held me.0 node) w.clocks w.packets w.reached _ shown.orders_alone
             (keeps_put w me.0 node keeps.0) calls (λ packet sent. sent),
       )
 
@@ -237,7 +251,7 @@ module _ (setting : Setting) (w : World) (books : Books setting w) (tallied : Ta
       by true = replies_heard
       by false =
           tallied_silent setting w books tallied me (with_known (with_round (w.nodes me.0) reply) known) [] []
-          (record { boot = refl; seq = omega arith; known = known_grows (w.nodes me.0).known reply }, λ l. refl)
+          (record { boot = refl; seq = omega arith; known = known_grows (w.nodes me.0).known reply }, λ l. refl, refl)
 
   -- a message
   tallied_received : (now : ℕ) (from to : BrickId) (message : Message) → MessagesShow w → WasSent w (record { from = from; to = to; message = message })
@@ -272,7 +286,7 @@ module _ (setting : Setting) (w : World) (books : Books setting w) (tallied : Ta
       let noted : World = record w { reached = reached; choices = choices } in
       let noted_shows : MessagesShow noted = shows_reached w reached choices shows in
       tallied_received setting noted (books_beside setting w w.replies reached choices books)
-      (tallied_quiet setting w books tallied w.nodes w.held w.clocks w.packets reached choices noted_shows (λ i. keeps_all (w.nodes i)) (λ i k. refl)
+      (tallied_quiet setting w books tallied w.nodes w.held w.clocks w.packets reached choices noted_shows.orders_alone (λ i. keeps_all (w.nodes i)) (λ i k. refl)
       (λ other was. was)) (w.clocks packet.to.0) packet.from packet.to packet.message noted_shows sent
 
   -- an operation begins
@@ -280,58 +294,17 @@ module _ (setting : Setting) (w : World) (books : Books setting w) (tallied : Ta
       → MessagesShow (world_began w brick ask (began_in setting brick (w.nodes brick.0) (new_coordinator (group_there (w.nodes brick.0) ask group) brick now (w.nodes brick.0) ask)))
       → Tallied (world_began w brick ask (began_in setting brick (w.nodes brick.0) (new_coordinator (group_there (w.nodes brick.0) ask group) brick now (w.nodes brick.0) ask)))
   tallied_began brick now ask group shows =
-      let next : World = world_began w brick ask (began_in setting brick (w.nodes brick.0)
-      (new_coordinator (group_there (w.nodes brick.0) ask group) brick now (w.nodes brick.0) ask)) in
-      let i : ℕ = brick.0 in
-      let k : ℕ = (w.nodes brick.0).seq + 1 in
-      let n : ℕ = w.begun + 1 in
-      let c : Coordinator = new_coordinator (group_there (w.nodes brick.0) ask group) brick now (w.nodes brick.0) ask in
-      let stays : StaySent w.packets next.packets = λ packet sent. (sent.0, get_kept w.packets _ sent.0 packet sent.1) in
-      let new : CallTallied next.packets w.replies i n c = record {
-        now = record {
-          forgotten = [];
-          are = tallied.unbegun n 1 (omega arith);
-          stops = (refl, refl, refl);
-          refused = λ ahead. refl;
-          found = inl refl;
-        };
-        later = λ p above. tallied.unbegun n p (omega arith);
-        refused = λ round p low high. absurd (omega (arith, first_round_above c.phase));
-        back = λ looks. absurd (false≢true (sym (first_ahead ask.op) ∙ looks));
-      } in
-      tallied_on setting w next books tallied shows
-      (record {
-        sent = stays;
-        known = known_kept w next (λ j b. refl) (same_boots setting w brick now ask group) (knows setting w brick now ask group);
-        operations = λ m o is. (
-          o,
-          other_operations setting w brick now ask group m (λ same. omega (arith, (books.operations m o is).begun)) ∙ is,
-          record { brick = refl; boot = refl; seq = refl; ask = refl },
-        );
-        replies = λ m. inl (λ p. refl);
-      })
-      (λ j l e is. ⊎_elim
-      (λ (mine : (j ≡ i) × (l ≡ k)).
-      let at : (next.nodes i).calls k ≡ Some e
-      = subst (λ (x : ℕ). (next.nodes x).calls k ≡ Some e) mine.0 (subst (λ (y : ℕ). (next.nodes j).calls y ≡ Some e) mine.1 is) in
-      let one : c ≡ e = same_Some c e (sym (call_is setting w brick now ask group) ∙ at) in
-      let number : number_of next i k ≡ n = call_number setting w brick now ask group in
-      subst (λ (x : ℕ). CallTallied next.packets w.replies x (number_of next x l) e) (sym mine.0)
-      (subst (λ (y : ℕ). CallTallied next.packets w.replies i (number_of next i y) e) (sym mine.1)
-      (subst (λ (x : ℕ). CallTallied next.packets w.replies i x e) (sym number) (subst (λ (z : Coordinator). CallTallied next.packets w.replies i n z) one new))))
-      (λ (other : j ≡ i → l ≡ k → ⊥).
-      let old : IsCall w j l e = sym (other_calls setting w brick now ask group j l other) ∙ is in
-      call_tallied_on w.packets next.packets w.replies w.replies j (number_of w j l) (number_of next j l) e stays (other_number setting w brick now ask group j l other)
-      (λ p. refl) (tallied.calls j l e old))
-      (cases_call i k j l))
-      (λ m p above. tallied.unbegun m p (omega arith))
-      (λ m phase a x is. inl is)
+      let its : Coordinator = new_coordinator (group_there (w.nodes brick.0) ask group) brick now (w.nodes brick.0) ask in
+      let begin_mark : Mark = Begin (length w.marks) (w.marked + 1) brick ask in
+      tallied_opened setting w books tallied brick now ask (group_there (w.nodes brick.0) ask group) ((w.nodes brick.0).learnt ask.group.0).view (opened (w.nodes brick.0) its) w.held
+      (w.packets ++ phase_packets setting brick its) (w.marks ++ (begin_mark ∷ [])) (w.marked + 1) (w.marked + 1)
+      (λ i. top_at (w.nodes i) ask.group.0 ask.stripe.0) w.choices (record { boot = refl; seq = refl; known = refl; calls = refl; job = inl refl })
+      shows.orders_alone (λ packet sent. (sent.0, get_kept w.packets (phase_packets setting brick its) sent.0 packet sent.1))
       (λ a p m cause is. ⊎_elim
-      (λ (old : slice_get w.marks a ≡ Some (End p m (Aborted cause))). inl old)
-      (λ (new : (q : ℕ) × (slice_get (Begin (length w.marks) (w.marked + 1) brick ask ∷ []) q ≡ Some (End p m (Aborted cause)))).
-      absurd (let never : Begin (length w.marks) (w.marked + 1) brick ask ≡ End p m (Aborted cause)
-      = get_one (Begin (length w.marks) (w.marked + 1) brick ask) (End p m (Aborted cause)) new.0 new.1 in cc))
-      (get_grown w.marks (Begin (length w.marks) (w.marked + 1) brick ask ∷ []) a (End p m (Aborted cause)) is))
+      (λ (old : slice_get w.marks a ≡ Some (End p m (Aborted cause))). old)
+      (λ (new : (q : ℕ) × (slice_get (begin_mark ∷ []) q ≡ Some (End p m (Aborted cause)))).
+      absurd (let never : begin_mark ≡ End p m (Aborted cause) = get_one begin_mark (End p m (Aborted cause)) new.0 new.1 in cc))
+      (get_grown w.marks (begin_mark ∷ []) a (End p m (Aborted cause)) is))
 
   tallied_invoked : (brick : BrickId) (now : ℕ) (ask : Ask) → may_begin setting w brick ask ≡ true
       → MessagesShow (world_began w brick ask (invoked setting brick now (w.nodes brick.0) ask))
@@ -349,11 +322,11 @@ module _ (setting : Setting) (w : World) (books : Books setting w) (tallied : Ta
   tallied_stopped brick during shows =
       let next : World = world_stopped setting w brick during in
       let keeps : (i : ℕ) → KeepsNumbers (w.nodes i) (next.nodes i) = stopped_keeps setting w brick during books in
-      tallied_on setting w next books tallied shows
+      tallied_on setting w next books tallied shows.orders_alone
       (record {
         sent = λ packet sent. sent;
         known = known_kept w next (λ i b. refl) (λ i. (keeps i).boot) (λ i. (keeps i).known);
-        operations = λ n o is. (o, is, record { brick = refl; boot = refl; seq = refl; ask = refl });
+        operations = λ n o is. (o, is, record { brick = refl; boot = refl; seq = refl; ask = refl; mark = refl });
         replies = λ n. inl (λ p. refl);
       })
       (λ i k c is. ⊎_elim
@@ -372,17 +345,18 @@ module _ (setting : Setting) (w : World) (books : Books setting w) (tallied : Ta
       absurd (let never : Crash (length w.marks) brick ≡ End p n (Aborted cause)
       = get_one (Crash (length w.marks) brick) (End p n (Aborted cause)) new.0 new.1 in cc))
       (get_grown w.marks (Crash (length w.marks) brick ∷ []) k (End p n (Aborted cause)) is))
+      (λ n p cause is ended. inl (p, is, ended))
 
   -- a stopped brick is started again
   tallied_started : (brick : BrickId) (openings : ℕ) → w.up brick.0 ≡ false → 1 ≤ openings
       → MessagesShow (world_started w brick openings) → Tallied (world_started w brick openings)
   tallied_started brick openings down once shows =
       let next : World = world_started w brick openings in
-      tallied_on setting w next books tallied shows
+      tallied_on setting w next books tallied shows.orders_alone
       (record {
         sent = λ packet sent. sent;
         known = started_known setting w brick openings books down once;
-        operations = λ n o is. (o, is, record { brick = refl; boot = refl; seq = refl; ask = refl });
+        operations = λ n o is. (o, is, record { brick = refl; boot = refl; seq = refl; ask = refl; mark = refl });
         replies = λ n. inl (λ p. refl);
       })
       (λ i k c is. ⊎_elim
@@ -396,7 +370,7 @@ module _ (setting : Setting) (w : World) (books : Books setting w) (tallied : Ta
       call_tallied_on w.packets w.packets w.replies w.replies i (number_of w i k) (number_of next i k) c (λ packet sent. sent) (ap (λ (x : Node). w.numbers i x.boot k) same) (λ p. refl)
       (tallied.calls i k c old))
       (cases_eq i brick.0))
-      tallied.unbegun (λ n phase k x is. inl is) (λ k p n cause is. inl is)
+      tallied.unbegun (λ n phase k x is. inl is) (λ k p n cause is. inl is) (λ n p cause is ended. inl (p, is, ended))
 
 -- a brick starts with what its store is found to hold: it has the calls that it had
 tallied_found : (setting : Setting) (w : World) (brick : BrickId) (found : Found) → w.up brick.0 ≡ false → Leaves setting w → Books setting w
@@ -405,7 +379,20 @@ tallied_found setting w brick Before down leaves books tallied shows = tallied
 tallied_found setting w brick After down leaves books tallied shows =
     let keeps : (i : ℕ) → KeepsCalls (w.nodes i) ((world_found w brick After).nodes i) = found_keeps setting w brick After down leaves in
     tallied_quiet setting w books tallied (put w.nodes brick.0 (w.after brick.0)) (with_held w.held brick.0 (w.after brick.0)) w.clocks w.packets w.reached _
-    (shows_kept w brick (w.after brick.0) (λ i. (keeps i).1) shows) (λ i. (keeps i).0) (λ i. (keeps i).1) (λ packet sent. sent)
+    (shows_kept w brick (w.after brick.0) (λ i. (keeps i).1) shows).orders_alone (λ i. (keeps i).0) (λ i. (keeps i).1) (λ packet sent. sent)
+
+-- a brick begins a synchronisation
+tallied_syncs : (setting : Setting) (w : World) → Books setting w → Tallied w → (me : BrickId) (now : ℕ) (group : GroupId) → (w.nodes me.0).job ≡ None
+    → (let next : World = world_stepped setting w me (synced_at setting me now (w.nodes me.0) group) in
+    MessagesShow next → Tallied next)
+tallied_syncs setting w books tallied me now group none =
+    synced_at_each (λ (step : NodeStep). MessagesShow (world_stepped setting w me step) → Tallied (world_stepped setting w me step)) setting me now (w.nodes me.0) group
+    (λ shows. tallied_idle setting w books tallied me (w.nodes me.0).job [] [] shows.orders_alone)
+    (λ answer shows. tallied_idle setting w books tallied me (w.nodes me.0).job [] (Report.Sync group answer ∷ []) shows.orders_alone)
+    (λ answer shows. tallied_idle setting w books tallied me None [] (Report.Sync group answer ∷ []) shows.orders_alone)
+    (λ kept is shows.
+    tallied_read setting w books tallied me now (begun_job group ((w.nodes me.0).learnt group.0).view) kept
+    (λ job at. absurd (let never : None ≡ Some job = sym none ∙ at in cc)) shows.orders_alone)
 
 -- a world whose messages show what they should has its history of replies: so does the next
 abbrev IsTalliedThere : World → Type 0
@@ -414,6 +401,7 @@ IsTalliedThere w = MessagesShow w → Tallied w
 -- every event keeps the history of replies
 tallied_cases : (setting : Setting) (w : World) → Leaves setting w × Books setting w × MessagesShow w → IsTalliedThere w
     → EventCases setting w IsTalliedThere
+unfolding sync_refusal
 tallied_cases setting w known there =
     let leaves : Leaves setting w = known.0 in
     let books : Books setting w = known.1 in
@@ -422,13 +410,17 @@ tallied_cases setting w known there =
     record {
       begins = λ brick ask may. tallied_invoked setting w books tallied brick (w.clocks brick.0) ask may;
       proposes = λ brick group members may. tallied_proposed setting w books tallied brick group members;
+      syncs = λ brick group may.
+          tallied_syncs setting w books tallied brick (w.clocks brick.0) group
+          (no_job (w.nodes brick.0).job (group_of setting.layout group.0)
+          (and_parts (is_up setting.layout w brick) (not (is_some (sync_refusal setting.layout (w.nodes brick.0) group.0))) may).1);
       handles = λ number packet at up. tallied_handled setting w books tallied number packet shows (packet_was_sent w number packet at);
       sets = λ brick time is shown.
-          tallied_quiet setting w books tallied w.nodes w.held (put w.clocks brick.0 time) w.packets w.reached _ shown (λ i. keeps_all (w.nodes i))
+          tallied_quiet setting w books tallied w.nodes w.held (put w.clocks brick.0 time) w.packets w.reached _ shown.orders_alone (λ i. keeps_all (w.nodes i))
           (λ i k. refl) (λ packet sent. sent);
       ticks = λ brick up shown.
           (let more : List Packet = ticked setting brick (w.nodes brick.0) in
-          tallied_quiet setting w books tallied w.nodes w.held w.clocks (w.packets ++ more) w.reached _ shown (λ i. keeps_all (w.nodes i)) (λ i k. refl)
+          tallied_quiet setting w books tallied w.nodes w.held w.clocks (w.packets ++ more) w.reached _ shown.orders_alone (λ i. keeps_all (w.nodes i)) (λ i k. refl)
           (λ packet sent. (sent.0, get_kept w.packets more sent.0 packet sent.1)));
       stops = λ brick during up. tallied_stopped setting w books tallied brick during;
       starts = λ brick openings found may.
@@ -444,6 +436,8 @@ tallied_first setting = record {
   unbegun = λ n p above. refl;
   counted = λ n phase k x is. absurd (let never : None ≡ Some x = is in cc);
   aborts = λ k p n cause is. absurd (let never : None ≡ Some (End p n (Aborted cause)) = is in cc);
+  marked = λ k p n cause is. absurd (let never : None ≡ Some (End p n (Aborted cause)) = is in cc);
+  closed = λ n o cause is ended. absurd (let never : None ≡ Some o = is in cc);
 }
 
 -- where there are members there is a first one

@@ -1,5 +1,5 @@
 -- What the history of replies has shown stays shown.
-use Rattle.std.proofs.Common.{◌≡◌, ℕ, ◌<◌, ◌≤◌, ◌⊎◌, inl, inr, ⊎_elim, Bool, true, false, List, [], Some, None, is_some, refl, sym, ap, ◌∙◌, subst, arith}
+use Rattle.std.proofs.Common.{◌≡◌, ℕ, ◌<◌, ◌≤◌, ◌⊎◌, inl, inr, ⊎_elim, Bool, true, false, List, [], Option, Some, None, is_some, refl, sym, ap, ◌∙◌, subst, arith}
 use Rattle.std.specs.Prelude.{slice_get, nat_lt, nat_eq, if◌then◌else◌}
 use Rattle.std.proofs.lemmas.Bool.{ltb-false, le-ltb}
 use Rattle.fab_base.specs.declared.identities.BrickId.{BrickId}
@@ -13,17 +13,19 @@ use Rattle.messages.specs.declared.requests.Request.{Request}
 use Rattle.messages.specs.declared.packets.Packet.{Packet}
 use Rattle.messages.specs.declared.replies.Reply.TheVariants as Reply
 use Rattle.reg_model.specs.declared.marks.Mark.TheVariants.{End}
-use Rattle.reg_model.specs.Marks.{life_of, IsOpen}
+use Rattle.std.proofs.lemmas.Option.{same_Some}
+use Rattle.reg_model.specs.Marks.{Life, life_of, IsOpen}
 use Rattle.protocol.specs.Settings.{Setting}
 use Rattle.protocol.specs.declared.phases.Counted.{Counted}
 use Rattle.protocol.specs.Coordinators.{Coordinator, greatest_refuser, greatest_found, lowest_full, lowest_mover, lowest_dropper}
 use Rattle.protocol.specs.Nodes.{has_later_time}
 use Rattle.protocol.specs.Worlds.{World, Operation, number_of, known_in}
-use Rattle.protocol_laws.specs.Laws.{WasSent, RequestSent, AskedAt, order_of, IsLastRound, LaterEvidence, FullEvidence, MovedEvidence, GoneEvidence, Evidence}
+use Rattle.protocol_laws.specs.Laws.{WasSent, RequestSent, AskedAt, order_of, IsLastRound, LaterEvidence, FullEvidence, MovedEvidence, GoneEvidence, Evidence, HasNotEnded}
 use Rattle.fab_base.specs.declared.identities.ViewNo.{ViewNo}
-use Rattle.protocol_laws.proofs.Books.{Replies, Books, IsOperation, IsCall}
+use Rattle.protocol_laws.proofs.Books.{Replies, Books, OperationBooks, CallBooks, IsOperation, IsCall}
+use Rattle.protocol_laws.proofs.MarkNumbers.{cases_marked}
 use Rattle.reg_model.proofs.GrowingLives.{ended_not_open}
-use Rattle.protocol_laws.proofs.Tallies.{IsAmong, BeganBack, CallTallied, CountedSent, AbortShown, Tallied, MessagesShow, GoesOn, Furthers}
+use Rattle.protocol_laws.proofs.Tallies.{IsAmong, BeganBack, CallTallied, CountedSent, AbortShown, Tallied, OrdersAlone, GoesOn, Furthers}
 
 -- what was sent stays sent
 abbrev pub StaySent : List Packet → List Packet → Type 0
@@ -167,10 +169,10 @@ module _ (w next : World) (on : Furthers w next) where
       (not_below _ (known_in w o.brick.0 o.boot) (known_in next o.brick.0 o.boot) (on.known o.brick.0 o.boot begun) none)))
 
   -- what an abort for a later stamp shows stays, where the replies of its operation do
-  later_on : MessagesShow next → (n : ℕ) (o p : Operation) (brick : BrickId) (x : Stamp) → IsOperation next n p → GoesOn o p
+  later_on : OrdersAlone next → (n : ℕ) (o p : Operation) (brick : BrickId) (x : Stamp) → IsOperation next n p → GoesOn o p
       → o.boot ≤ (w.nodes o.brick.0).boot → ((q : ℕ) → next.replies n q ≡ w.replies n q) → LaterEvidence w n o brick x
       → LaterEvidence next n p brick x
-  later_on shows n o p brick x is goes begun same was =
+  later_on alone n o p brick x is goes begun same was =
       let call : Call = was.call in
       let t : Stamp = was.stamp in
       let asked : AskedAt next call p.brick brick t
@@ -196,29 +198,56 @@ module _ (w next : World) (on : Furthers w next) where
           = subst (λ (b : BrickId). RequestSent next was.call b brick was.asked.0) (sym goes.brick)
           (on.sent (record { from = o.brick; to = brick; message = Message.Request was.call was.asked.0 }) was.asked.1) in
           subst (λ (r : Request). RequestSent w was.call o.brick brick r)
-          (shows.orders_alone n p was.call brick brick was.asked.0 was.stamp was.stamp is (was.own.0 ∙ sym goes.boot, was.own.1 ∙ sym goes.seq)
+          (alone n p was.call brick brick was.asked.0 was.stamp was.stamp is (was.own.0 ∙ sym goes.boot, was.own.1 ∙ sym goes.seq)
           sent was.asked.2 ordered
           ∙ ap (λ (a : Ask). order_of a.op was.stamp) goes.ask)
           was.asked.1
 
   -- the evidence of an abort stays, where the replies of its operation do
-  evidence_on : MessagesShow next → (n : ℕ) (o p : Operation) (cause : Cause) → IsOperation next n p → GoesOn o p
+  evidence_on : OrdersAlone next → (n : ℕ) (o p : Operation) (cause : Cause) → IsOperation next n p → GoesOn o p
       → o.boot ≤ (w.nodes o.brick.0).boot → ((q : ℕ) → next.replies n q ≡ w.replies n q) → Evidence w n o cause → Evidence next n p cause
-  evidence_on shows n o p (Cause.Later brick x) is goes begun same was = later_on shows n o p brick x is goes begun same was
-  evidence_on shows n o p (Cause.Full brick live) is goes begun same was = full_on n o p brick live goes same was
-  evidence_on shows n o p (Cause.Moved brick view) is goes begun same was = moved_on n o p brick view goes same was
-  evidence_on shows n o p (Cause.Gone brick) is goes begun same was = gone_on n o p brick goes same was
+  evidence_on alone n o p (Cause.Later brick x) is goes begun same was = later_on alone n o p brick x is goes begun same was
+  evidence_on alone n o p (Cause.Full brick live) is goes begun same was = full_on n o p brick live goes same was
+  evidence_on alone n o p (Cause.Moved brick view) is goes begun same was = moved_on n o p brick view goes same was
+  evidence_on alone n o p (Cause.Gone brick) is goes begun same was = gone_on n o p brick goes same was
+
+-- an operation that has ended has
+ended_open : (setting : Setting) (w : World) → Books setting w → (n : ℕ) (o : Operation) (cause : Option Cause) → IsOperation w n o → o.closed ≡ Some cause
+    → HasNotEnded w n → ⊥
+ended_open setting w books n o cause is closed open' =
+    let same : o ≡ open'.operation = same_Some o open'.operation (sym is ∙ open'.is) in
+    let own : OperationBooks setting w n o = books.operations n o is in
+    let none : o.closed ≡ None = ⊎_elim
+    (λ (from : 1 ≤ o.mark). (own.lived from).unclosed)
+    (λ (unmarked : o.mark ≡ 0). ap (λ (z : Operation). z.closed) same ∙ open'.unmarked (sym (ap (λ (z : Operation). z.mark) same) ∙ unmarked))
+    (cases_marked o) in
+    absurd (let never : Some cause ≡ None = sym closed ∙ none in cc)
+
+-- and an open one has not
+pub not_ended : (setting : Setting) (w : World) (i k : ℕ) (c : Coordinator) → Books setting w → IsCall w i k c → HasNotEnded w (number_of w i k)
+not_ended setting w i k c books is =
+    let its : CallBooks setting w i k c = books.calls i k c is in
+    record {
+      operation = its.operation;
+      is = its.operation_is;
+      marked = λ from.
+          (let lived = (books.operations (number_of w i k) its.operation its.operation_is).lived from in
+          subst (λ (l : Option Life). IsOpen l) (sym lived.life_is) (its.unended from lived.life lived.life_is));
+      unmarked = λ none. its.unclosed;
+    }
 
 -- the history of the next world: what is new in it is shown
-pub tallied_on : (setting : Setting) (w next : World) → Books setting w → Tallied w → MessagesShow next → Furthers w next
+pub tallied_on : (setting : Setting) (w next : World) → Books setting w → Tallied w → OrdersAlone next → Furthers w next
     → ((i k : ℕ) (c : Coordinator) → IsCall next i k c → CallTallied next.packets next.replies i (number_of next i k) c)
     → ((n p : ℕ) → next.begun < n → next.replies n p ≡ [])
     → ((n phase k : ℕ) (x : Counted) → slice_get (next.replies n phase) k ≡ Some x
     → (slice_get (w.replies n phase) k ≡ Some x) ⊎ CountedSent next n phase x)
     → ((k p n : ℕ) (cause : Cause) → slice_get next.marks k ≡ Some (End p n (Aborted cause))
-    → (slice_get w.marks k ≡ Some (End p n (Aborted cause))) ⊎ AbortShown next n cause)
+    → (slice_get w.marks k ≡ Some (End p n (Aborted cause))) ⊎ ((1 ≤ n) × AbortShown next n cause))
+    → ((n : ℕ) (p : Operation) (cause : Cause) → IsOperation next n p → p.closed ≡ Some (Some cause)
+    → ((o : Operation) × IsOperation w n o × (o.closed ≡ Some (Some cause))) ⊎ Evidence next n p cause)
     → Tallied next
-tallied_on setting w next books tallied shows on calls unbegun counted aborts = record {
+tallied_on setting w next books tallied alone on calls unbegun counted aborts closed = record {
   calls = calls;
   unbegun = unbegun;
   counted = λ n phase k x is. ⊎_elim
@@ -228,12 +257,48 @@ tallied_on setting w next books tallied shows on calls unbegun counted aborts = 
   aborts = λ k p n cause is. ⊎_elim
       (λ (old : slice_get w.marks k ≡ Some (End p n (Aborted cause))).
       let was : AbortShown w n cause = tallied.aborts k p n cause old in
-      let goes = on.operations n was.0 was.1 in
-      ⊎_elim
-      (λ (same : (q : ℕ) → next.replies n q ≡ w.replies n q).
-      (goes.0, goes.1, evidence_on w next on shows n was.0 goes.0 cause goes.1 goes.2 (books.operations n was.0 was.1).booted.1 same was.2))
-      (λ (open' : IsOpen (life_of w.marks n)). absurd (ended_not_open w.marks k p n (Aborted cause) books.well_formed old open'))
-      (on.replies n))
-      (λ (new : AbortShown next n cause). new)
+      let goes = on.operations was.0 was.1 was.2 in
+      let same : (q : ℕ) → next.replies was.0 q ≡ w.replies was.0 q = ⊎_elim
+      (λ (kept : (q : ℕ) → next.replies was.0 q ≡ w.replies was.0 q). kept)
+      (λ (open' : HasNotEnded w was.0). absurd (marked_open k p n cause was.0 was.1 old was.2 was.3 open'))
+      (on.replies was.0) in (
+        was.0,
+        goes.0,
+        goes.1,
+        goes.2.mark ∙ was.3,
+        evidence_on w next on alone was.0 was.1 goes.0 cause goes.1 goes.2 (books.operations was.0 was.1 was.2).booted.1 same was.4,
+      ))
+      (λ (new : (1 ≤ n) × AbortShown next n cause). new.1)
       (aborts k p n cause is);
+  marked = λ k p n cause is. ⊎_elim
+      (λ (old : slice_get w.marks k ≡ Some (End p n (Aborted cause))). tallied.marked k p n cause old)
+      (λ (new : (1 ≤ n) × AbortShown next n cause). new.0)
+      (aborts k p n cause is);
+  closed = λ n p cause is ended. ⊎_elim
+      (λ (old : (o : Operation) × IsOperation w n o × (o.closed ≡ Some (Some cause))).
+      let goes = on.operations n old.0 old.1 in
+      let same : goes.0 ≡ p = same_Some goes.0 p (sym goes.1 ∙ is) in
+      let kept : (q : ℕ) → next.replies n q ≡ w.replies n q = ⊎_elim
+      (λ (stays : (q : ℕ) → next.replies n q ≡ w.replies n q). stays)
+      (λ (open' : HasNotEnded w n). absurd (ended_open setting w books n old.0 (Some cause) old.1 old.2 open'))
+      (on.replies n) in
+      subst (λ (z : Operation). Evidence next n z cause) same
+      (evidence_on w next on alone n old.0 goes.0 cause goes.1 goes.2 (books.operations n old.0 old.1).booted.1 kept
+      (tallied.closed n old.0 cause old.1 old.2)))
+      (λ (new : Evidence next n p cause). new)
+      (closed n p cause is ended);
 }
+  where
+    -- an operation whose marks show its end has ended
+    marked_open : (k p n : ℕ) (cause : Cause) (a : ℕ) (o : Operation) → slice_get w.marks k ≡ Some (End p n (Aborted cause)) → IsOperation w a o → o.mark ≡ n
+        → HasNotEnded w a → ⊥
+    marked_open k p n cause a o old is mark open' =
+        let same : open'.operation.mark ≡ n = ap (λ (z : Operation). z.mark) (same_Some open'.operation o (sym open'.is ∙ is)) ∙ mark in
+        let from : 1 ≤ n = tallied.marked k p n cause old in
+        ended_not_open w.marks k p n (Aborted cause) books.well_formed old
+        (subst (λ (m : ℕ). IsOpen (life_of w.marks m)) same (open'.marked (omega (arith, same, from))))
+
+-- operations that stay are closed as they were
+pub closed_same : (w next : World) → next.operations ≡ w.operations → (n : ℕ) (p : Operation) (cause : Cause) → IsOperation next n p → p.closed ≡ Some (Some cause)
+    → ((o : Operation) × IsOperation w n o × (o.closed ≡ Some (Some cause))) ⊎ Evidence next n p cause
+closed_same w next same n p cause is closed = inl (p, ap (λ (f : ℕ → Option Operation). f n) (sym same) ∙ is, closed)

@@ -1,12 +1,11 @@
 -- The laws of the disk, as they hold in every world that a run reaches. Quorums are counted by seat.
 use Rattle.std.specs.Prelude.{◌≡◌, ℕ, ◌+◌, ◌<◌, ◌≤◌, Bool, true, false, not, ◌&&◌, List, [], ◌++◌, length, ◌⊎◌, Option, Some, None, is_some, slice_get}
 use Rattle.fab_base.specs.declared.identities.BrickId.{BrickId}
+use Rattle.fab_base.specs.declared.identities.GroupId.{GroupId}
 use Rattle.fab_base.specs.declared.identities.ViewNo.{ViewNo}
-use Rattle.messages.specs.declared.replies.Lineage.{Lineage}
 use Rattle.fab_base.specs.declared.stamps.Ballot.{Ballot}
 use Rattle.fab_base.specs.declared.stamps.Stamp.{Stamp}
-use Rattle.fab_base.specs.declared.asks.Op.{Op}
-use Rattle.fab_base.specs.declared.asks.Op.TheVariants.{ReadBlock, WriteBlock, ReadStripe, WriteStripe}
+use Rattle.fab_base.specs.declared.asks.Op.TheVariants.{WriteStripe}
 use Rattle.fab_base.specs.declared.answers.Answer.TheVariants.{Aborted}
 use Rattle.fab_base.specs.declared.answers.Cause.{Cause}
 use Rattle.fab_base.specs.Stamps.{stamp_below, first_stamp}
@@ -15,7 +14,6 @@ use Rattle.messages.specs.declared.packets.Message.{Message}
 use Rattle.messages.specs.declared.packets.Packet.{Packet}
 use Rattle.messages.specs.declared.requests.Version.{Version}
 use Rattle.messages.specs.declared.requests.Request.{Request}
-use Rattle.messages.specs.declared.requests.Look.TheVariants as Look
 use Rattle.messages.specs.declared.requests.Want.{Want}
 use Rattle.messages.specs.declared.replies.Reply.{Reply}
 use Rattle.quorum.specs.Quorums.{count}
@@ -31,11 +29,13 @@ use Rattle.protocol.specs.Views.{Views, first_kept, view_of, group_in}
 use Rattle.protocol.specs.Replicas.{Replica, is_held, is_wanted}
 use Rattle.protocol.specs.declared.phases.Counted.{Counted}
 use Rattle.protocol.specs.declared.phases.Phase.TheVariants.{Bases, LooksBack}
-use Rattle.protocol.specs.Coordinators.{Coordinator, most_rounds, greatest_refuser, greatest_found, lowest_full, lowest_mover, lowest_dropper, told_in, asked_group, counts_at, with_reply, pieces_at, delta_at}
-use Rattle.protocol.specs.Nodes.{view_at, has_accepted, has_later_time}
-use Rattle.protocol.specs.Worlds.{World, Event, Operation, content_on, first_world, mark_of, known_in, happens, run}
+use Rattle.protocol.specs.Coordinators.{Coordinator, greatest_refuser, greatest_found, lowest_full, lowest_mover, lowest_dropper, told_in, asked_group, counts_at, with_reply, pieces_at, delta_at}
+use Rattle.protocol.specs.Nodes.{view_at, has_accepted}
+use Rattle.protocol.specs.Worlds.{World, Event, Operation, content_on, first_world, happens, run}
 use Rattle.protocol.specs.Happenings.{is_of, effect_in, happenings_of}
 pub use Rattle.view_laws.specs.Following.{WasSent, top_in, AtQuorum, IsGuarded, Follows, RunFollows}
+pub use Rattle.protocol_laws.specs.Evidence.{RequestSent, stamp_asked, order_of, AskedAt, IsCallOf, IsLastRound, IsLastPhase, LaterEvidence, FullEvidence, MovedEvidence, GoneEvidence, Evidence}
+use Rattle.protocol_laws.specs.SyncEnds.{SyncsShow}
 use Rattle.protocol_laws.specs.Marked.{WordsFit, AreWithoutGaps, OwnMarks}
 
 -- a brick's part of a stripe in a view
@@ -46,23 +46,11 @@ part_in w group view stripe brick = (w.nodes brick).replicas group view stripe
 abbrev pub first_kept_in : World → ℕ → ℕ → ℕ
 first_kept_in w group brick = first_kept ((w.nodes brick).learnt group)
 
--- a request was sent, under a call, to a brick
-abbrev pub RequestSent : World → Call → BrickId → BrickId → Request → Type 0
-RequestSent w call from to request = WasSent w (record { from = from; to = to; message = Message.Request call request })
-
 -- the stamp under which a request has its member store
 abbrev pub stamp_stored : Request → Option Stamp
 stamp_stored (Request.Write stamp block) = Some stamp
 stamp_stored (Request.Modify stamp base j delta) = Some stamp
 stamp_stored request = None
-
--- the stamp at which a request asks its member: to promise it, or to store under it
-abbrev pub stamp_asked : Request → Option Stamp
-stamp_asked (Request.Order stamp) = Some stamp
-stamp_asked (Request.OrderRead stamp look want) = Some stamp
-stamp_asked (Request.Write stamp block) = Some stamp
-stamp_asked (Request.Modify stamp base j delta) = Some stamp
-stamp_asked request = None
 
 -- what a version modifies of its base: data block j, by this, and no other data block
 pub record IsModified (setting : Setting) (w : World) (group stripe : ℕ) (version base : Stamp) (j : ℕ) (delta : List ℕ) : Type 0 where
@@ -179,6 +167,14 @@ DroppedAreReplaced setting views w =
     → group_in setting.layout views number (view + 1) ≡ Some next
     → (version : Stamp) × (view_of version ≡ view + 1) × IsHeldByQuorum w number stripe next version
 
+-- Each message that all stripes of a group are kept in a view is true: of each stripe a quorum of the view's members has held a version of that view.
+abbrev pub SyncedStand : Setting → Views → World → Type 0
+SyncedStand setting views w =
+    (from to : BrickId) (number : GroupId) (view : ViewNo) (stripe : ℕ) (kept group : Group)
+    → WasSent w (record { from = from; to = to; message = Message.Synced number view })
+    → group_of setting.layout number.0 ≡ Some kept → stripe < kept.stripes → group_in setting.layout views number.0 view.0 ≡ Some group
+    → (version : Stamp) × (view_of version ≡ view.0) × IsHeldByQuorum w number.0 stripe group version
+
 -- no step lowers the stamp below which a brick takes nothing
 abbrev pub NeverFalls : World → World → Type 0
 NeverFalls old new = (group stripe brick : ℕ) → stamp_below (top_in new group stripe brick) (top_in old group stripe brick) ≡ false
@@ -200,105 +196,14 @@ StoredIsHeld w =
     → (version : Stamp) × (request : Request) × RequestSent w call to from request × (stamp_stored request ≡ Some version)
     × (w.held from.0 call.group.0 call.stripe.0 version ≡ true)
 
--- Versions follow real time: where one operation of a stripe ended before another began, its version is below
+-- Versions follow real time: where one operation of a stripe, which has marks, ended before another began, its version is below
 -- the other's, or it is the version that the other read.
 abbrev pub FollowsRealTime : World → ℕ → ℕ → Type 0
 FollowsRealTime w group stripe =
     (a b : ℕ) (earlier later : Operation) (version next : Stamp) → w.operations a ≡ Some earlier → w.operations b ≡ Some later
     → is_of group stripe earlier ≡ true → is_of group stripe later ≡ true → earlier.version ≡ Some version → later.version ≡ Some next
-    → last_of (life_of w.marks earlier.mark) < later.begin
+    → 1 ≤ earlier.mark → last_of (life_of w.marks earlier.mark) < later.begin
     → (stamp_below version next ≡ true) ⊎ ((version ≡ next) × (later.made ≡ false))
-
--- how an operation orders its stamp: the write of a stripe by the order alone, that of a block by one that tells the newest version below, with the
--- block at its seat, and the recovery of a read by one that tells that version with all blocks
-abbrev pub order_of : Op → Stamp → Request
-order_of (ReadBlock j) stamp = Request.OrderRead stamp (Look.Below stamp) Want.All
-order_of (WriteBlock j bytes) stamp = Request.OrderRead stamp (Look.Below stamp) (Want.Seat j)
-order_of ReadStripe stamp = Request.OrderRead stamp (Look.Below stamp) Want.All
-order_of (WriteStripe bytes) stamp = Request.Order stamp
-
--- a brick was asked at this stamp
-abbrev pub AskedAt : World → Call → BrickId → BrickId → Stamp → Type 0
-AskedAt w call from to stamp = (request : Request) × RequestSent w call from to request × (stamp_asked request ≡ Some stamp)
-
--- a message's call is the operation's
-abbrev pub IsCallOf : Call → Operation → Type 0
-IsCallOf call o = (call.boot ≡ o.boot) × (call.seq ≡ o.seq)
-
--- A phase of operation n is its last round of ordering: each of the three phases before it had counted a
--- later stamp, or the brick that coordinates it knew no later time.
-abbrev pub IsLastRound : World → ℕ → Operation → ℕ → Type 0
-IsLastRound w n o phase =
-    ((most_rounds ≤ phase)
-    × ((earlier : ℕ) → phase < earlier + most_rounds → earlier < phase → is_some (greatest_refuser (w.replies n earlier)) ≡ true))
-    ⊎ (has_later_time (known_in w o.brick.0 o.boot) ≡ false)
-
--- no reply has counted in a later phase of operation n
-abbrev pub IsLastPhase : World → ℕ → ℕ → Type 0
-IsLastPhase w n phase = (later : ℕ) → phase < later → w.replies n later ≡ []
-
--- What the abort of operation n for a later stamp shows: in the last phase of this very operation, which asked at
--- a lower stamp, the brick had told the coordinator of the later stamp; no reply that counted in that phase told a
--- greater one, nor an equal one from a lower seat; and if it was a round of ordering, no other could follow.
-pub record LaterEvidence (w : World) (n : ℕ) (o : Operation) (brick : BrickId) (x : Stamp) : Type 0 where
-  pub call : Call
-  pub stamp : Stamp
-  pub seat : ℕ
-  pub own : IsCallOf call o
-  pub asked : AskedAt w call o.brick brick stamp
-  pub told : WasSent w (record { from = brick; to = o.brick; message = Message.Reply call (Reply.Later x) })
-  pub above : stamp_below stamp x ≡ true
-  pub greatest : greatest_refuser (w.replies n call.phase) ≡ Some (record { seat = seat; brick = brick; stamp = x })
-  pub last : RequestSent w call o.brick brick (order_of o.ask.op stamp) → IsLastRound w n o call.phase
-  pub final : IsLastPhase w n call.phase
-
--- What the abort of operation n for a full store shows: in the last phase of this very operation the brick had
--- told the coordinator so, with so many live records, and no reply that counted in that phase told so from a
--- lower seat.
-pub record FullEvidence (w : World) (n : ℕ) (o : Operation) (brick : BrickId) (live : ℕ) : Type 0 where
-  pub call : Call
-  pub seat : ℕ
-  pub own : IsCallOf call o
-  pub told : WasSent w (record { from = brick; to = o.brick; message = Message.Reply call (Reply.Full live) })
-  pub lowest : lowest_full (w.replies n call.phase) ≡ Some (record { seat = seat; brick = brick; live = live })
-  pub final : IsLastPhase w n call.phase
-
--- What the abort of operation n for a member that serves its view no more shows: in the last phase of this very operation the brick had
--- told the coordinator of this later view, and no reply that counted in that phase told one from a lower seat.
-pub record MovedEvidence (w : World) (n : ℕ) (o : Operation) (brick : BrickId) (view : ViewNo) : Type 0 where
-  pub call : Call
-  pub seat : ℕ
-  pub lineage : Option Lineage
-  pub own : IsCallOf call o
-  pub told : WasSent w (record { from = brick; to = o.brick; message = Message.Reply call (Reply.Moved view lineage) })
-  pub lowest : lowest_mover (w.replies n call.phase) ≡ Some (record { seat = seat; brick = brick; view = view })
-  pub final : IsLastPhase w n call.phase
-
--- What the abort of operation n for versions that were dropped shows: in the last phase of this very operation the brick had told the coordinator that it had
--- dropped them, and no reply that counted in that phase told so from a lower seat. In that phase or one before it the operation had asked a member for what that
--- keeps in the view before, below no bound; and no reply that counted in the phase just before told a version.
-pub record GoneEvidence (w : World) (n : ℕ) (o : Operation) (brick : BrickId) : Type 0 where
-  pub call : Call
-  pub seat : ℕ
-  pub first : Call
-  pub before : ℕ
-  pub member : BrickId
-  pub own : IsCallOf call o
-  pub told : WasSent w (record { from = brick; to = o.brick; message = Message.Reply call Reply.Retired })
-  pub lowest : lowest_dropper (w.replies n call.phase) ≡ Some (record { seat = seat; brick = brick })
-  pub final : IsLastPhase w n call.phase
-  pub first_own : IsCallOf first o
-  pub most : first.phase ≤ call.phase
-  pub asked : RequestSent w first o.brick member (Request.OldRead None)
-  pub follows : first.phase ≡ before + 1
-  pub nothing : greatest_found (w.replies n before) ≡ None
-
--- the evidence of an abort, by its cause
-abbrev pub Evidence : World → ℕ → Operation → Cause → Type 0
-Evidence w n o (Cause.Later brick x) = LaterEvidence w n o brick x
-Evidence w n o (Cause.Full brick live) = FullEvidence w n o brick live
-Evidence w n o (Cause.Moved brick view) = MovedEvidence w n o brick view
-Evidence w n o (Cause.Gone brick) = GoneEvidence w n o brick
 
 -- each reply that counted in a phase of an operation was sent to it, as a reply to that phase
 abbrev pub CountedWereSent : World → Type 0
@@ -339,6 +244,13 @@ pub record Sending (setting : Setting) (w : World) (k : ℕ) : Type 0 where
   pub unsent : length moment.packets ≤ k
   pub sent : k < length (happens setting moment event).packets
 
+-- Operation n has not ended: its marks show no end, or it has no marks and was not closed.
+pub record HasNotEnded (w : World) (n : ℕ) : Type 0 where
+  pub operation : Operation
+  pub is : w.operations n ≡ Some operation
+  pub marked : 1 ≤ operation.mark → IsOpen (life_of w.marks operation.mark)
+  pub unmarked : operation.mark ≡ 0 → operation.closed ≡ None
+
 -- Each request to store a version was sent at a moment when a quorum of its view took nothing below it, and the operation of its call had not ended.
 abbrev pub WritesWereGuarded : Setting → Views → World → Type 0
 WritesWereGuarded setting views w =
@@ -346,7 +258,7 @@ WritesWereGuarded setting views w =
     → slice_get w.packets k ≡ Some (record { from = from; to = to; message = Message.Request call request }) → stamp_stored request ≡ Some version
     → group_in setting.layout views call.group.0 (view_of version) ≡ Some group
     → (sending : Sending setting w k) × IsGuarded sending.moment call.group.0 call.stripe.0 group version
-    × IsOpen (life_of sending.moment.marks (mark_of sending.moment (sending.moment.numbers from.0 call.boot call.seq)))
+    × HasNotEnded sending.moment (sending.moment.numbers from.0 call.boot call.seq)
 
 -- each refusal was true of the member that told it when it was sent
 abbrev pub RefusalsWereTrue : Setting → World → Type 0
@@ -400,6 +312,7 @@ pub record Laws (setting : Setting) (views : Views) (w : World) : Type 0 where
   pub collects : CollectsStand setting views w
   pub drops : DropsOnlyOlder setting views w
   pub replaced : DroppedAreReplaced setting views w
+  pub synced : SyncedStand setting views w
   pub bases : BasesAreNewest setting views w
   pub bases_found : BasesAreFound setting w
   pub old_found : OldVersionsAreFound setting w
@@ -408,6 +321,7 @@ pub record Laws (setting : Setting) (views : Views) (w : World) : Type 0 where
   pub real_time : (number stripe : ℕ) → FollowsRealTime w number stripe
   pub counted : CountedWereSent w
   pub aborts : AbortsShow w
+  pub stopped : SyncsShow w
   pub own_marks : OwnMarks w
   pub refusals : RefusalsWereTrue setting w
   pub full : FullIsFull setting w

@@ -1,3 +1,4 @@
+pub mod Evidence
 pub mod Laws
 pub mod Marked
 pub mod SyncEnds

@@ -1,5 +1,5 @@
 -- What the marks of a run show beside being well formed: words that fit, and no gaps.
-use Rattle.std.specs.Prelude.{◌≡◌, ℕ, ◌+◌, ◌*◌, List, length, Option, Some, slice_get}
+use Rattle.std.specs.Prelude.{◌≡◌, ℕ, ◌+◌, ◌*◌, ◌<◌, ◌≤◌, List, length, Option, Some, slice_get}
 use Rattle.fab_base.specs.declared.asks.Op.{Op}
 use Rattle.fab_base.specs.declared.asks.Op.TheVariants.{ReadBlock, WriteBlock, ReadStripe, WriteStripe}
 use Rattle.fab_base.specs.declared.answers.Answer.{Answer}
@@ -32,11 +32,13 @@ pub record AreWithoutGaps (marks : List Mark) : Type 0 where
   pub placed : (k : ℕ) (mark : Mark) → slice_get marks k ≡ Some mark → position_of mark ≡ k
   pub numbered : (k n : ℕ) → slice_get (begun_numbers marks) k ≡ Some n → n ≡ k + 1
 
--- the marks of each operation have its own number, and as many were marked as there are operations
-pub record AreOwnMarks (marked begun : ℕ) (operations : ℕ → Option Operation) : Type 0 where
-  pub count : marked ≡ begun
-  pub each : (n : ℕ) (o : Operation) → operations n ≡ Some o → o.mark ≡ n
+-- Marks are numbered 1, 2, 3 and so on, in the order in which their operations begin: no operation has a later number than the last Begin; of two that have marks, the one
+-- that began first has the lower number; and each number is that of an operation's marks. A read of a synchronisation has none, which is number 0.
+pub record AreOwnMarks (marked : ℕ) (operations : ℕ → Option Operation) : Type 0 where
+  pub within : (n : ℕ) (o : Operation) → operations n ≡ Some o → o.mark ≤ marked
+  pub in_turn : (n m : ℕ) (o p : Operation) → operations n ≡ Some o → operations m ≡ Some p → 1 ≤ o.mark → 1 ≤ p.mark → n < m → o.mark < p.mark
+  pub each : (mark : ℕ) → 1 ≤ mark → mark ≤ marked → (n : ℕ) × (o : Operation) × (operations n ≡ Some o) × (o.mark ≡ mark)
 
 -- so in a world
 abbrev pub OwnMarks : World → Type 0
-OwnMarks w = AreOwnMarks w.marked w.begun w.operations
+OwnMarks w = AreOwnMarks w.marked w.operations

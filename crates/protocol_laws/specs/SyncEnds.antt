@@ -1,29 +1,15 @@
--- What is true of the synchronisation of a view: what a message says that all its stripes are kept in it, and why one was stopped.
-use Rattle.std.specs.Prelude.{◌≡◌, ℕ, ◌+◌, ◌<◌, Option, Some, slice_get}
+-- What a synchronisation of a view that was stopped shows.
+use Rattle.std.specs.Prelude.{◌≡◌, ℕ, ◌+◌, ◌<◌, Some, slice_get}
 use Rattle.fab_base.specs.declared.identities.BrickId.{BrickId}
 use Rattle.fab_base.specs.declared.identities.GroupId.{GroupId}
 use Rattle.fab_base.specs.declared.identities.StripeNo.{StripeNo}
-use Rattle.fab_base.specs.declared.identities.ViewNo.{ViewNo}
-use Rattle.fab_base.specs.declared.stamps.Stamp.{Stamp}
 use Rattle.fab_base.specs.declared.asks.Op.TheVariants.{ReadStripe}
 use Rattle.fab_base.specs.declared.answers.Cause.{Cause}
-use Rattle.fab_base.specs.Layouts.{Group, group_of}
-use Rattle.messages.specs.declared.packets.Message.{Message}
 use Rattle.protocol.specs.declared.tellings.Report.{Report}
 use Rattle.protocol.specs.declared.tellings.SyncAnswer.TheVariants.{Stopped}
-use Rattle.protocol.specs.Settings.{Setting}
-use Rattle.protocol.specs.Views.{Views, view_of, group_in}
 use Rattle.protocol.specs.Jobs.{most_tries}
 use Rattle.protocol.specs.Worlds.{World, Operation}
-use Rattle.protocol_laws.specs.Laws.{WasSent, IsHeldByQuorum, Evidence}
-
--- Each message that all stripes of a group are kept in a view is true: of each stripe there is a version of that view which a quorum of the view's members has held.
-abbrev pub SyncedStand : Setting → Views → World → Type 0
-SyncedStand setting views w =
-    (from to : BrickId) (number : GroupId) (view : ViewNo) (stripe : ℕ) (layouts group : Group)
-    → WasSent w (record { from = from; to = to; message = Message.Synced number view })
-    → group_of setting.layout number.0 ≡ Some layouts → stripe < layouts.stripes → group_in setting.layout views number.0 view.0 ≡ Some group
-    → (version : Stamp) × (view_of version ≡ view.0) × IsHeldByQuorum w number.0 stripe group version
+use Rattle.protocol_laws.specs.Evidence.{Evidence}
 
 -- Operation n was a read of a stripe for a synchronisation of this view at a brick, and was aborted by this cause: it has no marks, and shows the evidence of its abort.
 pub record WasAborted (w : World) (brick : BrickId) (number : GroupId) (stripe : StripeNo) (boot view n : ℕ) (cause : Cause) : Type 0 where

@@ -11,12 +11,15 @@ ghost use Rattle.protocol_laws.specs.Laws.{EveryRunKeepsTheLaws, NeverSurfaces, 
 /// has learnt as a view is the assignment's, and where a brick has learnt a view, a quorum of each view before takes nothing below
 /// the next. A law on a version speaks of the members of the version's view: the view of its stamp, of the message that carries it,
 /// or of the part that keeps it. What a brick has come to is the stamp below which it takes nothing for a stripe, over all views.
+/// An operation that a client asked for has marks: its begin and its end. A read that a brick begins to synchronise a view has none,
+/// and is no happening. It may make a version, as any recovery does, and the laws on versions speak of that one too.
 /// The laws are these.
 ///
 /// - Each stripe is strictly linearizable (Aguilera and Frølund, "Strict Linearizability and the Power of Aborting", 2003):
 ///   its happenings, each between the begin and the end of its operation, make its blocks plain registers, and every operation
-///   that was answered is among them.
+///   with marks that was answered is among them.
 /// - Versions follow real time (Frølund et al., "A Decentralized Algorithm for Erasure-Coded Virtual Disks", DSN 2004).
+///   The earlier of two operations has marks; the later one may have none.
 /// - One stamp has one content: every block that was sent to be written under a stamp, that was found under it, or that a member
 ///   keeps under it, is its seat's block of that content. A member that is asked for its block with a version, and tells one, tells
 ///   that block. What is sent to modify a base is what one data block changes by from the
@@ -29,6 +32,10 @@ ghost use Rattle.protocol_laws.specs.Laws.{EveryRunKeepsTheLaws, NeverSurfaces, 
 ///   its members has kept at some time. A member keeps the versions of the view that it has learnt, and those of the one before while
 ///   it does not know all stripes to be kept in the learnt one.
 /// - Where a member keeps no versions of a view any more, a quorum of the next view's members has held a version of that, of each stripe.
+/// - Each message that all stripes of a group are kept in a view is true: of each stripe a quorum of the view's members has held a version of
+///   that view.
+/// - A synchronisation that was stopped at a stripe had read it eight times, one read after another; each was aborted, and shows why as
+///   any abort does; and the last was aborted for the cause that is told.
 /// - A version's content is what its maker makes of its base's: a stripe write's bytes, what a recovery read back, or that with the
 ///   one block that is written. The content of the first version is zero.
 /// - A version that is made on a base, as a recovery's or a block write's is, is above it; and no quorum of its view has held a
@@ -60,7 +67,8 @@ ghost use Rattle.protocol_laws.specs.Laws.{EveryRunKeepsTheLaws, NeverSurfaces, 
 /// - Each answer has the word of its operation: a read is answered the data of its block, or of its m blocks, a write that it is
 ///   done; any may be aborted.
 /// - Marks are well formed: positions and numbers rise, and only an operation that is open ends. They have no gaps: positions are
-///   0, 1, 2 and so on, and operations are numbered 1, 2, 3 and so on. The number of an operation's marks is that of the operation.
+///   0, 1, 2 and so on, and are numbered 1, 2, 3 and so on, in the order in which their operations began. Each number is that of one
+///   operation's marks.
 pub fn every_run_keeps_the_laws()
     ensures { EveryRunKeepsTheLaws }
 {}
