@@ -1,0 +1,2 @@
+pub mod DiskText
+pub mod Worked

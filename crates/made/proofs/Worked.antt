@@ -1,0 +1,2 @@
+-- Lines that are drawn, worked out.
+use Rattle.std.proofs.Common.{◌≡◌, refl}
