@@ -1,5 +1,5 @@
 -- A phase's requests are delivered before any reply to them.
-use Rattle.std.proofs.Common.{Bool, List, None, Option, Some, [], ap, cond, inl, inr, map, refl, subst, sym, ℕ, ⊎_elim, ◌++◌, ◌∙◌, ◌∷◌, ◌≡◌, ◌≢◌, ◌⊎◌, false}
+use Rattle.std.proofs.Common.{Bool, List, None, Option, Some, [], ap, cond, inl, inr, map, refl, subst, sym, ℕ, ⊎_elim, ◌++◌, ◌∙◌, ◌∷◌, ◌≡◌, ◌≢◌, ◌⊎◌}
 use Rattle.std.proofs.lemmas.Bool.{cases_eq, eq-eqb, ne_eqb}
 use Rattle.std.proofs.lemmas.List.{append-nil, append_assoc}
 use Rattle.calm_laws.proofs.Scenes.{asked_of, Asks, Closes, Each, Fits, IsSeated, Part, Scene, Seated, Stage, asked, asking, part_after, reaction, replies_from, replying, with_queue, IsInView}
@@ -7,7 +7,7 @@ use Rattle.fab_base.specs.declared.identities.BrickId.{BrickId}
 use Rattle.messages.specs.declared.calls.Call.{Call}
 use Rattle.messages.specs.declared.packets.Packet.{Packet}
 use Rattle.messages.specs.declared.replies.Reply.{Reply}
-use Rattle.protocol.specs.Coordinators.{Coordinator, looks_back}
+use Rattle.protocol.specs.Coordinators.{Coordinator}
 use Rattle.protocol.specs.Views.{view_told}
 use Rattle.protocol.specs.Nodes.{full_at, put, reply_packets}
 use Rattle.calm_laws.proofs.Telling.{TeachesNone, handle_teaches_none}

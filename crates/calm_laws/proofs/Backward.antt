@@ -13,7 +13,7 @@ use Rattle.calm_laws.proofs.Finds.{finding, total_below}
 use Rattle.calm_laws.proofs.Hearing.{IsStale, known_through, stale_pass}
 use Rattle.calm_laws.proofs.Ordering.{TameWith, told_below}
 use Rattle.calm_laws.proofs.PhaseRuns.{Cast, known_then, next_open_from, none_new, stale_then}
-use Rattle.calm_laws.proofs.Scenes.{AreApart, AsksBack, Closes, Each, IsBack, IsInView, IsSeatedBack, Part, Scene, Seated, Stage, asking, asks_before, found_back, made, of_same, replying, sends, sent, with_queue}
+use Rattle.calm_laws.proofs.Scenes.{AreApart, AsksBack, Closes, Each, IsBack, IsSeatedBack, Scene, Seated, Stage, asking, asks_before, found_back, made, of_same, replying, sends, sent, with_queue}
 use Rattle.calm_laws.proofs.StorePhases.{each_so, store_phase}
 use Rattle.fab_base.specs.Layouts.{seat_in, Group}
 use Rattle.fab_base.specs.Stamps.{first_stamp, stamp_below, stamp_same}
@@ -21,7 +21,7 @@ use Rattle.fab_base.specs.declared.identities.ViewNo.{ViewNo}
 use Rattle.fab_base.specs.declared.stamps.Stamp.{Stamp}
 use Rattle.messages.specs.declared.packets.Packet.{Packet}
 use Rattle.messages.specs.declared.replies.Reply.{Reply}
-use Rattle.messages.specs.declared.replies.Reply.TheVariants.{Old, OrderedRead}
+use Rattle.messages.specs.declared.replies.Reply.TheVariants.{Old}
 use Rattle.messages.specs.declared.requests.Version.{Version}
 use Rattle.messages.specs.declared.requests.Want.{Want}
 use Rattle.protocol.specs.Coordinators.{Coordinator, Makes, Next, Sends, answers_phase, finds, greater_stamp, greatest_found, in_phase, may_be_found, old_bound, pieces_at, pieces_of, read_back, restoring, told_stamp, lower_phase}
@@ -30,7 +30,7 @@ use Rattle.protocol.specs.Settings.{Piece}
 use Rattle.protocol.specs.Views.{floor_of, view_told}
 use Rattle.protocol.specs.declared.phases.Counted.{Counted}
 use Rattle.protocol.specs.declared.phases.Phase.{Phase}
-use Rattle.protocol.specs.declared.phases.Phase.TheVariants.{LooksBack, Stores}
+use Rattle.protocol.specs.declared.phases.Phase.TheVariants.{LooksBack}
 use Rattle.protocol_laws.proofs.Logs.{LogAscends}
 use Rattle.quorum.specs.Quorums.{quorum_of}
 use Rattle.reg_model.specs.Registers.{after_op}
@@ -90,7 +90,7 @@ pieces_same : (v : Stamp) (g h : Seated → Option Version) (xs : List Seated) �
 pieces_same v g h [] same = refl
 pieces_same v g h (x ∷ xs) same =
     ap (λ (z : Option Version). pieces_of (cond (finds v (told_old z)) (told_old z ∷ old_rest) old_rest)) same.0
-    ∙ either (finds v (counted_of (finding h) x))
+    ∙ either (finds v (counted_of (finding h) x)) (pieces_same v g h xs same.1)
   where
     told_old : Option Version → Counted
     told_old z = record { seat = x.seat; brick = x.brick; reply = Old z }
@@ -101,13 +101,14 @@ pieces_same v g h (x ∷ xs) same =
     own_rest : List Counted
     own_rest = filter (finds v) (map (counted_of (finding h)) xs)
 
-    either : (b : Bool) → pieces_of (cond b (told_old (h x) ∷ old_rest) old_rest) ≡ pieces_of (cond b (counted_of (finding h) x ∷ own_rest) own_rest)
-    either true = ap (λ (l : List Piece). (let one : Piece = record { seat = x.seat; bytes = bytes (h x) } in one) ∷ l) (pieces_same v g h xs same.1)
+    either : (b : Bool) → pieces_of old_rest ≡ pieces_of own_rest
+        → pieces_of (cond b (told_old (h x) ∷ old_rest) old_rest) ≡ pieces_of (cond b (counted_of (finding h) x ∷ own_rest) own_rest)
+    either true rest = ap (λ (l : List Piece). (let one : Piece = record { seat = x.seat; bytes = bytes (h x) } in one) ∷ l) rest
       where
         bytes : Option Version → List ℕ
         bytes None = []
         bytes (Some version) = version.block
-    either false = pieces_same v g h xs same.1
+    either false rest = rest
 
 -- a version that is wanted whole is told so
 told_whole : (z : Option Version) → z ≡ told_version true z

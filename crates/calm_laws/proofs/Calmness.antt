@@ -7,7 +7,7 @@ use Rattle.calm_laws.proofs.Backward.{BackCast, OldLore, may_look_back}
 use Rattle.fab_base.specs.declared.identities.ViewNo.{ViewNo}
 use Rattle.protocol.specs.declared.phases.Phase.{Phase}
 use Rattle.calm_laws.proofs.Plays.{Finishes}
-use Rattle.std.proofs.Common.{List, None, Option, Some, [], ap, ap₂, arith, drop, false, inl, le_of_lt, le_trans, length, map, refl, subst, suc, sym, take, true, zero-add, ℕ, ⊎_elim, ◌++◌, ◌+◌, ◌<◌, ◌∙◌, ◌∷◌, ◌≡◌, ◌≤◌, is_some, take_all, zero, inr, Bool}
+use Rattle.std.proofs.Common.{cond, List, None, Option, Some, [], ap, ap₂, arith, drop, false, inl, le_of_lt, le_trans, length, map, refl, subst, suc, sym, take, true, zero-add, ℕ, ⊎_elim, ◌++◌, ◌+◌, ◌<◌, ◌∙◌, ◌∷◌, ◌≡◌, ◌≤◌, is_some, take_all, zero, inr, Bool}
 use Rattle.std.proofs.lemmas.Bool.{and_from, and_parts, cond_both, eqb-true, false≢true, ltb-true, ne_eqb, or_parts, not-true}
 use Rattle.std.proofs.lemmas.Bool.Decides.{nat_tests}
 use Rattle.std.proofs.lemmas.List.{append_assoc, length-take-le, take-append-drop}
@@ -34,11 +34,10 @@ use Rattle.calm_laws.proofs.StorePhases.{each_so}
 use Rattle.calm_laws.specs.Laws.{EncodesBlocks, EndsAlone, IsOver, most_records}
 use Rattle.fab_base.proofs.Seats.{brick_at_seat, seat_of_member, seat_within}
 use Rattle.fab_base.specs.Layouts.{Group, brick_at, seat_in}
-use Rattle.fab_base.specs.Stamps.{first_stamp, stamp_below}
+use Rattle.fab_base.specs.Stamps.{stamp_below}
 use Rattle.fab_base.specs.declared.asks.Op.{Op}
 use Rattle.fab_base.specs.declared.asks.Op.TheVariants.{ReadBlock, ReadStripe, WriteBlock, WriteStripe}
 use Rattle.fab_base.specs.declared.identities.BrickId.{BrickId}
-use Rattle.fab_base.specs.declared.identities.GroupId.{GroupId}
 use Rattle.fab_base.specs.declared.identities.StripeNo.{StripeNo}
 use Rattle.fab_base.specs.declared.stamps.Stamp.{Stamp}
 use Rattle.messages.specs.declared.packets.Packet.{Packet}
@@ -46,12 +45,11 @@ use Rattle.messages.specs.declared.requests.Version.{Version}
 use Rattle.messages.specs.declared.requests.Want.{Want}
 use Rattle.protocol.specs.Calms.{IsCalm, IsReady, early, goes_among, is_one_of, may_ask_prior, knows_synced}
 use Rattle.protocol.specs.Coordinators.{Coordinator, block_written, asked_group, looks_back}
-use Rattle.protocol.specs.Nodes.{first_phase, group_at, has_block, has_length, phase_packets, replica_at, view_at}
+use Rattle.protocol.specs.Nodes.{first_phase, has_block, has_length, phase_packets, replica_at, view_at}
 use Rattle.protocol.specs.Replicas.{Replica, below, is_held, newest_of, top_of}
 use Rattle.protocol.specs.Settings.{IsSound, Setting, are_bytes}
 use Rattle.protocol.specs.Worlds.{Operation, World}
-use Rattle.quorum.proofs.Counts.{count_full}
-use Rattle.quorum.specs.Quorums.{IsWithinLimits, count, quorum_of}
+use Rattle.quorum.specs.Quorums.{IsWithinLimits, quorum_of}
 
 -- a part whose times are early has come to an early one
 top_early : (b : ℕ) (replica : Replica) → replica.order.time ≤ b
@@ -346,6 +344,7 @@ module _ (setting : Setting) (sound : IsSound setting) (lengths : EncodesBlocks 
         below_next d c.call.view.0 (ap (λ (t : Stamp). view_of t) (sym place.3) ∙ its) (later known_back.may)
 
     floor_view : stamp_below back_floor.floor (floor_of c.call.view.0) ≡ true
+    unfolding back_floor floor_is
     floor_view =
         below_next back_floor.floor c.call.view.0
         (floor_stands (c.call.view.0 - 1) prior known_back.logs known_back.floor (take q_back all_back) back_cast.apart back_cast.quorum back_cast.seated
@@ -495,6 +494,8 @@ module _ (setting : Setting) (sound : IsSound setting) (lengths : EncodesBlocks 
     node_boot = opened.boot ∙ sym known.call.boot;
     call = ap (λ (k : ℕ). (w.nodes o.brick.0).calls k) known.call.seq ∙ opened.call;
     number = ap₂ (λ (b k : ℕ). w.numbers o.brick.0 b k) known.call.boot known.call.seq ∙ known.call.number;
+    begun = known.call.begun;
+    within = let seq = known.call.seq in let most = known.call.called in omega (arith, seq, most);
     clock = refl;
     known = refl;
     of = of;

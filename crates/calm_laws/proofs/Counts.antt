@@ -5,7 +5,7 @@ use Rattle.std.proofs.lemmas.Bool.Decides.{nat_tests}
 use Rattle.std.proofs.lemmas.List.{append_assoc, length-append}
 use Rattle.std.specs.Prelude.{nat_eq, nat_lt, ◌-◌, ◌^◌}
 use Rattle.calm_laws.proofs.Hearing.{known_through}
-use Rattle.calm_laws.proofs.Scenes.{Closes, Each, IsSeated, Outcome, SameCall, Scene, Seated, Stage, decision, heard, hears, made, replying, sent, waits, AreApart, EndsAt}
+use Rattle.calm_laws.proofs.Scenes.{Closes, Each, Outcome, SameCall, Scene, Seated, Stage, decision, heard, hears, made, replying, sent, waits, AreApart, EndsAt}
 use Rattle.fab_base.specs.Layouts.{Group, seat_in}
 use Rattle.fab_base.specs.declared.stamps.Stamp.{Stamp}
 use Rattle.messages.specs.declared.calls.Call.{Call}

@@ -188,7 +188,7 @@ module _ (logs : ℕ → List Version) (xs : List Seated) (bound : Stamp) (want 
         some_of (λ x. is_held floor (logs x.brick.0)) xs (omega (arith, many, one))
 
     -- so something is found
-    found_some : greatest_found counted ≡ None → ⊥
+    pub found_some : greatest_found counted ≡ None → ⊥
     found_some none =
         has_each (λ (x : Seated). is_held floor (logs x.brick.0) ≡ true)
         (λ (x : Seated). is_held floor (logs x.brick.0) ≡ true → (version : Version) × (g x ≡ Some version)
@@ -248,15 +248,15 @@ module _ (stage : Stage) (cast : Cast stage) (logs : ℕ → List Version) (lore
       → stamp_same s.c.stamp first_stamp ≡ false → s.c.call.phase + lore.phases + 3 ≤ 2 ^ 32 - 1
       → Carries stage (after_replies stage s known parts others before)
       (read_back stage.setting.layout.block stage.setting.code (having s.c reads) None)
-  none_goes (inl at) over none others before parts known tame later early =
+  none_goes (inl at) over none others before parts known tame later within =
       absurd (found_some logs cast.xs bound want lore.ascends stage.group.m lore.some_block at.floor at.holders over none)
-  none_goes (inr back) over none others before parts known tame later early =
+  none_goes (inr back) over none others before parts known tame later within =
       subst (λ (b : Bool). Carries stage (after_replies stage s known parts others before)
       (cond b (Sends (in_phase (having s.c reads) (LooksBack None))) (Waits (forgetting (having s.c reads)))))
       (sym (ap (λ (t : ℕ). nat_lt 1 t && not (looks_back s.c.phase)) (ap (λ (v : ViewNo). v.0) in_view.of.view)
       ∙ ap (λ (b : Bool). nat_lt 1 stage.call.view.0 && not b) in_view.ahead ∙ ap (λ (b : Bool). b && true) back.later)) (
         record { group = refl; prior = refl; boot = refl; seq = refl; of_group = refl; view = refl; stripe = refl },
-        back.closes s others before parts known reads in_view tame later early,
+        back.closes s others before parts known reads in_view tame later within,
       )
 
   -- where too few tell what is found, that is above the floor

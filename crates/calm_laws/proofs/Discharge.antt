@@ -5,37 +5,34 @@ use Rattle.calm_laws.proofs.Beginnings.{OpenFacts, open_facts}
 use Rattle.std.proofs.lemmas.List.{append-nil}
 use Rattle.std.specs.List.{list_any}
 use Rattle.view_laws.proofs.SyncedViews.{syncs_are_said}
-use Rattle.view_laws.specs.Syncs.{SyncedWasSent, IsSaidSynced}
+use Rattle.view_laws.specs.Syncs.{IsSaidSynced}
 use Rattle.view_laws.specs.Following.{Follows}
-use Rattle.quorum.proofs.Counts.{count_full}
 use Rattle.view_laws.proofs.Histories.{kept_is}
 use Rattle.fab_base.specs.declared.identities.ViewNo.{ViewNo}
 use Rattle.calm_laws.proofs.Scenes.{first_ahead, view_ahead}
 use Rattle.protocol_laws.specs.Laws.{part_in}
 use Rattle.protocol_laws.proofs.Reactions.{top_is, top_is_order}
 use Rattle.protocol_laws.proofs.StampViews.{StampViews, PartIsOf, always_views}
-use Rattle.protocol.specs.Views.{Views, Learnt, first_kept, group_in, views_in, group_kept, kept_by}
+use Rattle.protocol.specs.Views.{Views, first_kept, group_in, views_in, group_kept, kept_by}
 use Rattle.view_laws.proofs.Followed.{every_run_follows}
-use Rattle.fab_base.proofs.StampOrder.{stamp_neither_below, stamp_below_first}
-use Rattle.protocol.specs.Calms.{IsCalm, knows_synced, may_ask_prior}
+use Rattle.protocol.specs.Calms.{IsCalm, has_mark, knows_synced, may_ask_prior, number_marked, operation_marked}
 use Rattle.protocol.specs.declared.phases.Phase.{Phase}
 use Rattle.fab_base.specs.declared.asks.Op.{Op}
 use Rattle.calm_laws.proofs.Calmness.{ends_alone}
 use Rattle.protocol.specs.Views.{view_of}
-use Rattle.std.proofs.Common.{◌≡◌, ◌≢◌, ℕ, suc, ◌+◌, ◌≤◌, ◌<◌, ◌⊎◌, inl, inr, true, false, List, [], ◌∷◌, length, Some, refl, sym, ap, ◌∙◌, subst, ⊎_elim, arith, Option, None, Bool, not, ◌-◌, ltb-false, nat_lt, ◌&&◌}
-use Rattle.std.specs.Prelude.{if◌then◌else◌, max, nat_eq, slice_get, zero}
-use Rattle.std.proofs.lemmas.Bool.{cases_Bool, cases_eq, cond_both, cond-true, eq-eqb, eqb-true, false≢true, or_cases, cases_lt, and_parts, ltb-true}
+use Rattle.std.proofs.Common.{◌≡◌, ℕ, suc, ◌+◌, ◌≤◌, ◌<◌, ◌⊎◌, inl, inr, true, false, List, [], ◌∷◌, length, Some, refl, sym, ap, ◌∙◌, subst, ⊎_elim, arith, Option, None, Bool, not, ◌-◌, ltb-false, nat_lt, ◌&&◌}
+use Rattle.std.specs.Prelude.{nat_eq, slice_get, zero}
+use Rattle.std.proofs.lemmas.Bool.{cases_Bool, cond_both, false≢true, or_cases, cases_lt, and_parts, ltb-true}
 use Rattle.std.proofs.lemmas.Option.{same_Some}
 use Rattle.fab_base.specs.declared.identities.BrickId.{BrickId}
 use Rattle.fab_base.specs.declared.asks.Ask.{Ask}
 use Rattle.fab_base.specs.declared.stamps.Stamp.{Stamp}
 use Rattle.fab_base.specs.Stamps.{stamp_below, first_stamp}
-use Rattle.fab_base.specs.Layouts.{Group, group_of, brick_at}
+use Rattle.fab_base.specs.Layouts.{Group, group_of}
 use Rattle.messages.specs.declared.requests.Version.{Version}
 use Rattle.messages.specs.declared.packets.Message.TheVariants as Message
 use Rattle.messages.specs.declared.requests.Request.TheVariants as Request
 use Rattle.fab_base.specs.declared.asks.Op.TheVariants.{ReadBlock, WriteBlock, ReadStripe, WriteStripe}
-use Rattle.quorum.specs.Quorums.{count, quorum_of}
 use Rattle.protocol.specs.Settings.{Setting, IsSound}
 use Rattle.protocol.specs.Replicas.{Replica, is_held, top_of, newest_of, first_replica, fresh_replica}
 use Rattle.protocol.specs.Coordinators.{Coordinator, looks_back}
@@ -44,12 +41,13 @@ use Rattle.protocol.specs.Worlds.{World, Operation, first_world, number_of, run,
 use Rattle.protocol_laws.proofs.Books.{Books, CallBooks, OperationBooks, IsOperation, MadeInPhase}
 use Rattle.protocol_laws.proofs.BooksEvents.{books}
 use Rattle.protocol_laws.proofs.Blocking.{was_kept}
-use Rattle.protocol_laws.proofs.FirstViews.{first_group, group_first, others_empty}
-use Rattle.protocol_laws.proofs.Logs.{IsKept, IsUnder, held_stands, nothing_kept, LogAscends, newest_stands}
-use Rattle.protocol_laws.proofs.Said.{Stamping, Said, Stands, WasCollected, IsMadeOrFirst, IsStamped, IsBottom, SyncedSays}
+use Rattle.protocol_laws.proofs.Logs.{IsUnder, held_stands, newest_stands}
+use Rattle.protocol_laws.proofs.Said.{Stamping, Said, Stands, WasCollected, IsMadeOrFirst, IsStamped, IsBottom}
 use Rattle.protocol_laws.proofs.SaidAlways.{always_said}
 use Rattle.protocol_laws.proofs.OwnStamps.{not_made_yet}
-use Rattle.calm_laws.specs.Laws.{EncodesBlocks, CalmOperationsEnd, AsksNoPrior, most_records}
+use Rattle.calm_laws.specs.Laws.{EncodesBlocks, CalmOperationsEnd, HasStripe, most_records}
+use Rattle.calm_laws.specs.Logs.{is_stripe}
+use Rattle.protocol.specs.Happenings.{is_marked}
 use Rattle.calm_laws.proofs.Known.{Known, KnownCall, KnownMessages, KnownLogs, repeated, KeepsFrom, StandsIn, KnownFloor, KnownBack}
 use Rattle.calm_laws.proofs.Fresh.{IsFresh, IsNumbered, IsOpenAt, opens_at}
 use Rattle.calm_laws.proofs.FreshRuns.{always_fresh}
@@ -57,6 +55,7 @@ use Rattle.calm_laws.proofs.Lives.{CountsLives, always_count, log_within}
 
 module _ (setting : Setting) (sound : IsSound setting) (encodes : EncodesBlocks setting) (small : setting.layout.records ≤ most_records) (w : World)
     (stamps : Stamping) (books : Books setting w) (said : Said setting (views_in setting.layout w.packets) w stamps) (n : ℕ) (o : Operation) (c : Coordinator) (is : IsOperation w n o)
+    (has_stripe : HasStripe setting o)
     (at : IsOpenAt w n c) (in_views : StampViews setting.layout w) (follows : Follows setting.layout (views_in setting.layout w.packets) w)
     (fresh : IsFresh setting w n c) (numbered : IsNumbered w) (counts : (i : ℕ) → CountsLives setting.layout (w.nodes i))
     (bricks : List BrickId) (synced : IsSaidSynced w c.call.group.0 c.stamp.view.0 ⊎ ((may_ask_prior w c bricks ≡ true) × IsSaidSynced w c.call.group.0 (c.stamp.view.0 - 1))) where
@@ -131,11 +130,21 @@ module _ (setting : Setting) (sound : IsSound setting) (encodes : EncodesBlocks 
   same_stripes : its_books.group.stripes ≡ c.group.stripes
   same_stripes = ap (λ (z : Group). z.stripes) group_same ∙ ap (λ (z : Group). z.stripes) (sym layout_group.2)
 
+  -- its stripe is one of the group's
+  asked_within : o.ask.stripe.0 < its_books.group.stripes
+  asked_within = ⊎_elim
+      (λ (marked : is_marked o ≡ true). its_books.stripe (ltb-true 0 o.mark marked))
+      (λ (there : is_stripe (group_of setting.layout o.ask.group.0) o.ask.stripe.0 ≡ true).
+      ltb-true o.ask.stripe.0 its_books.group.stripes (ap (λ (z : Option Group). is_stripe z o.ask.stripe.0) (sym its_books.group_is) ∙ there))
+      has_stripe
+
   known_call : KnownCall setting w n o c
   known_call = record {
     brick = subst (λ (b : BrickId). is_brick setting.layout b ≡ true) (its.stamp_brick ∙ ap (λ (z : Operation). z.brick) the_operation) fresh.there;
     ask = ask;
     number = its_books.number;
+    begun = its_books.begun;
+    called = its_books.called.1 (sym boot);
     boot = its.call_boot ∙ boot;
     seq = its.call_seq;
     of_group = its.call_group;
@@ -148,7 +157,7 @@ module _ (setting : Setting) (sound : IsSound setting) (encodes : EncodesBlocks 
     groups = λ i same.
         ap (λ (members : List BrickId). group_kept setting.layout members c.call.group.0) (follows.learnt i c.call.group.0)
         ∙ group_at_view (view_at (w.nodes i) c.call.group.0) same;
-    within = subst (λ (a : Ask). a.stripe.0 < c.group.stripes) (sym ask) (subst (λ (k : ℕ). o.ask.stripe.0 < k) same_stripes its_books.stripe);
+    within = subst (λ (a : Ask). a.stripe.0 < c.group.stripes) (sym ask) (subst (λ (k : ℕ). o.ask.stripe.0 < k) same_stripes asked_within);
     block_fits =
         subst (λ (a : Ask). has_block c.group.m a.op ≡ true) (sym ask)
         (subst (λ (k : ℕ). has_block k o.ask.op ≡ true) same_m its_books.block_fits);
@@ -179,7 +188,7 @@ module _ (setting : Setting) (sound : IsSound setting) (encodes : EncodesBlocks 
   stripe_within =
       subst (λ s. s.0 < base.stripes) (sym its.call_stripe)
       (subst (λ (a : Ask). a.stripe.0 < base.stripes) (sym ask)
-      (subst (λ (z : Group). o.ask.stripe.0 < z.stripes) group_same its_books.stripe))
+      (subst (λ (z : Group). o.ask.stripe.0 < z.stripes) group_same asked_within))
 
   abbrev g : ℕ
   g = c.call.group.0
@@ -277,7 +286,7 @@ module _ (setting : Setting) (sound : IsSound setting) (encodes : EncodesBlocks 
     -- it has a floor, where it is said to be synced
     floor_at : IsSaidSynced w g f → KnownFloor w g st f group
     floor_at is =
-        let some = synced_stands setting views sound w stamps books said g f st base layout_group.1 stripe_within is in
+        let some = synced_stands setting views sound w stamps books said g f st base layout_group.1 (inr stripe_within) is in
         floor_in some.0 (stands_in some.0 some.1 some.2)
 
   -- what a recovery comes to at the latest
@@ -402,20 +411,41 @@ said_synced setting events n bricks sound calm from_one = by (nat_lt 1 c.stamp.v
 -- what is known of an operation that may run alone
 pub known_of : (setting : Setting) (events : List Event) (n : ℕ) (bricks : List BrickId) → IsSound setting → EncodesBlocks setting
     → setting.layout.records ≤ most_records → (calm : IsCalm setting (run setting events (first_world setting.layout)) n bricks)
-    → Known setting (run setting events (first_world setting.layout)) n calm.operation calm.coordinator bricks
-known_of setting events n bricks sound encodes small calm =
+    → HasStripe setting calm.operation → Known setting (run setting events (first_world setting.layout)) n calm.operation calm.coordinator bricks
+known_of setting events n bricks sound encodes small calm has_stripe =
     let w : World = run setting events (first_world setting.layout) in
     let said = always_said setting (views_in setting.layout w.packets) events sound (every_run_follows setting events sound) in
     let always = always_fresh setting events in
     let at : IsOpenAt w n calm.coordinator = opens_at w n calm.coordinator calm.open_is in
     let fresh : IsFresh setting w n calm.coordinator = always.1 n calm.coordinator calm.open_is calm.untouched in
-    known setting sound encodes small w said.0 (books setting events) said.1 n calm.operation calm.coordinator calm.is at (always_views setting events)
+    known setting sound encodes small w said.0 (books setting events) said.1 n calm.operation calm.coordinator calm.is has_stripe at (always_views setting events)
     (every_run_follows setting events sound events [] (sym (append-nil events))) fresh always.0 (always_count setting events) bricks
     (said_synced setting events n bricks sound calm
     (view_from_one setting w said.0 (books setting events) said.1 n calm.operation calm.coordinator calm.is at))
 
 -- so it ends
 pub calm_ends : CalmOperationsEnd
-calm_ends setting events n bricks sound encodes small calm =
+calm_ends setting events n bricks sound encodes small calm has_stripe =
     ends_alone setting sound encodes (run setting events (first_world setting.layout)) n bricks calm
-    (known_of setting events n bricks sound encodes small calm)
+    (known_of setting events n bricks sound encodes small calm has_stripe)
+
+-- an operation that marks of a number are of has marks
+is_of_mark : (operations : ℕ → Option Operation) (mark k : ℕ) (o : Operation) → operations 0 ≡ None → operations (number_marked operations mark k) ≡ Some o
+    → is_marked o ≡ true
+is_of_mark operations mark zero o none is = absurd (let never : None ≡ Some o = sym none ∙ is in cc)
+is_of_mark operations mark (suc k) o none is =
+    cond_both (has_mark mark (operations (suc k))) (suc k) (number_marked operations mark k) (λ (m : ℕ). operations m ≡ Some o → is_marked o ≡ true)
+    (λ has its. (and_parts (is_marked o) (nat_eq o.mark mark) (ap (λ (z : Option Operation). has_mark mark z) (sym its) ∙ has)).0)
+    (λ hasnt its. is_of_mark operations mark k o none its) is
+
+-- so its stripe is one of its group's
+pub marked_has_stripe : (setting : Setting) (events : List Event) (mark : ℕ) (o : Operation)
+    → (let w : World = run setting events (first_world setting.layout) in w.operations (operation_marked w mark) ≡ Some o) → HasStripe setting o
+marked_has_stripe setting events mark o is = inl (is_of_mark w.operations mark w.begun o (at (w.operations 0) refl) is)
+  where
+    w : World
+    w = run setting events (first_world setting.layout)
+
+    at : (z : Option Operation) → w.operations 0 ≡ z → w.operations 0 ≡ None
+    at None none = none
+    at (Some p) some = absurd (let from = ((books setting events).operations 0 p some).from_one in omega (arith, from))

@@ -61,7 +61,7 @@ plays stage n _ (Creates s from call reply rest d next is same closes) w shows =
     create_plays stage n w s from call reply rest shows next d is same
     (λ later shows_later. plays stage n (made stage (heard s reply rest) d) closes later shows_later)
 plays stage n _ (Answers s from call reply rest answer seen stored next is well ends) w shows =
-    answer_plays stage n w s from call reply rest shows next answer seen stored is well ends
+    answer_plays stage n w s from call reply rest shows next answer seen stored well is ends
 
 -- an operation that is open is not closed
 not_both : (setting : Setting) (n : ℕ) (w : World) → is_some (open_call w n) ≡ true → open_call w n ≡ None → ⊥

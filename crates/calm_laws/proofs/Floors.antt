@@ -7,7 +7,7 @@ use Rattle.calm_laws.proofs.Asking.{each_then}
 use Rattle.calm_laws.proofs.Rooms.{max_left, max_right}
 use Rattle.calm_laws.proofs.Scenes.{Each, Seated, AreApart}
 use Rattle.fab_base.proofs.StampOrder.{stamp_not_below_trans}
-use Rattle.fab_base.specs.Stamps.{first_stamp, stamp_below}
+use Rattle.fab_base.specs.Stamps.{stamp_below}
 use Rattle.fab_base.specs.declared.stamps.Stamp.{Stamp}
 use Rattle.protocol.specs.Replicas.{stamp_max}
 use Rattle.quorum.proofs.Counts.{AreDistinctBelow, count_monotone, count_seat_in, quorums_share}

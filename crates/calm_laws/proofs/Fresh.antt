@@ -1,7 +1,6 @@
 -- An operation of which no message was delivered is as it began: its coordinator is in its first phase, with no reply that counts, and its packets are
 -- that phase's, once for its beginning and once more for each tick since.
-use Rattle.protocol_laws.proofs.BooksEvents.{books}
-use Rattle.std.proofs.Common.{◌≡◌, ◌≢◌, ℕ, zero, suc, ◌≤◌, ◌<◌, Bool, true, false, ◌&&◌, List, [], ◌∷◌, ◌++◌, length, Option, Some, None, refl, sym, ap, ◌∙◌, ◌+◌, ⊎_elim, arith}
+use Rattle.std.proofs.Common.{◌≡◌, ◌≢◌, ℕ, zero, suc, ◌≤◌, ◌<◌, Bool, true, false, ◌&&◌, List, [], ◌∷◌, ◌++◌, length, Option, Some, None, refl, sym, ap, ◌∙◌, ◌+◌, ⊎_elim, arith, subst}
 use Rattle.std.specs.Prelude.{slice_get, nat_eq, filter, if◌then◌else◌}
 use Rattle.std.proofs.lemmas.Bool.{cond_both, cond-true, cond-false, eq-eqb, eqb-true, ne_eqb, and_parts, cases_lt, false≢true, and_from}
 use Rattle.std.proofs.lemmas.List.{append_assoc, append-nil}
@@ -63,6 +62,21 @@ pub record IsNumbered (w : World) : Type 0 where
   pub drafts : (i : ℕ) (p : Proposal) → (w.nodes i).proposal ≡ Some p → w.numbers i p.call.boot p.call.seq ≡ 0
   pub packets : (k : ℕ) (packet : Packet) → slice_get w.packets k ≡ Some packet → IsMadeBy w.nodes packet
   pub reached : (k : ℕ) → length w.packets < k → w.reached k ≡ false
+
+-- Operations have numbers that were given, and calls that their bricks have made; and so has a proposal.
+pub record AreMade (w : World) : Type 0 where
+  pub begun : (a : ℕ) (o : Operation) → IsOperation w a o → a ≤ w.begun
+  pub called : (a : ℕ) (o : Operation) → IsOperation w a o → (w.nodes o.brick.0).boot ≡ o.boot → o.seq ≤ (w.nodes o.brick.0).seq
+  pub drafts : (i : ℕ) (p : Proposal) → (w.nodes i).proposal ≡ Some p → IsMade (w.nodes i) p.call.boot p.call.seq
+
+-- What two worlds have in common: bricks, packets, operations, the numbers of calls, which bricks are up, and which messages were delivered.
+pub record AreAlike (v w : World) : Type 0 where
+  pub nodes : v.nodes ≡ w.nodes
+  pub packets : v.packets ≡ w.packets
+  pub operations : v.operations ≡ w.operations
+  pub numbers : v.numbers ≡ w.numbers
+  pub up : v.up ≡ w.up
+  pub reached : v.reached ≡ w.reached
 
 -- what a brick has made it has still made once its counters rose
 pub rises_made : (node next : Node) (boot seq : ℕ) → Rises node next → IsMade node boot seq → IsMade next boot seq
@@ -152,6 +166,32 @@ fresh_on setting w next n c same fresh = record {
   copies = fresh.copies;
   packets = same ∙ fresh.packets;
 }
+
+-- a world with what another one has of these
+abbrev as_in : World → World → World
+as_in v w = record w { nodes = v.nodes; packets = v.packets; operations = v.operations; numbers = v.numbers; up = v.up; reached = v.reached }
+
+-- it is the other one, where they have it in common
+as_is : (v w : World) → AreAlike v w → as_in v w ≡ w
+as_is v w alike = λ i. record w {
+  nodes = alike.nodes i;
+  packets = alike.packets i;
+  operations = alike.operations i;
+  numbers = alike.numbers i;
+  up = alike.up i;
+  reached = alike.reached i;
+}
+
+-- so numbers and fresh operations are as in a world that is alike
+pub numbered_alike : (v w : World) → AreAlike v w → IsNumbered v → IsNumbered w
+numbered_alike v w alike is =
+    subst (λ (z : World). IsNumbered z) (as_is v w alike)
+    (record { numbers = is.numbers; drafts = is.drafts; packets = is.packets; reached = is.reached })
+
+pub fresh_alike : (setting : Setting) (v w : World) → AreAlike v w → AreFresh setting v → AreFresh setting w
+fresh_alike setting v w alike fresh =
+    subst (λ (z : World). AreFresh setting z) (as_is v w alike)
+    (λ n c opens untouched. fresh_on setting v (as_in v w) n c refl (fresh n c opens untouched))
 
 -- the coordinator of an open operation is its brick's
 pub record IsOpenAt (w : World) (n : ℕ) (c : Coordinator) : Type 0 where

@@ -1,17 +1,17 @@
 -- Every run has numbers that are operations', and fresh operations where no message reached.
 use Rattle.protocol_laws.proofs.BooksEvents.{BeginFits, books, begin_fits, group_there, fits_at}
-use Rattle.std.proofs.Common.{ltb-true, nat_lt, ◌&&◌, ◌≡◌, not, List, Option, Some, None, refl, sym, subst, arith, is_some, true}
+use Rattle.std.proofs.Common.{ltb-true, nat_lt, ◌&&◌, ◌≡◌, not, List, Option, Some, None, refl, sym, subst, arith, is_some, true, false, length, ◌+◌}
 use Rattle.std.proofs.lemmas.Bool.{and_parts, not-true}
 use Rattle.fab_base.specs.Layouts.{Group}
 use Rattle.protocol.specs.Settings.{Setting}
-use Rattle.protocol.specs.Nodes.{put, invoked, began, may_open, refusal_of}
-use Rattle.protocol.specs.Worlds.{World, Event, first_world, may_begin, world_began, is_up, run}
+use Rattle.protocol.specs.Nodes.{NodeStep, put, invoked, began, began_in, new_coordinator, may_open, refusal_of, sync_refusal, top_at, view_at}
+use Rattle.protocol.specs.Worlds.{World, Event, Operation, first_world, may_begin, world_began, is_brick, is_up, run}
 use Rattle.protocol_laws.proofs.Books.{Books}
-use Rattle.calm_laws.proofs.Fresh.{IsNumbered, AreFresh, fresh_on}
+use Rattle.calm_laws.proofs.Fresh.{IsNumbered, AreFresh, AreAlike, fresh_on, numbered_alike, fresh_alike}
 use Rattle.view_laws.proofs.CallSteps.{Calls, always_calls}
-use Rattle.calm_laws.proofs.FreshDelivered.{delivered_numbered, delivered_fresh, proposed_numbered, proposed_fresh}
+use Rattle.calm_laws.proofs.FreshDelivered.{now_made, delivered_kept, proposed_numbered, proposed_fresh, synced_kept}
 use Rattle.calm_laws.proofs.FreshTicked.{ticked_numbered, ticked_fresh}
-use Rattle.calm_laws.proofs.FreshBegun.{began_numbered, began_fresh}
+use Rattle.calm_laws.proofs.FreshBegun.{world_begun, began_numbered, began_fresh}
 use Rattle.calm_laws.proofs.FreshStopped.{stopped_numbered, stopped_fresh, started_numbered, started_fresh}
 use Rattle.protocol.proofs.Events.{EventCases, always_where}
 use Rattle.fab_base.specs.declared.asks.Ask.{Ask}
@@ -21,32 +21,79 @@ use Rattle.fab_base.specs.declared.identities.BrickId.{BrickId}
 abbrev IsFresh : Setting → World → Type 0
 IsFresh setting w = IsNumbered w × AreFresh setting w
 
--- a beginning keeps both
-invoked_kept : (setting : Setting) (w : World) → Books setting w → Calls w → IsFresh setting w → (brick : BrickId) (ask : Ask)
-    → may_begin setting w brick ask ≡ true
-    → IsFresh setting (world_began w brick ask (invoked setting brick (w.clocks brick.0) (w.nodes brick.0) ask))
-unfolding invoked
-invoked_kept setting w books calls holds brick ask may =
-    let fits : BeginFits setting ask = begin_fits setting w brick ask may in
-    let up = (and_parts (is_up setting.layout w brick) (not (is_some (refusal_of setting.layout (w.nodes brick.0) ask))) may).0 in
-    subst (λ (found : Option Group). IsFresh setting (world_began w brick ask (began setting brick (w.clocks brick.0) (w.nodes brick.0) ask found)))
-    (sym (fits_at setting (w.nodes brick.0) ask fits)) (
-      began_numbered setting w books calls holds.0 holds.1 brick ask (group_there (w.nodes brick.0) ask fits.group) up,
-      began_fresh setting w books calls holds.0 holds.1 brick ask (group_there (w.nodes brick.0) ask fits.group) up,
+-- a brick begins an operation of this group
+module _ (setting : Setting) (w : World) (books : Books setting w) (calls : Calls w) (holds : IsFresh setting w) (brick : BrickId) (ask : Ask)
+    (may : may_begin setting w brick ask ≡ true) where
+  up : is_up setting.layout w brick ≡ true
+  up = (and_parts (is_up setting.layout w brick) (not (is_some (refusal_of setting.layout (w.nodes brick.0) ask))) may).0
+
+  there : is_brick setting.layout brick ≡ true
+  there = (and_parts (is_brick setting.layout brick) (w.up brick.0) up).0
+
+  module _ (group : Group) where
+    abbrev step : NodeStep
+    step = began_in setting brick (w.nodes brick.0) (new_coordinator group brick (w.clocks brick.0) (w.nodes brick.0) ask)
+
+    abbrev next : World
+    next = world_began w brick ask step
+
+    -- the operation, as the world has it
+    abbrev operation : Operation
+    operation = record {
+      brick = brick;
+      boot = step.node.boot;
+      seq = step.node.seq;
+      begin = length w.marks;
+      ask = ask;
+      version = None;
+      made = false;
+      base = None;
+      answered = false;
+      mark = w.marked + 1;
+      closed = None;
+      view = view_at (w.nodes brick.0) ask.group.0;
+      floor = λ i. top_at (w.nodes i) ask.group.0 ask.stripe.0;
+    }
+
+    abbrev begun : World
+    begun =
+        world_begun setting w brick (w.nodes brick.0) (new_coordinator group brick (w.clocks brick.0) (w.nodes brick.0) ask) ((w.nodes brick.0).busy + 1)
+        (w.nodes brick.0).job operation
+
+    alike : AreAlike begun next
+    alike = record { nodes = refl; packets = refl; operations = refl; numbers = refl; up = refl; reached = refl }
+
+    begun_kept : IsFresh setting next
+    begun_kept = (
+      numbered_alike begun next alike
+          (began_numbered setting w (now_made setting w books calls holds.0 holds.1) holds.0 holds.1 brick there group
+          ((w.nodes brick.0).learnt ask.group.0).view (w.clocks brick.0) ask ((w.nodes brick.0).busy + 1) (w.nodes brick.0).job operation),
+      fresh_alike setting begun next alike
+          (began_fresh setting w (now_made setting w books calls holds.0 holds.1) holds.0 holds.1 brick there group
+          ((w.nodes brick.0).learnt ask.group.0).view (w.clocks brick.0) ask ((w.nodes brick.0).busy + 1) (w.nodes brick.0).job operation),
     )
+
+  -- a beginning keeps both
+  invoked_kept : IsFresh setting (world_began w brick ask (invoked setting brick (w.clocks brick.0) (w.nodes brick.0) ask))
+  unfolding invoked
+  invoked_kept =
+      let fits : BeginFits setting ask = begin_fits setting w brick ask may in
+      subst (λ (found : Option Group). IsFresh setting (world_began w brick ask (began setting brick (w.clocks brick.0) (w.nodes brick.0) ask found)))
+      (sym (fits_at setting (w.nodes brick.0) ask fits)) (begun_kept (group_there (w.nodes brick.0) ask fits.group))
 
 -- every event keeps both
 fresh_cases : (setting : Setting) (w : World) → Books setting w × Calls w → IsFresh setting w → EventCases setting w (IsFresh setting)
 fresh_cases setting w known holds = record {
-  begins = invoked_kept setting w known.0 known.1 holds;
+  begins = λ brick ask may. invoked_kept setting w known.0 known.1 holds brick ask may;
   proposes = λ brick group members may. (
     proposed_numbered setting w known.0 known.1 holds.0 holds.1 brick group members,
     proposed_fresh setting w known.0 known.1 holds.0 holds.1 brick group members,
   );
-  handles = λ number packet at up. (
-    delivered_numbered setting w known.0 known.1 holds.0 holds.1 number packet at,
-    delivered_fresh setting w known.0 known.1 holds.0 holds.1 number packet at,
-  );
+  syncs = λ brick group may.
+      synced_kept setting w known.0 known.1 holds.0 holds.1 brick group
+      (and_parts (is_brick setting.layout brick) (w.up brick.0)
+      (and_parts (is_up setting.layout w brick) (not (is_some (sync_refusal setting.layout (w.nodes brick.0) group.0))) may).0).0;
+  handles = λ number packet at up. delivered_kept setting w known.0 known.1 holds.0 holds.1 number packet at up;
   sets = λ brick time is. (
     record { numbers = holds.0.numbers; drafts = holds.0.drafts; packets = holds.0.packets; reached = holds.0.reached },
     (λ n c opens untouched. fresh_on setting w (record w { clocks = put w.clocks brick.0 time }) n c refl (holds.1 n c opens untouched)),

@@ -16,13 +16,16 @@ use Rattle.protocol.specs.declared.phases.Counted.{Counted}
 use Rattle.protocol.specs.Coordinators.{Coordinator, request_of, has_seat, asked_group}
 use Rattle.fab_base.specs.declared.identities.GroupId.{GroupId}
 use Rattle.fab_base.specs.declared.member_lists.View.{View}
-use Rattle.protocol.specs.Nodes.{phase_packets, to_members, resent_to, resent, resent_up_to, ticked, teaching, each_taught, view_in, ballot_resent}
-use Rattle.protocol.proofs.Packets.{OfEach, each_none, each_both, each_teaching, each_ticked, each_ballot_resent}
+use Rattle.protocol.specs.Nodes.{phase_packets, to_members, resent_to, resent, resent_up_to, ticked, teaching, each_taught, view_in, ballot_resent, calls_but_read, job_call, put}
+use Rattle.protocol.proofs.Packets.{OfEach, each_none, each_teaching, each_ballot_resent}
+use Rattle.protocol.specs.Jobs.{Job}
+use Rattle.view_laws.proofs.SyncReads.{each_tick}
+use Rattle.protocol.proofs.Puts.{put_other}
 use Rattle.view_laws.proofs.CallSteps.{Calls}
 use Rattle.protocol.specs.Worlds.{World, Operation, number_of, world_ticked}
 use Rattle.protocol.specs.Calms.{operation_of, IsUntouched}
 use Rattle.protocol_laws.proofs.Books.{Books, CallBooks}
-use Rattle.protocol.proofs.Tables.{get_grown}
+use Rattle.protocol.proofs.Tables.{get_grown, put_each, put_same}
 use Rattle.calm_laws.proofs.Fresh.{IsMade, IsMadeBy, packets_of, repeated_more, IsFresh, IsNumbered, AreFresh, filter_none, filter_every, packets_added, packets_kept, fresh_on, IsOpenAt, opens_at, untouched_before, own_number}
 
 module _ (setting : Setting) (w : World) (books : Books setting w) (calls : Calls w) (numbered : IsNumbered w) (fresh : AreFresh setting w) where
@@ -81,34 +84,29 @@ module _ (setting : Setting) (w : World) (books : Books setting w) (calls : Call
           some,
         ))
 
-    -- each packet that is sent again is of the operation of a call of the brick
-    each_are : (k : ℕ) (j : ℕ) (packet : Packet) → slice_get (resent_up_to setting brick (w.nodes brick.0).calls k) j ≡ Some packet
-        → ((l : ℕ) × (operation_of w packet ≡ number_of w brick.0 l) × (1 ≤ number_of w brick.0 l)) ⊎ (operation_of w packet ≡ 0)
-    each_are zero j packet at = let never : ⊥ = cc in absurd never
-    each_are (suc k) j packet at = ⊎_elim
-        (λ (old : slice_get (resent_up_to setting brick (w.nodes brick.0).calls k) j ≡ Some packet).
-        each_are k j packet old)
-        (λ (new : (i : ℕ) × (slice_get (resent setting brick ((w.nodes brick.0).calls (suc k))) i ≡ Some packet)).
-        ⊎_elim
-        (λ (own : (operation_of w packet ≡ number_of w brick.0 (suc k)) × (1 ≤ number_of w brick.0 (suc k))). inl (suc k, own.0, own.1))
-        (λ (none : operation_of w packet ≡ 0). inr none)
-        (call_are (suc k) ((w.nodes brick.0).calls (suc k)) refl new.0 packet new.1))
-        (get_grown (resent_up_to setting brick (w.nodes brick.0).calls k) (resent setting brick ((w.nodes brick.0).calls (suc k))) j packet at)
-
     -- what the proposal sends again is of no operation
     ballots_are : OfEach (λ packet. operation_of w packet ≡ 0) (ballot_resent brick (w.nodes brick.0).proposal)
     ballots_are =
         each_ballot_resent (λ (packet : Packet). operation_of w packet ≡ 0) brick (w.nodes brick.0).proposal (λ p is to. numbered.drafts brick.0 p is)
         (λ p is later from to. refl)
 
-    -- all that is sent
-    all_are : (j : ℕ) (packet : Packet) → slice_get ticked_packets j ≡ Some packet
-        → ((l : ℕ) × (operation_of w packet ≡ number_of w brick.0 l) × (1 ≤ number_of w brick.0 l)) ⊎ (operation_of w packet ≡ 0)
+    -- a packet is of the operation of a call of the brick, or of none
+    abbrev OfSome : Packet → Type 0
+    OfSome packet = ((l : ℕ) × (operation_of w packet ≡ number_of w brick.0 l) × (1 ≤ number_of w brick.0 l)) ⊎ (operation_of w packet ≡ 0)
+
+    -- all that is sent is
+    all_are : OfEach OfSome ticked_packets
     unfolding ticked
     all_are =
-        each_both (λ (packet : Packet). ((l : ℕ) × (operation_of w packet ≡ number_of w brick.0 l) × (1 ≤ number_of w brick.0 l)) ⊎ (operation_of w packet ≡ 0))
-        (resent_up_to setting brick (w.nodes brick.0).calls (w.nodes brick.0).seq) (ballot_resent brick (w.nodes brick.0).proposal)
-        (each_are (w.nodes brick.0).seq) (λ j packet at. inr (ballots_are j packet at))
+        each_tick OfSome setting brick (w.nodes brick.0).calls
+        (λ k c is seat to.
+        let its : CallBooks setting w brick.0 k c = books.calls brick.0 k c is in
+        inl (
+          k,
+          ap (λ (b : ℕ). w.numbers brick.0 b c.call.seq) its.call_boot ∙ ap (λ (l : ℕ). number_of w brick.0 l) its.call_seq,
+          (books.operations (number_of w brick.0 k) its.operation its.operation_is).from_one,
+        ))
+        (λ k c is later from to. inr refl) (w.nodes brick.0).job (w.nodes brick.0).seq (w.nodes brick.0).proposal (λ j packet at. inr (ballots_are j packet at))
 
     -- its calls were made
     call_made : (k : ℕ) (c : Coordinator) → (w.nodes brick.0).calls k ≡ Some c → IsMade (w.nodes brick.0) c.call.boot c.call.seq
@@ -124,9 +122,8 @@ module _ (setting : Setting) (w : World) (books : Books setting w) (calls : Call
     ticked_made : OfEach (IsMadeBy w.nodes) ticked_packets
     unfolding ticked
     ticked_made =
-        each_both (IsMadeBy w.nodes) (resent_up_to setting brick (w.nodes brick.0).calls (w.nodes brick.0).seq) (ballot_resent brick (w.nodes brick.0).proposal)
-        (each_ticked (IsMadeBy w.nodes) setting brick (w.nodes brick.0).calls (w.nodes brick.0).seq (λ k c is seat to. call_made k c is)
-        (λ k c is later from to. tt))
+        each_tick (IsMadeBy w.nodes) setting brick (w.nodes brick.0).calls (λ k c is seat to. call_made k c is) (λ k c is later from to. tt)
+        (w.nodes brick.0).job (w.nodes brick.0).seq (w.nodes brick.0).proposal
         (each_ballot_resent (IsMadeBy w.nodes) brick (w.nodes brick.0).proposal
         (λ p is to. let draft = calls.called.drafts brick.0 p is in let now = draft.now in
         ((let low : p.call.boot ≤ (w.nodes brick.0).boot = omega (arith, now) in low), (λ same. draft.seq)))
@@ -211,36 +208,76 @@ module _ (setting : Setting) (w : World) (books : Books setting w) (calls : Call
           ∙ resent_whole c.call (request_of setting.code c) 0 (asked_group c).members
           ∙ ap (λ (b : BrickId). phase_packets setting b c) (sym the_brick)
 
-      -- so it is among the calls up to any that is not before it
-      resent_to_call : (k : ℕ)
-          → filter is_n (resent_up_to setting brick (w.nodes brick.0).calls k)
-          ≡ (if nat_lt k o.seq then [] else phase_packets setting c.stamp.brick c)
-      resent_to_call zero =
-          sym (cond-true (nat_lt 0 o.seq) [] (phase_packets setting c.stamp.brick c)
-          (lt-ltb 0 o.seq (let some = (books.operations n o at.operation_is).called.0 in omega (arith, some))))
-      resent_to_call (suc k) =
-          filter-append is_n (resent_up_to setting brick (w.nodes brick.0).calls k) (resent setting brick ((w.nodes brick.0).calls (suc k)))
-          ∙ ap (λ (l : List Packet). l ++ filter is_n (resent setting brick ((w.nodes brick.0).calls (suc k)))) (resent_to_call k)
-          ∙ ⊎_elim
-          (λ (same : suc k ≡ o.seq).
-          ap (λ (b : Bool). (if b then [] else phase_packets setting c.stamp.brick c) ++ filter is_n (resent setting brick ((w.nodes brick.0).calls (suc k))))
-          (lt-ltb k o.seq (omega (arith, same)))
-          ∙ ap (λ (l : ℕ). filter is_n (resent setting brick ((w.nodes brick.0).calls l))) same ∙ resent_own
-          ∙ sym (cond-false (nat_lt (suc k) o.seq) [] (phase_packets setting c.stamp.brick c) (le-ltb (suc k) o.seq (omega (arith, same)))))
-          (λ (other : suc k ≢ o.seq).
-          ap (λ (l : List Packet). (if nat_lt k o.seq then [] else phase_packets setting c.stamp.brick c) ++ l) (resent_other (suc k) other)
-          ∙ append-nil (if nat_lt k o.seq then [] else phase_packets setting c.stamp.brick c)
-          ∙ ap (λ (b : Bool). if b then [] else phase_packets setting c.stamp.brick c) (same_side k other))
-          (cases_eq (suc k) o.seq)
+      -- so it is among any calls up to one that is not before it, of which the operation's sends this, and no other anything of the operation
+      module _ (some_calls : ℕ → Option Coordinator) (mine : List Packet) (its_own : filter is_n (resent setting brick (some_calls o.seq)) ≡ mine)
+          (others : (k : ℕ) → k ≢ o.seq → filter is_n (resent setting brick (some_calls k)) ≡ []) where
+        same_side : (k : ℕ) → suc k ≢ o.seq → nat_lt k o.seq ≡ nat_lt (suc k) o.seq
+        same_side k other = ⊎_elim
+            (λ (less : nat_lt (suc k) o.seq ≡ true).
+            lt-ltb k o.seq (let below = ltb-true (suc k) o.seq less in omega (arith, below)) ∙ sym less)
+            (λ (most : nat_lt (suc k) o.seq ≡ false).
+            le-ltb k o.seq (let above = ltb-false (suc k) o.seq most in ⊎_elim
+            (λ (lower : k < o.seq). absurd (other (omega (arith, above, lower)))) (λ (rest : o.seq ≤ k). rest) (cases_lt k o.seq)) ∙ sym most)
+            (cases_Bool (nat_lt (suc k) o.seq))
+
+        resent_to_call : (k : ℕ) → filter is_n (resent_up_to setting brick some_calls k) ≡ (if nat_lt k o.seq then [] else mine)
+        resent_to_call zero =
+            sym (cond-true (nat_lt 0 o.seq) [] mine
+            (lt-ltb 0 o.seq (let some = (books.operations n o at.operation_is).called.0 in omega (arith, some))))
+        resent_to_call (suc k) =
+            filter-append is_n (resent_up_to setting brick some_calls k) (resent setting brick (some_calls (suc k)))
+            ∙ ap (λ (l : List Packet). l ++ filter is_n (resent setting brick (some_calls (suc k)))) (resent_to_call k)
+            ∙ ⊎_elim
+            (λ (same : suc k ≡ o.seq).
+            ap (λ (b : Bool). (if b then [] else mine) ++ filter is_n (resent setting brick (some_calls (suc k)))) (lt-ltb k o.seq (omega (arith, same)))
+            ∙ ap (λ (l : ℕ). filter is_n (resent setting brick (some_calls l))) same ∙ its_own
+            ∙ sym (cond-false (nat_lt (suc k) o.seq) [] mine (le-ltb (suc k) o.seq (omega (arith, same)))))
+            (λ (other : suc k ≢ o.seq).
+            ap (λ (l : List Packet). (if nat_lt k o.seq then [] else mine) ++ l) (others (suc k) other)
+            ∙ append-nil (if nat_lt k o.seq then [] else mine)
+            ∙ ap (λ (b : Bool). if b then [] else mine) (same_side k other))
+            (cases_eq (suc k) o.seq)
+
+        resent_all : filter is_n (resent_up_to setting brick some_calls (w.nodes brick.0).seq) ≡ mine
+        resent_all =
+            resent_to_call (w.nodes brick.0).seq
+            ∙ cond-false (nat_lt (w.nodes brick.0).seq o.seq) [] mine (le-ltb (w.nodes brick.0).seq o.seq within)
+          where
+            within : o.seq ≤ (w.nodes brick.0).seq
+            within =
+                let most = (books.operations n o at.operation_is).called.1 (sym at.boot) in
+                subst (λ (j : ℕ). o.seq ≤ (w.nodes j).seq) own most
+
+      -- the read of a synchronisation is sent again last: the operation is that, or among the others
+      resent_once : (job : Option Job)
+          → filter is_n (resent_up_to setting brick (calls_but_read (w.nodes brick.0).calls job) (w.nodes brick.0).seq)
+          ++ filter is_n (resent setting brick (job_call (w.nodes brick.0).calls job))
+          ≡ phase_packets setting c.stamp.brick c
+      resent_once None =
+          append-nil (filter is_n (resent_up_to setting brick (w.nodes brick.0).calls (w.nodes brick.0).seq))
+          ∙ resent_all (w.nodes brick.0).calls (phase_packets setting c.stamp.brick c) resent_own resent_other
+      resent_once (Some job) = ⊎_elim
+          (λ (same : job.seq ≡ o.seq).
+          ap (λ (l : List Packet). l ++ filter is_n (resent setting brick ((w.nodes brick.0).calls job.seq)))
+          (resent_all but_read []
+          (ap (λ (z : Option Coordinator). filter is_n (resent setting brick z))
+          (ap (λ (k : ℕ). put (w.nodes brick.0).calls k None o.seq) same ∙ put_same (w.nodes brick.0).calls o.seq None)) but_others)
+          ∙ ap (λ (k : ℕ). filter is_n (resent setting brick ((w.nodes brick.0).calls k))) same ∙ resent_own)
+          (λ (other : job.seq ≢ o.seq).
+          ap (λ (l : List Packet). filter is_n (resent_up_to setting brick but_read (w.nodes brick.0).seq) ++ l) (resent_other job.seq other)
+          ∙ append-nil (filter is_n (resent_up_to setting brick but_read (w.nodes brick.0).seq))
+          ∙ resent_all but_read (phase_packets setting c.stamp.brick c)
+          (ap (λ (z : Option Coordinator). filter is_n (resent setting brick z))
+          (put_other (w.nodes brick.0).calls job.seq None o.seq (λ same. other (sym same))) ∙ resent_own) but_others)
+          (cases_eq job.seq o.seq)
         where
-          same_side : (k : ℕ) → suc k ≢ o.seq → nat_lt k o.seq ≡ nat_lt (suc k) o.seq
-          same_side k other = ⊎_elim
-              (λ (less : nat_lt (suc k) o.seq ≡ true).
-              lt-ltb k o.seq (let below = ltb-true (suc k) o.seq less in omega (arith, below)) ∙ sym less)
-              (λ (most : nat_lt (suc k) o.seq ≡ false).
-              le-ltb k o.seq (let above = ltb-false (suc k) o.seq most in ⊎_elim
-              (λ (lower : k < o.seq). absurd (other (omega (arith, above, lower)))) (λ (rest : o.seq ≤ k). rest) (cases_lt k o.seq)) ∙ sym most)
-              (cases_Bool (nat_lt (suc k) o.seq))
+          but_read : ℕ → Option Coordinator
+          but_read = put (w.nodes brick.0).calls job.seq None
+
+          but_others : (k : ℕ) → k ≢ o.seq → filter is_n (resent setting brick (but_read k)) ≡ []
+          but_others k other =
+              put_each (λ j (z : Option Coordinator). j ≢ o.seq → filter is_n (resent setting brick z) ≡ []) (w.nodes brick.0).calls job.seq None
+              (λ apart. refl) (λ j unlike apart. resent_other j apart) k other
 
       once_more : IsFresh setting ticked_world n c
       unfolding ticked
@@ -256,21 +293,25 @@ module _ (setting : Setting) (w : World) (books : Books setting w) (calls : Call
         packets =
             packets_added w ticked_world n ticked_packets refl (λ j packet at'. refl)
             ∙ ap (λ (l : List Packet). packets_of w n ++ l) (
-            filter-append is_n (resent_up_to setting brick (w.nodes brick.0).calls (w.nodes brick.0).seq) (ballot_resent brick (w.nodes brick.0).proposal)
-            ∙ ap (λ (l : List Packet). filter is_n (resent_up_to setting brick (w.nodes brick.0).calls (w.nodes brick.0).seq) ++ l)
-            (filter_none is_n (ballot_resent brick (w.nodes brick.0).proposal)
-            (λ j packet at'. ne_eqb (operation_of w packet) n (λ same. let none = ballots_are j packet at' in let from = from_one in omega (arith, none, same, from))))
-            ∙ append-nil (filter is_n (resent_up_to setting brick (w.nodes brick.0).calls (w.nodes brick.0).seq))
-            ∙ resent_to_call (w.nodes brick.0).seq
-            ∙ cond-false (nat_lt (w.nodes brick.0).seq o.seq) [] (phase_packets setting c.stamp.brick c) (le-ltb (w.nodes brick.0).seq o.seq within))
+            filter-append is_n others (ballots ++ reads)
+            ∙ ap (λ (l : List Packet). filter is_n others ++ l)
+            (filter-append is_n ballots reads
+            ∙ ap (λ (l : List Packet). l ++ filter is_n reads)
+            (filter_none is_n ballots
+            (λ j packet at'. ne_eqb (operation_of w packet) n (λ same. let none = ballots_are j packet at' in let from = from_one in omega (arith, none, same, from)))))
+            ∙ resent_once (w.nodes brick.0).job)
             ∙ ap (λ (l : List Packet). l ++ phase_packets setting c.stamp.brick c) its.packets
             ∙ repeated_more (suc its.copies) (phase_packets setting c.stamp.brick c);
       }
         where
-          within : o.seq ≤ (w.nodes brick.0).seq
-          within =
-              let most = (books.operations n o at.operation_is).called.1 (sym at.boot) in
-              subst (λ (j : ℕ). o.seq ≤ (w.nodes j).seq) own most
+          others : List Packet
+          others = resent_up_to setting brick (calls_but_read (w.nodes brick.0).calls (w.nodes brick.0).job) (w.nodes brick.0).seq
+
+          ballots : List Packet
+          ballots = ballot_resent brick (w.nodes brick.0).proposal
+
+          reads : List Packet
+          reads = resent setting brick (job_call (w.nodes brick.0).calls (w.nodes brick.0).job)
 
     pub ticked_fresh : AreFresh setting ticked_world
     ticked_fresh n c opens untouched =

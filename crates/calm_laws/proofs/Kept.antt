@@ -11,8 +11,11 @@ use Rattle.messages.specs.declared.replies.Reply.{Reply}
 use Rattle.messages.specs.declared.requests.Request.{Request}
 use Rattle.protocol.specs.Views.{is_later, view_told}
 use Rattle.protocol.specs.Coordinators.{Coordinator, Next, Ignores, Waits, Sends, Makes, Ends, on_reply}
-use Rattle.protocol.specs.Nodes.{Node, NodeStep, put, requested, replied_at, received, carried_out, known_after, fresh_stamp, invoked, began, group_at, stopped, restarted, first_node, proposed, heard, with_known, with_round, with_learnt, node_taught_by, view_counted, lists_fit}
+use Rattle.protocol.specs.Nodes.{reading as reading_node, carried_for, job_reading, read_closed, synced_at, with_job, Node, NodeStep, put, requested, replied_at, received, carried_out, known_after, fresh_stamp, invoked, began, group_at, stopped, restarted, first_node, proposed, heard, with_known, with_round, with_learnt, node_taught_by, view_counted, lists_fit}
 use Rattle.protocol.specs.Settings.{Setting}
+use Rattle.protocol.specs.Jobs.{Job, begun_job}
+use Rattle.view_laws.proofs.SyncReads.{carried_each, synced_at_each, read_call}
+use Rattle.fab_base.specs.declared.identities.GroupId.{GroupId}
 use Rattle.protocol.specs.Worlds.{World, Event, Found, Before, After, first_world, world_found, run}
 use Rattle.protocol_laws.specs.Laws.{WasSent}
 use Rattle.protocol_laws.proofs.BooksEvents.{start_fits}
@@ -64,6 +67,31 @@ module _ (setting : Setting) (P : Node → Type 0) (same : IsOfParts P) (request
   decision_keeps me node known c (Ends answer seen stored) =
       same node (carried_out setting me node known c (Ends answer seen stored)).node (record { learnt = refl; live = refl; live_in = refl; replicas = refl })
 
+  -- after its step, or after a read of the brick's synchronisation, which may be followed by another
+  goes_keeps : (me : BrickId) (now : ℕ) (node : Node) (known : ℕ) (c : Coordinator) (z : Next) (reading : Option Job) → P node
+      → P (carried_for setting me now node known c z reading).node
+  goes_keeps me now node known c z reading holds =
+      carried_each (λ (step : NodeStep). P step.node) setting me now node known c z reading (decision_keeps me node known c z holds)
+      (λ job is answer seen stored ends.
+      let closed : Node = (read_closed me node known c answer seen stored).node in
+      record {
+        stays = same node closed (record { learnt = refl; live = refl; live_in = refl; replicas = refl }) holds;
+        ends = λ told. same node (with_job closed None) (record { learnt = refl; live = refl; live_in = refl; replicas = refl }) holds;
+        finishes = same node (with_job closed None) (record { learnt = refl; live = refl; live_in = refl; replicas = refl }) holds;
+        reads = λ attempt group kept.
+            same node (reading_node closed (record job { attempt = attempt }) (read_call group (record job { attempt = attempt }) me now closed))
+            (record { learnt = refl; live = refl; live_in = refl; replicas = refl }) holds;
+      })
+
+  -- and after one begins
+  synced_keeps : (me : BrickId) (now : ℕ) (node : Node) (group : GroupId) → P node → P (synced_at setting me now node group).node
+  synced_keeps me now node group holds =
+      synced_at_each (λ (step : NodeStep). P step.node) setting me now node group holds (λ told. holds)
+      (λ told. same node (with_job node None) (record { learnt = refl; live = refl; live_in = refl; replicas = refl }) holds)
+      (λ kept is.
+      let job = begun_job group (node.learnt group.0).view in
+      same node (reading_node node job (read_call kept job me now node)) (record { learnt = refl; live = refl; live_in = refl; replicas = refl }) holds)
+
   -- after a reply to an operation or to a proposal
   replied_keeps : (me : BrickId) (now : ℕ) (from : BrickId) (node : Node) (call : Call) (reply : Reply) (found : Option Coordinator) → P node
       → P (replied_at setting me now from node call reply found).node
@@ -73,8 +101,9 @@ module _ (setting : Setting) (P : Node → Type 0) (same : IsOfParts P) (request
       same node (record (with_known node (known_after node.known reply)) { seq = seq; round = round; proposal = proposal })
       (record { learnt = refl; live = refl; live_in = refl; replicas = refl }) holds)
   replied_keeps me now from node call reply (Some c) holds =
-      decision_keeps me node (known_after node.known reply) c
-      (on_reply setting.layout.block setting.code (fresh_stamp me c.stamp.view now node.boot (known_after node.known reply)) c from call reply) holds
+      goes_keeps me now node (known_after node.known reply) c
+      (on_reply setting.layout.block setting.code (fresh_stamp me c.stamp.view now node.boot (known_after node.known reply)) c from call reply)
+      (job_reading node.job c.call.seq) holds
 
   -- after a reply, which may teach a view
   heard_keeps : (me : BrickId) (now : ℕ) (from : BrickId) (node : Node) (call : Call) (reply : Reply) → NodeViews setting.layout node → P node
@@ -159,6 +188,9 @@ module _ (setting : Setting) (P : Node → Type 0) (same : IsOfParts P) (request
         (λ seq round proposal packets reports more are.
         same (w.nodes brick.0) (record (w.nodes brick.0) { seq = seq; round = round; proposal = proposal })
         (record { learnt = refl; live = refl; live_in = refl; replicas = refl }) (all brick.0)));
+    syncs = λ brick group may.
+        have_by w brick.0 (synced_at setting brick (w.clocks brick.0) (w.nodes brick.0) group).node all
+        (synced_keeps brick (w.clocks brick.0) (w.nodes brick.0) group (all brick.0));
     handles = λ number packet at up.
         have_by w packet.to.0 (step_on setting w packet).node all
         (message_keeps (w.clocks packet.to.0) packet.from packet.to (w.nodes packet.to.0) packet.message (known.1.nodes packet.to.0) (all packet.to.0));

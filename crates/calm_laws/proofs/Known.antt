@@ -7,7 +7,7 @@ use Rattle.std.specs.Prelude.{filter, nat_eq, slice_get, map, ◌-◌}
 use Rattle.protocol_laws.proofs.Logs.{LogAscends}
 use Rattle.calm_laws.specs.Laws.{most_records}
 use Rattle.fab_base.specs.Layouts.{brick_at, group_of, seat_in, Group}
-use Rattle.fab_base.specs.Stamps.{first_stamp, stamp_below}
+use Rattle.fab_base.specs.Stamps.{stamp_below}
 use Rattle.fab_base.specs.declared.stamps.Stamp.{Stamp}
 use Rattle.messages.specs.declared.requests.Version.{Version}
 use Rattle.protocol.specs.Calms.{operation_of, may_ask_prior}
@@ -28,6 +28,8 @@ pub record KnownCall (setting : Setting) (w : World) (n : ℕ) (o : Operation) (
   pub brick : is_brick setting.layout o.brick ≡ true
   pub ask : c.ask ≡ o.ask
   pub number : w.numbers o.brick.0 o.boot o.seq ≡ n
+  pub begun : n ≤ w.begun
+  pub called : o.seq ≤ (w.nodes o.brick.0).seq
   pub boot : c.call.boot ≡ o.boot
   pub seq : c.call.seq ≡ o.seq
   pub of_group : c.call.group ≡ c.ask.group

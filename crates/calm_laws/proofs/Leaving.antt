@@ -1,6 +1,6 @@
 -- Where just a quorum of an operation's members hear one another, its Collects leave each of them its version only.
 use Rattle.protocol.specs.Views.{kept_by}
-use Rattle.std.proofs.Common.{◌≡◌, ℕ, suc, ◌+◌, ◌≤◌, ◌&&◌, true, nat_lt, List, [], ◌∷◌, ◌++◌, map, Option, Some, None, refl, sym, ap, ◌∙◌, subst, ⊎_elim, take, eqb-true, inl}
+use Rattle.std.proofs.Common.{◌≡◌, ℕ, suc, ◌+◌, ◌≤◌, ◌&&◌, false, true, nat_lt, List, [], ◌∷◌, ◌++◌, map, Option, Some, None, refl, sym, ap, ◌∙◌, subst, ⊎_elim, take, eqb-true, inl}
 use Rattle.std.specs.Prelude.{is_some, nat_eq, slice_get, ◌-◌}
 use Rattle.std.proofs.lemmas.Bool.{false≢true, or_cases, and_from, cond-true}
 use Rattle.std.proofs.lemmas.Option.{same_Some}
@@ -26,7 +26,7 @@ use Rattle.protocol_laws.proofs.BooksEvents.{books, brick_of}
 use Rattle.protocol_laws.proofs.Falls.{always_logged}
 use Rattle.protocol_laws.proofs.Logs.{LogAscends}
 use Rattle.protocol_laws.proofs.Outcomes.{IsLook}
-use Rattle.protocol.proofs.Tables.{get_added}
+use Rattle.protocol.proofs.Tables.{get_added, get_kept}
 use Rattle.calm_laws.proofs.Calmness.{each_counts, finishes}
 use Rattle.calm_laws.proofs.Casting.{chosen, seat_some}
 use Rattle.calm_laws.proofs.Collecting.{all_leave}
@@ -39,7 +39,7 @@ use Rattle.protocol.proofs.Events.{run-append}
 use Rattle.calm_laws.proofs.Scenes.{Each, EndsAt, IsNewest, Part, Stage, view_ahead}
 use Rattle.calm_laws.proofs.Shows.{IsMember}
 use Rattle.calm_laws.proofs.Storing.{held_newest}
-use Rattle.calm_laws.specs.Laws.{AreCollects, AreJustQuorum, CollectsLeaveOne, EncodesBlocks, HasOnly, IsCollect, IsMemberAmong, LeavesOne, most_records}
+use Rattle.calm_laws.specs.Laws.{AreCollects, AreJustQuorum, CollectsLeaveOne, EncodesBlocks, HasOnly, HasStripe, IsCollect, IsMemberAmong, LeavesOne, most_records}
 use Rattle.calm_laws.specs.Logs.{is_stripe, log_in}
 use Rattle.quorum.specs.Quorums.{quorum_of}
 
@@ -51,6 +51,7 @@ made_is c o Orders unmade made = absurd (false≢true (sym unmade.1 ∙ made))
 made_is c o (OrdersAt j) unmade made = absurd (false≢true (sym unmade.1 ∙ made))
 made_is c o Recovers unmade made = absurd (false≢true (sym unmade.1 ∙ made))
 made_is c o (Descends bound) unmade made = absurd (false≢true (sym unmade.1 ∙ made))
+made_is c o (LooksBack bound) unmade made = absurd (false≢true (sym unmade.1 ∙ made))
 made_is c o (Modifies base j) is made = is.0
 made_is c o (Bases base) is made = is.0
 made_is c o Stores is made = is
@@ -115,7 +116,7 @@ ends_stored stage c o parts t None (Some u) its made version ends =
 
 module _ (setting : Setting) (events : List Event) (n : ℕ) (bricks : List BrickId) (sound : IsSound setting) (encodes : EncodesBlocks setting)
     (small : setting.layout.records ≤ most_records) (calm : IsCalm setting (run setting events (first_world setting.layout)) n bricks)
-    (exactly : AreJustQuorum calm.coordinator bricks) (t : Stamp) where
+    (has_stripe : HasStripe setting calm.operation) (exactly : AreJustQuorum calm.coordinator bricks) (t : Stamp) where
   abbrev w : World
   w = run setting events (first_world setting.layout)
 
@@ -123,7 +124,7 @@ module _ (setting : Setting) (events : List Event) (n : ℕ) (bricks : List Bric
   c = calm.coordinator
 
   known : Known setting w n calm.operation c bricks
-  known = known_of setting events n bricks sound encodes small calm
+  known = known_of setting events n bricks sound encodes small calm has_stripe
 
   abbrev stage : Stage
   stage = record {
@@ -247,12 +248,13 @@ module _ (setting : Setting) (events : List Event) (n : ℕ) (bricks : List Bric
       was_sent =
           let there = sent_each calm.operation.brick d.call (Request.Collect t) 0 d.group.members brick
           (ap (λ g. is_some (seat_in g.members brick.0)) end.same.group ∙ among.1) in
-          let at = get_added before.packets (to_members calm.operation.brick d.call (λ j. Request.Collect t) 0 d.group.members) there.0 _ there.1 in (
+          let collects : List Packet = to_members calm.operation.brick d.call (λ j. Request.Collect t) 0 d.group.members in
+          let at = get_added before.packets (collects ++ end.more) there.0 _ (get_kept collects end.more there.0 _ there.1) in (
             suc at.0,
             record {
               phase = d.call.phase;
               is = ap (λ (l : List Packet). slice_get l at.0)
-                  (end.packets ∙ ap (λ (z : Option Stamp). before.packets ++ collect_packets calm.operation.brick d z) was_stored.0)
+                  (end.packets ∙ ap (λ (z : Option Stamp). before.packets ++ (collect_packets calm.operation.brick d z ++ end.more)) was_stored.0)
                   ∙ at.1
                   ∙ ap (λ (call : Call). Some (let packet : Packet
                   = record { from = calm.operation.brick; to = brick; message = Message.Request call (Request.Collect t) } in packet))
@@ -266,12 +268,12 @@ module _ (setting : Setting) (events : List Event) (n : ℕ) (bricks : List Bric
 
 -- after every schedule
 pub collects_leave : CollectsLeaveOne
-collects_leave setting events n bricks sound encodes small calm alone last runs exactly operation t is made version =
+collects_leave setting events n bricks sound encodes small calm has_stripe alone last runs exactly operation t is made version =
     let w : World = run setting events (first_world setting.layout) in
-    let finish = finishes setting sound encodes w n bricks calm (known_of setting events n bricks sound encodes small calm) in
+    let finish = finishes setting sound encodes w n bricks calm (known_of setting events n bricks sound encodes small calm has_stripe) in
     let same : finish.last ≡ last = (runs_once setting n bricks w finish.events finish.last finish.alone alone last runs).1 in
     let its : finish.end.operation ≡ operation
     = same_Some finish.end.operation operation (sym finish.end.is ∙ ap (λ (z : World). z.operations n) same ∙ is) in
     subst (λ (z : World). LeavesOne setting z calm.operation calm.coordinator t bricks) same
-    (leaves_one setting events n bricks sound encodes small calm exactly t finish
+    (leaves_one setting events n bricks sound encodes small calm has_stripe exactly t finish
     (ap (λ (o : Operation). o.made) its ∙ made) (ap (λ (o : Operation). o.version) its ∙ version))

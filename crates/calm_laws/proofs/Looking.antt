@@ -9,7 +9,6 @@ use Rattle.calm_laws.proofs.Descending.{Lore, after_replies, having}
 use Rattle.calm_laws.proofs.FirstRounds.{IsFirst, IsLow}
 use Rattle.calm_laws.proofs.Hearing.{known_through}
 use Rattle.protocol_laws.proofs.Logs.{newest_stands}
-use Rattle.calm_laws.proofs.OrderPhases.{after_in_phase}
 use Rattle.calm_laws.proofs.OrderRuns.{IsUnheld}
 use Rattle.calm_laws.proofs.Ordering.{told_from}
 use Rattle.calm_laws.proofs.PhaseRuns.{Cast, known_then, open_run, stale_then}

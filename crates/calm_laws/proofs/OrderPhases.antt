@@ -1,6 +1,5 @@
 -- The three phases that order, alone: each closes, in its first round or in its second.
-use Rattle.fab_base.specs.Layouts.{Group}
-use Rattle.std.proofs.Common.{List, [], ap, arith, false, inl, inr, map, refl, true, ℕ, ◌+◌, ◌<◌, ◌∙◌, ◌∷◌, ◌≡◌, ◌≤◌, sym}
+use Rattle.std.proofs.Common.{List, [], ap, arith, false, inl, inr, map, refl, true, ℕ, ◌+◌, ◌<◌, ◌∙◌, ◌∷◌, ◌≡◌, ◌≤◌}
 use Rattle.std.specs.Prelude.{◌-◌, ◌^◌}
 use Rattle.calm_laws.proofs.Asking.{Holds, each_then}
 use Rattle.calm_laws.proofs.Counts.{Carries, counted_of}

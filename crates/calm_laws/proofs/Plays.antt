@@ -7,15 +7,15 @@ use Rattle.protocol.specs.Views.{first_kept}
 use Rattle.messages.specs.declared.requests.Request.{Request}
 use Rattle.fab_base.specs.declared.stamps.Stamp.{Stamp}
 use Rattle.protocol_laws.proofs.Books.{version_after}
-use Rattle.std.proofs.Common.{Bool, arith, false, not, ◌&&◌, List, None, Option, Some, [], ap, cond, refl, subst, sym, true, ℕ, ⊎_elim, ◌++◌, ◌+◌, ◌∙◌, ◌∷◌, ◌≡◌, ◌≢◌}
+use Rattle.std.proofs.Common.{Bool, arith, false, not, ◌&&◌, List, None, Option, Some, [], ap, cond, refl, subst, suc, sym, true, zero, ℕ, ⊎_elim, ◌++◌, ◌+◌, ◌<◌, ◌∙◌, ◌∷◌, ◌≡◌, ◌≢◌}
 use Rattle.std.proofs.lemmas.Bool.{and_parts, cases_eq, eq-eqb, or_from, false≢true, ltb-true, le-ltb, lt-ltb, ne_eqb, eqb-false}
 use Rattle.std.proofs.lemmas.Bool.Decides.{nat_tests}
-use Rattle.std.specs.Prelude.{filter, is_some, nat_eq, nat_lt, ◌-◌}
+use Rattle.std.specs.Prelude.{filter, is_some, nat_eq, nat_lt, ◌-◌, ◌||◌}
 use Rattle.calm_laws.proofs.Queues.{IsHead, head_of}
 use Rattle.calm_laws.proofs.Scenes.{Each, Fits, IsSeated, Part, Scene, Seated, Stage, asked, asked_of, asking, part_after, reaction, replies_from, replying, EndsAt, SameCall, IsInView, call_of, IsBack, IsSeatedBack, found_back}
 use Rattle.calm_laws.proofs.Shows.{IsMove, IsPart, Shows, delivers_so, open_at_is, put_field, world_by, IsMember, IsOld}
 use Rattle.protocol.proofs.Puts.{put_other}
-use Rattle.protocol.proofs.Tables.{put_same, put_each, put_other}
+use Rattle.protocol.proofs.Tables.{put_same, put_each}
 use Rattle.fab_base.specs.Layouts.{Group, seat_in}
 use Rattle.fab_base.specs.declared.identities.BrickId.{BrickId}
 use Rattle.messages.specs.declared.calls.Call.{Call}
@@ -23,7 +23,7 @@ use Rattle.messages.specs.declared.packets.Packet.{Packet}
 use Rattle.messages.specs.declared.replies.Reply.{Reply}
 use Rattle.protocol.specs.Calms.{RunsAlone, goes_among, is_left, is_one_of, open_at, open_call, operation_of, Ended}
 use Rattle.protocol.specs.Coordinators.{Coordinator, looks_back}
-use Rattle.protocol.specs.Nodes.{Node, NodeStep, fits, full_at, has_accepted, is_now, is_void, moved_at, no_step, put, reacted, received, replica_at, reply_packets, requested, requested_as, requested_at, requested_in, seat_now, served_unless, view_at, with_replica, collect_packets, old_reply, sending}
+use Rattle.protocol.specs.Nodes.{Node, NodeStep, fits, full_at, group_at, has_accepted, is_now, is_void, moved_at, no_step, put, reacted, received, replica_at, reply_packets, requested, requested_as, requested_at, requested_in, seat_now, served_unless, view_at, with_replica, collect_packets, old_reply, sending}
 use Rattle.protocol.specs.Ballots.{moved_to}
 use Rattle.protocol.specs.Settings.{Setting}
 use Rattle.protocol.specs.Coordinators.{request_of}
@@ -35,7 +35,8 @@ use Rattle.protocol.specs.Worlds.{Delivers, Event, Operation, World, happens, is
 use Rattle.protocol.specs.Calms.{Next as Goes_on}
 
 -- The operation has ended, and was answered: the world before its last delivery, its coordinator there, and how that answers. What it made is what it
--- had made, its version is what it had or what it saw at once, and what the bricks keep of its stripe stays.
+-- had made, its version is what it had or what it saw at once, and what the bricks keep of its stripe stays. The last delivery sends its Collects, and what follows:
+-- where it was a read of a synchronisation, that may go on.
 pub record HasEnded (stage : Stage) (n : ℕ) (c : Coordinator) (w last : World) : Type 0 where
   pub closed : open_call last n ≡ None
   pub operation : Operation
@@ -56,7 +57,8 @@ pub record HasEnded (stage : Stage) (n : ℕ) (c : Coordinator) (w last : World)
   pub ends : EndsAt stage coordinator.phase coordinator.stamp parts seen stored
   pub members : (brick : BrickId) → is_one_of stage.bricks brick ≡ true → IsMember stage last stage.call brick
   pub kept : (brick : BrickId) → is_one_of stage.bricks brick ≡ true → replica_at (last.nodes brick.0) stage.call ≡ (parts brick.0).replica
-  pub packets : last.packets ≡ (run stage.setting events w).packets ++ collect_packets stage.me coordinator stored
+  pub more : List Packet
+  pub packets : last.packets ≡ (run stage.setting events w).packets ++ (collect_packets stage.me coordinator stored ++ more)
 
 -- The operation's deliveries come to their end, and it is answered.
 pub record Finishes (stage : Stage) (n : ℕ) (c : Coordinator) (w : World) : Type 0 where
@@ -100,6 +102,7 @@ ended_from stage n c d w last event same end = record {
   ends = end.ends;
   members = end.members;
   kept = end.kept;
+  more = end.more;
   packets = end.packets;
 }
 
@@ -399,7 +402,9 @@ asked_move stage n w s x rest number shows seated in_view = record {
   seq = refl;
   up = refl;
   clocks = refl;
+  begun = refl;
   node_boot = put_field (λ (z : Node). z.boot) w.nodes x.brick.0 node refl stage.me.0;
+  node_seq = put_field (λ (z : Node). z.seq) w.nodes x.brick.0 node refl stage.me.0;
   call = put_field (λ (z : Node). z.calls s.c.call.seq) w.nodes x.brick.0 node refl stage.me.0 ∙ shows.call;
   known = put_field (λ (z : Node). z.known) w.nodes x.brick.0 node refl stage.me.0 ∙ shows.known;
   learnt = put_field (λ (z : Node). z.learnt) w.nodes x.brick.0 node refl;
@@ -468,7 +473,9 @@ back_move stage n w s x rest reply number shows one = record {
   seq = refl;
   up = refl;
   clocks = refl;
+  begun = refl;
   node_boot = put_field (λ (z : Node). z.boot) w.nodes x.brick.0 (w.nodes x.brick.0) refl stage.me.0;
+  node_seq = put_field (λ (z : Node). z.seq) w.nodes x.brick.0 (w.nodes x.brick.0) refl stage.me.0;
   call = put_field (λ (z : Node). z.calls s.c.call.seq) w.nodes x.brick.0 (w.nodes x.brick.0) refl stage.me.0 ∙ shows.call;
   known = put_field (λ (z : Node). z.known) w.nodes x.brick.0 (w.nodes x.brick.0) refl stage.me.0 ∙ shows.known;
   learnt = put_field (λ (z : Node). z.learnt) w.nodes x.brick.0 (w.nodes x.brick.0) refl;

@@ -2,7 +2,7 @@
 -- leads to a world that shows the next scene.
 use Rattle.protocol.specs.Replicas.{Replica}
 use Rattle.synod_laws.specs.Synods.{Kept}
-use Rattle.std.proofs.Common.{false, Bool, List, None, Option, Some, ap, arith, cond, length, subst, suc, sym, true, ℕ, ⊎_elim, ◌&&◌, ◌++◌, ◌+◌, ◌<◌, ◌∙◌, ◌≡◌}
+use Rattle.std.proofs.Common.{false, Bool, List, None, Option, Some, ap, arith, cond, length, subst, suc, sym, true, ℕ, ⊎_elim, ◌&&◌, ◌++◌, ◌+◌, ◌<◌, ◌≤◌, ◌∙◌, ◌≡◌}
 use Rattle.std.proofs.lemmas.Bool.{eq-eqb, ne_eqb}
 use Rattle.std.proofs.lemmas.List.{length-append}
 use Rattle.std.proofs.lemmas.Option.{slice_get_within}
@@ -14,7 +14,6 @@ use Rattle.fab_base.specs.declared.identities.BrickId.{BrickId}
 use Rattle.messages.specs.declared.calls.Call.{Call}
 use Rattle.messages.specs.declared.packets.Packet.{Packet}
 use Rattle.protocol.specs.Calms.{goes_among, is_left, is_one_of, open_at}
-use Rattle.protocol.specs.Coordinators.{Coordinator}
 use Rattle.protocol.specs.Nodes.{Node, NodeStep, group_at, put, received, replica_at, view_at, has_accepted}
 use Rattle.protocol.specs.Views.{Learnt, group_kept}
 use Rattle.protocol.specs.Worlds.{Delivers, Operation, World, delivered, happens, is_up, packet_of, replies_with, voiced, world_stepped}
@@ -55,6 +54,8 @@ pub record Shows (stage : Stage) (n : ℕ) (w : World) (s : Scene) : Type 0 wher
   pub node_boot : (w.nodes stage.me.0).boot ≡ s.c.call.boot
   pub call : (w.nodes stage.me.0).calls s.c.call.seq ≡ Some s.c
   pub number : w.numbers stage.me.0 s.c.call.boot s.c.call.seq ≡ n
+  pub begun : n ≤ w.begun
+  pub within : s.c.call.seq ≤ (w.nodes stage.me.0).seq
   pub clock : w.clocks stage.me.0 ≡ stage.now
   pub known : (w.nodes stage.me.0).known ≡ s.known
   pub of : IsOf stage s.c
@@ -73,7 +74,9 @@ pub record IsMove (stage : Stage) (n : ℕ) (w later : World) (s next : Scene) (
   pub seq : operation_later.seq ≡ operation.seq
   pub up : later.up ≡ w.up
   pub clocks : later.clocks ≡ w.clocks
+  pub begun : later.begun ≡ w.begun
   pub node_boot : (later.nodes stage.me.0).boot ≡ (w.nodes stage.me.0).boot
+  pub node_seq : (later.nodes stage.me.0).seq ≡ (w.nodes stage.me.0).seq
   pub call : (later.nodes stage.me.0).calls s.c.call.seq ≡ Some next.c
   pub known : (later.nodes stage.me.0).known ≡ next.known
   pub learnt : (i : ℕ) → (later.nodes i).learnt ≡ (w.nodes i).learnt
@@ -116,6 +119,8 @@ shows_next stage n w later s next packet rest sent shows head move = record {
   number = ap (λ (f : ℕ → ℕ → ℕ → ℕ). f stage.me.0 next.c.call.boot next.c.call.seq) move.delivery.numbers
       ∙ ap (λ (b : ℕ). w.numbers stage.me.0 b next.c.call.seq) move.same.boot
       ∙ ap (λ (k : ℕ). w.numbers stage.me.0 s.c.call.boot k) move.same.seq ∙ shows.number;
+  begun = subst (λ (k : ℕ). n ≤ k) (sym move.begun) shows.begun;
+  within = let calls = move.same.seq in let nodes = move.node_seq in let was = shows.within in omega (arith, calls, nodes, was);
   clock = ap (λ (f : ℕ → ℕ). f stage.me.0) move.clocks ∙ shows.clock;
   known = move.known;
   of = of_same stage s.c next.c move.same shows.of;

@@ -5,12 +5,13 @@ use Rattle.messages.specs.declared.requests.Request.{Request}
 use Rattle.messages.specs.declared.packets.Message.{Message}
 use Rattle.fab_base.specs.declared.stamps.Stamp.{Stamp}
 use Rattle.fab_base.specs.declared.asks.Ask.{Ask}
-use Rattle.fab_base.specs.Layouts.{Layout, seat_in}
-use Rattle.std.proofs.Common.{List, None, Some, length, true, ℕ, ◌≡◌, ◌≤◌, [], ◌∷◌}
+use Rattle.fab_base.specs.Layouts.{Layout, group_of, seat_in}
+use Rattle.std.proofs.Common.{List, None, Some, length, true, ℕ, ◌≡◌, ◌≤◌, ◌⊎◌, [], ◌∷◌}
 use Rattle.std.specs.Prelude.{◌^◌, is_some, map, slice_get}
 use Rattle.fab_base.specs.declared.identities.BrickId.{BrickId}
-use Rattle.calm_laws.specs.Logs.{log_in}
+use Rattle.calm_laws.specs.Logs.{is_stripe, log_in}
 use Rattle.protocol.specs.Calms.{IsCalm, RunsAlone, open_call, is_one_of, members_among}
+use Rattle.protocol.specs.Happenings.{is_marked}
 use Rattle.protocol.specs.Settings.{IsSound, Setting}
 use Rattle.protocol.specs.Worlds.{Event, Operation, World, first_world, run, Delivers, packet_of}
 
@@ -36,12 +37,16 @@ EncodesBlocks setting = (m : ℕ) (content : List ℕ) (seat : ℕ) → length (
 abbrev pub most_records : ℕ
 most_records = 2 ^ 20
 
+-- An operation has marks, or its stripe is one of its group's: a synchronisation of a group without stripes reads one that there is not, and nobody answers it.
+abbrev pub HasStripe : Setting → Operation → Type 0
+HasStripe setting o = (is_marked o ≡ true) ⊎ (is_stripe (group_of setting.layout o.ask.group.0) o.ask.stripe.0 ≡ true)
+
 -- After every schedule: an operation whose messages among these bricks alone are delivered is answered, where it is calm.
 abbrev pub CalmOperationsEnd : Type 0
 CalmOperationsEnd =
     (setting : Setting) (events : List Event) (n : ℕ) (bricks : List BrickId) → IsSound setting → EncodesBlocks setting
-    → setting.layout.records ≤ most_records → IsCalm setting (run setting events (first_world setting.layout)) n bricks
-    → EndsAlone setting (run setting events (first_world setting.layout)) n bricks
+    → setting.layout.records ≤ most_records → (calm : IsCalm setting (run setting events (first_world setting.layout)) n bricks)
+    → HasStripe setting calm.operation → EndsAlone setting (run setting events (first_world setting.layout)) n bricks
 
 -- the packet of this number is a Collect of version t, which brick me sent to this brick under the call of this coordinator, in some phase
 pub record IsCollect (w : World) (me : BrickId) (c : Coordinator) (t : Stamp) (brick : BrickId) (number : ℕ) : Type 0 where
@@ -89,5 +94,5 @@ abbrev pub CollectsLeaveOne : Type 0
 CollectsLeaveOne =
     (setting : Setting) (events : List Event) (n : ℕ) (bricks : List BrickId) → IsSound setting → EncodesBlocks setting
     → setting.layout.records ≤ most_records → (calm : IsCalm setting (run setting events (first_world setting.layout)) n bricks)
-    → (alone : List Event) (last : World) → RunsAlone setting n bricks (run setting events (first_world setting.layout)) alone last
+    → HasStripe setting calm.operation → (alone : List Event) (last : World) → RunsAlone setting n bricks (run setting events (first_world setting.layout)) alone last
     → LeavesItsOwn setting (run setting events (first_world setting.layout)) n bricks calm last

@@ -1,5 +1,5 @@
 -- Whether a reply counts in what a brick has under way is what the machine says.
-use Rattle.std.proofs.Common.{◌≡◌, ℕ, Bool, true, false, ◌&&◌, Option, Some, None, is_some, refl, sym, ◌∙◌, ap, subst}
+use Rattle.std.proofs.Common.{◌≡◌, ℕ, Bool, true, false, cond, ◌&&◌, Option, Some, None, is_some, refl, sym, ◌∙◌, ap, subst}
 use Rattle.std.specs.Option.{option_map}
 use Rattle.std.specs.Ordering.{nat_cmp}
 use Rattle.std.specs.BTreeMap.{get}
@@ -12,21 +12,28 @@ use Rattle.messages.specs.declared.packets.Message.TheVariants as message
 use Rattle.messages.specs.declared.replies.Reply.{Reply}
 use Rattle.brick_store.specs.Bricks.{Brick}
 use Rattle.protocol.specs.Coordinators as machine
+use Rattle.protocol.specs.Coordinators.{Coordinator}
 use Rattle.protocol.specs.Nodes.{Node, counts_here, may_teach}
 use Rattle.protocol.specs.Proposals.{seat_voting}
 use Rattle.protocol.specs.Views.{is_view, view_told}
 use Rattle.view_synod.specs.Proposers.{Proposing, counts}
+use Rattle.coord_phase.specs.Operations as phased
 use Rattle.coord_phase.specs.Operations.{seat_told}
+use Rattle.node.specs.declared.jobs.OpenJob.{OpenJob}
 use Rattle.node.specs.declared.open_work.OpenWork.{OpenWork}
 use Rattle.node.specs.declared.operations.Operation.{Operation}
 use Rattle.node.specs.declared.proposals.OpenProposal.{OpenProposal}
-use Rattle.node.specs.Moves.{counts_at, counts_with}
+use Rattle.node.specs.declared.tasks.Tasks.{Tasks}
+use Rattle.node.specs.Moves.{counts_at as work_counts, counts_with}
+use Rattle.node.specs.Jobs.{calls_with, reading_in}
+use Rattle.node.specs.Tasks.{IsJobIn, AreTasksOf, counts_among, counts_at, read_seq, tasks_in}
 use Rattle.node.specs.Operations.{shown_of, coordinator_of, IsOperationOf}
 use Rattle.node.specs.Proposals.{IsUnderWayOn, counts_in, proposal_in}
 use Rattle.node.specs.Proposers.{proposal_of}
 use Rattle.node.specs.Running.{running, state_of}
 use Rattle.node.specs.States.{IsWorkOf, parts_in, state_in, state_with}
 use Rattle.node.specs.Teaching.{is_taught}
+use Rattle.node.proofs.Beside.{eq_turned}
 use Rattle.node.proofs.Views.{seen_so}
 
 module _ (layout : Layout) (from : BrickId) (call : Call) (told : Reply) where
@@ -57,30 +64,59 @@ module _ (layout : Layout) (from : BrickId) (call : Call) (told : Reply) where
   in_either work on (Some op) each =
       ap (λ (block : ℕ). is_some (machine.counts_at block (coordinator_of op) from.0 call told)) (each op refl)
 
+  -- in the read of a synchronisation, if that has the call, or else so
+  in_any : (tasks : Tasks) → IsWorkOf layout tasks.work → (job : Option OpenJob) → ((held : OpenJob) → job ≡ Some held → IsOperationOf layout held.read)
+      → counts_among tasks job call.seq from (message.Reply call told)
+      ≡ counts_here layout from call told (proposal_in tasks.work.proposals.under_way)
+      (calls_with (reading_in job) (λ k. option_map coordinator_of (get nat_cmp tasks.work.calls.operations k)) call.seq)
+  unfolding seat_told
+  in_any tasks is None each =
+      in_either tasks.work is.proposing (get nat_cmp tasks.work.calls.operations call.seq) (λ op held. (is.calls call.seq op held).is_operation)
+  in_any tasks is (Some held) each =
+      in_this (nat_eq (read_seq held) call.seq)
+      ∙ ap (λ (b : Bool). counts_here layout from call told (proposal_in tasks.work.proposals.under_way) (cond b (Some (coordinator_of held.read)) other))
+      (eq_turned (read_seq held) call.seq)
+    where
+      other : Option Coordinator
+      other = option_map coordinator_of (get nat_cmp tasks.work.calls.operations call.seq)
+
+      in_this : (b : Bool) → cond b (phased.counts (shown_of held.read) from (message.Reply call told)) (work_counts tasks.work call.seq from (message.Reply call told))
+          ≡ counts_here layout from call told (proposal_in tasks.work.proposals.under_way) (cond b (Some (coordinator_of held.read)) other)
+      in_this true = ap (λ (block : ℕ). is_some (machine.counts_at block (coordinator_of held.read) from.0 call told)) (each held refl)
+      in_this false =
+          in_either tasks.work is.proposing (get nat_cmp tasks.work.calls.operations call.seq) (λ op found. (is.calls call.seq op found).is_operation)
+
+  -- the read of a synchronisation of a brick of the layout is of that
+  read_of : (tasks : Tasks) → (job : Option OpenJob) → IsJobIn layout tasks.work.calls job → (held : OpenJob) → job ≡ Some held → IsOperationOf layout held.read
+  read_of tasks None is held same = absurd cc
+  read_of tasks (Some open_job) is held same =
+      let both : open_job ≡ held = cc in
+      subst (λ (x : OpenJob). IsOperationOf layout x.read) both is.open_is.is_operation
+
   -- so it is at a brick
-  pub counts_so : {D : Type 0} (work : OpenWork) (store : Brick D) → IsWorkOf layout work → work.calls.stamps.boot ≡ store.state.boot
-      → (let node = state_of (running layout work store) in
-      counts_at work call.seq from (message.Reply call told) ≡ counts_here layout from call told node.proposal (node.calls call.seq))
+  pub counts_so : {D : Type 0} (tasks : Tasks) (store : Brick D) → AreTasksOf layout tasks → tasks.work.calls.stamps.boot ≡ store.state.boot
+      → (let node = state_of (running layout tasks store) in
+      counts_at tasks call.seq from (message.Reply call told) ≡ counts_here layout from call told node.proposal (node.calls call.seq))
   unfolding state_with
-  counts_so work store is boot =
-      in_either work is.proposing (get nat_cmp work.calls.operations call.seq) (λ op held. (is.calls call.seq op held).is_operation)
-      ∙ ap (λ (n : Node). counts_here layout from call told n.proposal (n.calls call.seq)) (sym (seen_so layout work store boot))
+  counts_so tasks store is boot =
+      in_any tasks is.work_is tasks.job (read_of tasks tasks.job is.job_is)
+      ∙ ap (λ (n : Node). counts_here layout from call told n.proposal (n.calls call.seq)) (sym (seen_so layout tasks store boot))
 
   -- a view that may keep its group is taught where the reply that tells it counts
-  pub taught_so : {D : Type 0} (work : OpenWork) (store : Brick D) → IsWorkOf layout work → work.calls.stamps.boot ≡ store.state.boot
+  pub taught_so : {D : Type 0} (tasks : Tasks) (store : Brick D) → AreTasksOf layout tasks → tasks.work.calls.stamps.boot ≡ store.state.boot
       → (view : View) → view_told told ≡ Some view → (group : Group) → group_of layout call.group.0 ≡ Some group
-      → is_taught layout (state_of (running layout work store)) from call told
-      ≡ (is_view group.m layout.bricks view && counts_at work call.seq from (message.Reply call told))
-  taught_so work store is boot view told_is group found =
-      let node = state_of (running layout work store) in
+      → is_taught layout (state_of (running layout tasks store)) from call told
+      ≡ (is_view group.m layout.bricks view && counts_at tasks call.seq from (message.Reply call told))
+  taught_so tasks store is boot view told_is group found =
+      let node = state_of (running layout tasks store) in
       ap (λ (v : Option View). may_teach layout v (group_of layout call.group.0) && counts_here layout from call told node.proposal (node.calls call.seq)) told_is
       ∙ ap (λ (g : Option Group). may_teach layout (Some view) g && counts_here layout from call told node.proposal (node.calls call.seq)) found
-      ∙ ap (λ (b : Bool). is_view group.m layout.bricks view && b) (sym (counts_so work store is boot))
+      ∙ ap (λ (b : Bool). is_view group.m layout.bricks view && b) (sym (counts_so tasks store is boot))
 
   -- a reply that teaches counts
-  pub taught_counts : {D : Type 0} (work : OpenWork) (store : Brick D) → IsWorkOf layout work → work.calls.stamps.boot ≡ store.state.boot
-      → is_taught layout (state_of (running layout work store)) from call told ≡ true → counts_at work call.seq from (message.Reply call told) ≡ true
-  taught_counts work store is boot taught =
-      let node = state_of (running layout work store) in
-      counts_so work store is boot
+  pub taught_counts : {D : Type 0} (tasks : Tasks) (store : Brick D) → AreTasksOf layout tasks → tasks.work.calls.stamps.boot ≡ store.state.boot
+      → is_taught layout (state_of (running layout tasks store)) from call told ≡ true → counts_at tasks call.seq from (message.Reply call told) ≡ true
+  taught_counts tasks store is boot taught =
+      let node = state_of (running layout tasks store) in
+      counts_so tasks store is boot
       ∙ (and_parts (may_teach layout (view_told told) (group_of layout call.group.0)) (counts_here layout from call told node.proposal (node.calls call.seq)) taught).1

@@ -13,19 +13,14 @@ use Rattle.replica.specs.Parts.{ListsStand}
 use Rattle.replica.specs.Reactions.{IsStep}
 use Rattle.node.specs.declared.faults.NodeFault.{NodeFault}
 use Rattle.node.specs.declared.faults.NodeFault.TheVariants.{Halted}
-use Rattle.node.specs.declared.open_work.OpenWork.{OpenWork}
+use Rattle.node.specs.declared.tasks.Tasks.{Tasks}
 use Rattle.node.specs.Faults.{fault_of, halted_after}
 use Rattle.node.specs.Running.{shape_at, IsBrickOf}
-use Rattle.node.specs.States.{IsSameWork}
+use Rattle.node.specs.Tasks.{AreSameTasks}
 use Rattle.node.proofs.Requests.{follows_boot, is_me}
 
--- work that went on twice went on
-pub same_work : (layout : Layout) (before mid after : OpenWork) → IsSameWork layout before mid → IsSameWork layout mid after → IsSameWork layout before after
-same_work layout before mid after first last =
-    record { me = last.me ∙ first.me; boot = last.boot ∙ first.boot; of = λ of. last.of (first.of of) }
-
-module _ {D : Type 0} (layout : Layout) (before after : OpenWork) (old new : Brick D) (is : IsBrickOf layout old.shape old.state before)
-    (same : IsSameWork layout before after) (shape : new.shape ≡ old.shape) where
+module _ {D : Type 0} (layout : Layout) (before after : Tasks) (old new : Brick D) (is : IsBrickOf layout old.shape old.state before)
+    (same : AreSameTasks layout before after) (shape : new.shape ≡ old.shape) where
   -- over a store that is as it was
   pub stays_brick : new.state ≡ old.state → IsBrickOf layout new.shape new.state after
   stays_brick kept =
@@ -33,7 +28,7 @@ module _ {D : Type 0} (layout : Layout) (before after : OpenWork) (old new : Bri
         shape_is = shape ∙ is.shape_is ∙ ap (shape_at layout) (sym same.me);
         boot = same.boot ∙ is.boot ∙ ap (λ (st : StateOf Version). st.boot) (sym kept);
         lists = subst (λ (st : StateOf Version). ListsStand layout st) (sym kept) is.lists;
-        work_is = same.of is.work_is;
+        tasks_are = same.of is.tasks_are;
       }
 
   -- over one that followed a message
@@ -45,7 +40,7 @@ module _ {D : Type 0} (layout : Layout) (before after : OpenWork) (old new : Bri
         shape_is = shape ∙ is.shape_is ∙ ap (shape_at layout) (sym same.me);
         boot = same.boot ∙ follows_boot layout before old from message new answer here is.boot;
         lists = here.lists is.lists;
-        work_is = same.of is.work_is;
+        tasks_are = same.of is.tasks_are;
       }
 
 -- a fault of the store halts the brick as it does the store

@@ -15,7 +15,7 @@ use Rattle.protocol.specs.Views.{view_told}
 use Rattle.protocol.specs.Nodes.{Node, NodeStep, absorbed, counts_here, heard, may_teach, node_learnt, node_taught, received, replied_at, then_taught, with_round}
 use Rattle.replica.specs.Calls.{learnt_append}
 use Rattle.replica.specs.Reactions.{IsStep}
-use Rattle.node.specs.declared.open_work.OpenWork.{OpenWork}
+use Rattle.node.specs.declared.tasks.Tasks.{Tasks}
 use Rattle.node.specs.Calls.{packet_append}
 use Rattle.node.specs.Outcomes.{Outcome}
 use Rattle.node.specs.Running.{running, state_of}
@@ -52,27 +52,27 @@ learnt_taught layout node from call told view is taught n =
     ap (λ (b : Bool). cond b (node_taught layout.block call.group.0 n view) n) may
 
 -- The brick has done what the machine's does with the reply, and its store has learnt the view: that is the machine's step.
-pub learns_so : {D : Type 0} (layout : Layout) (before after : OpenWork) (old new : Brick D) (now : ℕ) (from : BrickId) (call : Call) (told : Reply) (view : View)
+pub learns_so : {D : Type 0} (layout : Layout) (before after : Tasks) (old new : Brick D) (now : ℕ) (from : BrickId) (call : Call) (told : Reply) (view : View)
     (answer : Option Message) (outs : Outcome)
-    → after.calls.me ≡ before.calls.me → view_told told ≡ Some view → is_taught layout (state_of (running layout before old)) from call told ≡ true
-    → IsStep layout after.calls.me after.calls.me (message.Learn call.group view) old.state answer new.state
+    → after.work.calls.me ≡ before.work.calls.me → view_told told ≡ Some view → is_taught layout (state_of (running layout before old)) from call told ≡ true
+    → IsStep layout after.work.calls.me after.work.calls.me (message.Learn call.group view) old.state answer new.state
     → (let node = state_of (running layout before old) in
-    StepsAs before.calls.me (state_of (running layout after old)) (replied_at (coding layout) before.calls.me now from node call told (node.calls call.seq)) outs)
-    → StepsAs before.calls.me (state_of (running layout after new)) (heard (coding layout) before.calls.me now from (state_of (running layout before old)) call told) outs
+    StepsAs before.work.calls.me (state_of (running layout after old)) (replied_at (coding layout) before.work.calls.me now from node call told (node.calls call.seq)) outs)
+    → StepsAs before.work.calls.me (state_of (running layout after new)) (heard (coding layout) before.work.calls.me now from (state_of (running layout before old)) call told) outs
 learns_so layout before after old new now from call told view answer outs me is taught follows steps =
     let node = state_of (running layout before old) in
     let moved = told_moved told view is in
     let same : with_round node told ≡ node = ap (λ (r : Reply). with_round node r) moved.1 in
-    let done : NodeStep = replied_at (coding layout) before.calls.me now from node call told (node.calls call.seq) in
-    let whole : heard (coding layout) before.calls.me now from node call told ≡ then_taught layout.block call.group.0 (Some view) done =
-    heard_taught layout before.calls.me now from node call told view is taught
-    ∙ ap (λ (n : Node). then_taught layout.block call.group.0 (Some view) (replied_at (coding layout) before.calls.me now from n call told (node.calls call.seq))) same in
-    subst (λ (step : NodeStep). StepsAs before.calls.me (state_of (running layout after new)) step outs) (sym whole) (record {
+    let done : NodeStep = replied_at (coding layout) before.work.calls.me now from node call told (node.calls call.seq) in
+    let whole : heard (coding layout) before.work.calls.me now from node call told ≡ then_taught layout.block call.group.0 (Some view) done =
+    heard_taught layout before.work.calls.me now from node call told view is taught
+    ∙ ap (λ (n : Node). then_taught layout.block call.group.0 (Some view) (replied_at (coding layout) before.work.calls.me now from n call told (node.calls call.seq))) same in
+    subst (λ (step : NodeStep). StepsAs before.work.calls.me (state_of (running layout after new)) step outs) (sym whole) (record {
       packets = steps.packets;
       told = steps.told;
       answers = steps.answers;
       reports = steps.reports;
-      state_is = follows_state layout after old after.calls.me (message.Learn call.group view) new answer follows
+      state_is = follows_state layout after old after.work.calls.me (message.Learn call.group view) new answer follows
           ∙ ap (λ (n : Node). node_learnt layout n call.group view) steps.state_is
           ∙ learnt_taught layout node from call told view is taught done.node;
     })

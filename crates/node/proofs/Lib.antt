@@ -20,6 +20,10 @@ pub mod Learning
 pub mod Sent
 pub mod Shown
 pub mod Turns
+pub mod Beside
+pub mod Following
+pub mod Reading
+pub mod Underway
 pub mod Counting
 pub mod Ballots
 pub mod CountsHere

@@ -9,7 +9,7 @@ use Rattle.messages.specs.declared.replies.Reply.{Reply}
 use Rattle.fab_base.specs.Layouts.{Layout}
 use Rattle.protocol.specs.Coordinators.{Coordinator, Next, Ignores, Waits, Sends, Makes, Ends, on_reply}
 use Rattle.protocol.specs.declared.tellings.Answered.{Answered}
-use Rattle.protocol.specs.Nodes.{Node, NodeStep, put, carried_out, replied_at, known_after, fresh_stamp, no_step, with_known}
+use Rattle.protocol.specs.Nodes.{Node, NodeStep, put, carried_out, carried_for, job_reading, replied_at, known_after, fresh_stamp, no_step, with_known}
 use Rattle.stripe_code.specs.Codes.{block_code, coding}
 use Rattle.node.specs.declared.operations.Operation.{Operation}
 use Rattle.node.specs.Operations.{shown_of}
@@ -23,7 +23,7 @@ put_held f k v i true held e = let same : i ≡ k = grind (arith, nat_tests) in 
 put_held f k v i false held e = refl
 
 -- an operation that leaves a reply out waits as it was
-waits_is : (layout : Layout) (me : BrickId) (node : Node) (known : ℕ) (c : Coordinator) (next : Next) → node.calls c.call.seq ≡ Some c
+pub waits_is : (layout : Layout) (me : BrickId) (node : Node) (known : ℕ) (c : Coordinator) (next : Next) → node.calls c.call.seq ≡ Some c
     → carried_out (coding layout) me node known c next ≡ carried_out (coding layout) me node known c (or_waits c next)
 waits_is layout me node known c Ignores held =
     ap no_step (same_but (with_known node known) node.boot node.seq known node.busy (put node.calls c.call.seq (Some c)) refl refl refl refl
@@ -33,17 +33,18 @@ waits_is layout me node known c (Sends d) held = refl
 waits_is layout me node known c (Makes d) held = refl
 waits_is layout me node known c (Ends answer seen stored) held = refl
 
--- what a brick does with a reply to an open operation
+-- what a brick does with a reply to an open operation that no synchronisation reads by
 pub replied_is : (layout : Layout) (me : BrickId) (now : ℕ) (from : BrickId) (node : Node) (call : Call) (reply : Reply) (c : Coordinator)
-    → node.calls call.seq ≡ Some c → c.call.seq ≡ call.seq
+    → node.calls call.seq ≡ Some c → c.call.seq ≡ call.seq → job_reading node.job c.call.seq ≡ None
     → (let known = known_after node.known reply in
     replied_at (coding layout) me now from node call reply (node.calls call.seq)
     ≡ carried_out (coding layout) me node known c
     (or_waits c (on_reply layout.block (block_code layout.block) (fresh_stamp me c.stamp.view now node.boot known) c from call reply)))
-replied_is layout me now from node call reply c held seq =
+replied_is layout me now from node call reply c held seq none =
     let known = known_after node.known reply in
     let next = on_reply layout.block (block_code layout.block) (fresh_stamp me c.stamp.view now node.boot known) c from call reply in
     ap (replied_at (coding layout) me now from node call reply) held
+    ∙ ap (carried_for (coding layout) me now node known c next) none
     ∙ waits_is layout me node known c next (ap node.calls seq ∙ held)
 
 -- how many operations are open after a step with these answers, where so many were

@@ -26,7 +26,7 @@ use Rattle.replica.specs.Parts.{IsPartsOf}
 use Rattle.replica.specs.Reactions.{IsStep, member_step, answer_packets}
 use Rattle.replica.specs.Handling.{me_of, StandsForNext, KeepsAll}
 use Rattle.replica.specs.Calls.{message_calls}
-use Rattle.node.specs.declared.open_work.OpenWork.{OpenWork}
+use Rattle.node.specs.declared.tasks.Tasks.{Tasks}
 use Rattle.node.specs.Running.{running, state_of, shape_at, IsKept, ShowsEither, ImageShows}
 use Rattle.node.proofs.States.{same_states}
 use Rattle.node.proofs.Stills.{all_still}
@@ -110,33 +110,33 @@ serves_calls layout me from node (Message.Client ask) = same_calls node
 serves_calls layout me from node (Message.ClientReply id answer) = same_calls node
 
 -- the machine sees as many live records as the store keeps
-pub live_seen : {D : Type 0} (layout : Layout) (work : OpenWork) (store : Brick D) → live store.state ≡ (state_of (running layout work store)).live
+pub live_seen : {D : Type 0} (layout : Layout) (tasks : Tasks) (store : Brick D) → live store.state ≡ (state_of (running layout tasks store)).live
 unfolding state_of
-live_seen layout work store = refl
+live_seen layout tasks store = refl
 
 -- the machine's brick that a store's state and the open calls show
-module _ {D : Type 0} (layout : Layout) (work : OpenWork) (old : Brick D) (from : BrickId) (message : Message) where
+module _ {D : Type 0} (layout : Layout) (tasks : Tasks) (old : Brick D) (from : BrickId) (message : Message) where
   -- the store is the brick's
-  pub is_me : old.shape ≡ shape_at layout work.calls.me → me_of old ≡ work.calls.me
+  pub is_me : old.shape ≡ shape_at layout tasks.work.calls.me → me_of old ≡ tasks.work.calls.me
   is_me shape = ap (λ (s : Shape). record { 0 = s.me }) shape
 
   -- the brick after the message
   abbrev after : NodeStep
-  after = member_step layout work.calls.me from (state_of (running layout work old)) message
+  after = member_step layout tasks.work.calls.me from (state_of (running layout tasks old)) message
 
   abbrev Follows : Option Message → StateOf Version → Type 0
-  Follows = IsStep layout work.calls.me from message old.state
+  Follows = IsStep layout tasks.work.calls.me from message old.state
 
-  seen_parts : IsPartsOf layout old.state (state_of (running layout work old))
+  seen_parts : IsPartsOf layout old.state (state_of (running layout tasks old))
   unfolding state_of
   seen_parts = record { boot = refl; live = refl; live_in = λ g e. refl; learnt = λ g. refl; ballots = λ g. refl; replicas = λ g e s. refl }
 
   -- the state of a store that follows is the machine's
-  pub follows_state : (new : Brick D) (answer : Option Message) → Follows answer new.state → state_of (running layout work new) ≡ after.node
+  pub follows_state : (new : Brick D) (answer : Option Message) → Follows answer new.state → state_of (running layout tasks new) ≡ after.node
   unfolding state_of
   follows_state new answer is =
-      let node = state_of (running layout work old) in
-      let keeps = serves_calls layout work.calls.me from node message in
+      let node = state_of (running layout tasks old) in
+      let keeps = serves_calls layout tasks.work.calls.me from node message in
       let parts = is.parts node seen_parts in
       same_states _ _ (sym parts.boot) (sym keeps.seq) (sym keeps.known) (sym keeps.round) (sym keeps.busy) (sym parts.live)
       (λ g e. sym (parts.live_in g e)) (λ g. sym (parts.learnt g)) (λ g. sym (parts.ballots g)) (λ g e s. sym (parts.replicas g e s))
@@ -144,12 +144,12 @@ module _ {D : Type 0} (layout : Layout) (work : OpenWork) (old : Brick D) (from 
 
   -- and keeps all as it was, where no call keeps the message
   pub follows_still : (new : Brick D) (answer : Option Message) → Follows answer new.state
-      → message_calls layout work.calls.me from old.shape old.listed (state_of (running layout work old)) message ≡ 0
+      → message_calls layout tasks.work.calls.me from old.shape old.listed (state_of (running layout tasks old)) message ≡ 0
       → KeepsAll layout layout.block old.state new.state
   unfolding state_of
   follows_still new answer is none =
-      let node = state_of (running layout work old) in
-      let still = all_still layout work.calls.me from old node message seen_parts none in
+      let node = state_of (running layout tasks old) in
+      let still = all_still layout tasks.work.calls.me from old node message seen_parts none in
       let parts = is.parts node seen_parts in
       record {
         learnt = λ g. sym (parts.learnt g) ∙ still.learnt g;
@@ -158,40 +158,40 @@ module _ {D : Type 0} (layout : Layout) (work : OpenWork) (old : Brick D) (from 
       }
 
   -- it was opened as often as before
-  pub follows_boot : (new : Brick D) (answer : Option Message) → Follows answer new.state → work.calls.stamps.boot ≡ old.state.boot
-      → work.calls.stamps.boot ≡ new.state.boot
+  pub follows_boot : (new : Brick D) (answer : Option Message) → Follows answer new.state → tasks.work.calls.stamps.boot ≡ old.state.boot
+      → tasks.work.calls.stamps.boot ≡ new.state.boot
   unfolding state_of
   follows_boot new answer is boot =
-      let node = state_of (running layout work old) in
-      boot ∙ sym (serves_calls layout work.calls.me from node message).boot ∙ (is.parts node seen_parts).boot
+      let node = state_of (running layout tasks old) in
+      boot ∙ sym (serves_calls layout tasks.work.calls.me from node message).boot ∙ (is.parts node seen_parts).boot
 
   -- the answer that follows is the machine's
-  pub follows_packets : (st : StateOf Version) (answer : Option Message) → Follows answer st → after.packets ≡ answer_packets work.calls.me from answer
-  follows_packets st answer is = is.packets (state_of (running layout work old)) seen_parts
+  pub follows_packets : (st : StateOf Version) (answer : Option Message) → Follows answer st → after.packets ≡ answer_packets tasks.work.calls.me from answer
+  follows_packets st answer is = is.packets (state_of (running layout tasks old)) seen_parts
 
   -- and tells, answers and reports nothing
   pub follows_told : ([] ≡ after.told) × ([] ≡ after.answers) × ([] ≡ after.reports)
-  follows_told = let keeps = serves_calls layout work.calls.me from (state_of (running layout work old)) message in (sym keeps.told, sym keeps.answers, sym keeps.reports)
+  follows_told = let keeps = serves_calls layout tasks.work.calls.me from (state_of (running layout tasks old)) message in (sym keeps.told, sym keeps.answers, sym keeps.reports)
 
   -- an image that opens as what follows shows the brick after the message
-  pub shown_before : old.shape ≡ shape_at layout work.calls.me → IsKept layout old.state (state_of (running layout work old)) → (image : List ℕ)
-      → StandsFor old.shape old.state image → ImageShows layout work.calls.me (state_of (running layout work old)) image
-  shown_before shape kept image stands = shows_so layout work.calls.me (state_of (running layout work old)) old image shape kept stands
+  pub shown_before : old.shape ≡ shape_at layout tasks.work.calls.me → IsKept layout old.state (state_of (running layout tasks old)) → (image : List ℕ)
+      → StandsFor old.shape old.state image → ImageShows layout tasks.work.calls.me (state_of (running layout tasks old)) image
+  shown_before shape kept image stands = shows_so layout tasks.work.calls.me (state_of (running layout tasks old)) old image shape kept stands
 
-  pub shown_after : old.shape ≡ shape_at layout work.calls.me → IsKept layout old.state (state_of (running layout work old)) → (image : List ℕ)
-      → StandsForNext old.shape Follows image → ImageShows layout work.calls.me after.node image
+  pub shown_after : old.shape ≡ shape_at layout tasks.work.calls.me → IsKept layout old.state (state_of (running layout tasks old)) → (image : List ℕ)
+      → StandsForNext old.shape Follows image → ImageShows layout tasks.work.calls.me after.node image
   shown_after shape kept image follows =
       let st = follows.0 in
       let is = follows.3 in
       record {
         st = st;
         stands = subst (λ (s : Shape). StandsFor s st image) shape follows.2;
-        parts = is.parts (state_of (running layout work old)) seen_parts;
+        parts = is.parts (state_of (running layout tasks old)) seen_parts;
         lists = is.lists kept.lists;
       }
 
-  pub follows_shown : old.shape ≡ shape_at layout work.calls.me → IsKept layout old.state (state_of (running layout work old)) → (image : List ℕ)
+  pub follows_shown : old.shape ≡ shape_at layout tasks.work.calls.me → IsKept layout old.state (state_of (running layout tasks old)) → (image : List ℕ)
       → StandsFor old.shape old.state image ⊎ StandsForNext old.shape Follows image
-      → ShowsEither layout work.calls.me (state_of (running layout work old)) after.node image
+      → ShowsEither layout tasks.work.calls.me (state_of (running layout tasks old)) after.node image
   follows_shown shape kept image (inl stands) = inl (shown_before shape kept image stands)
   follows_shown shape kept image (inr follows) = inr (shown_after shape kept image follows)

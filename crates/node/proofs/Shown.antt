@@ -23,7 +23,7 @@ use Rattle.replica.specs.Reactions.{IsStep, member_step}
 use Rattle.protocol.specs.Nodes.{Node}
 use Rattle.node.specs.declared.faults.NodeFault.{NodeFault}
 use Rattle.node.specs.declared.faults.NodeFault.TheVariants.{Disk, Halted, NoMemory, Refused}
-use Rattle.node.specs.declared.open_work.OpenWork.{OpenWork}
+use Rattle.node.specs.declared.tasks.Tasks.{Tasks}
 use Rattle.node.specs.Ends.{end_of, IsShown, StepChange}
 use Rattle.node.specs.Faults.{fault_of}
 use Rattle.node.specs.Running.{Running, running, state_of, shape_at, ImageShows, LeavesBrick, IsBrickOf}
@@ -39,11 +39,11 @@ failed T fault = Err fault
 
 module _ {D : Type 0} (d : on_disk.Ghosts D) where
   -- the brick shows what its store keeps
-  pub shown_so : (layout : Layout) (work : OpenWork) (store : Brick D) (disk : D) → IsBrickOf layout store.shape store.state work
-      → Stands d (StandsFor store.shape store.state) disk → Stands d (ImageShows layout work.calls.me (state_of (running layout work store))) disk
-  shown_so layout work store disk is stands = record {
+  pub shown_so : (layout : Layout) (tasks : Tasks) (store : Brick D) (disk : D) → IsBrickOf layout store.shape store.state tasks
+      → Stands d (StandsFor store.shape store.state) disk → Stands d (ImageShows layout tasks.work.calls.me (state_of (running layout tasks store))) disk
+  shown_so layout tasks store disk is stands = record {
     only = stands.only;
-    has = shows_so layout work.calls.me (state_of (running layout work store)) store (d.seen disk) is.shape_is (kept_so layout work store is) stands.has;
+    has = shows_so layout tasks.work.calls.me (state_of (running layout tasks store)) store (d.seen disk) is.shape_is (kept_so layout tasks store is) stands.has;
   }
 
   -- where that stands on a disk, a crash leaves only that
@@ -58,32 +58,32 @@ module _ {D : Type 0} (d : on_disk.Ghosts D) where
     pub listed : ListsBy end (IsListedAfter (shape_at old.layout old.me) (state_of old).live old.brick.listed append) old.brick.listed new.listed
 
   -- the store's change, for the machine's brick that it shows, is the brick's
-  pub change_so : (layout : Layout) (work : OpenWork) (from : BrickId) (message : Message) (old new : Brick D) (node : Running D) (end : End)
-      → running layout work old ≡ node → IsBrickOf layout old.shape old.state work
+  pub change_so : (layout : Layout) (tasks : Tasks) (from : BrickId) (message : Message) (old new : Brick D) (node : Running D) (end : End)
+      → running layout tasks old ≡ node → IsBrickOf layout old.shape old.state tasks
       → (d.tells → Stands d (StandsFor old.shape old.state) old.disk)
       → ((machine : Node) → IsPartsOf layout old.state machine
       → KeepsNext d (message_append layout (me_of old) from machine message) (IsStep layout (me_of old) from message old.state) old new end)
       → StoreStep (message_append node.layout node.me from (state_of node) message) (member_step node.layout node.me from (state_of node) message).node
       node new end
-  change_so layout work from message old new node end is brick stood change =
-      let shown = running layout work old in
-      let kept = kept_so layout work old brick in
-      let append = message_append layout work.calls.me from (state_of shown) message in
-      let after = (member_step layout work.calls.me from (state_of shown) message).node in
+  change_so layout tasks from message old new node end is brick stood change =
+      let shown = running layout tasks old in
+      let kept = kept_so layout tasks old brick in
+      let append = message_append layout tasks.work.calls.me from (state_of shown) message in
+      let after = (member_step layout tasks.work.calls.me from (state_of shown) message).node in
       let made = subst (λ (me : BrickId). KeepsNext d (message_append layout me from (state_of shown) message) (IsStep layout me from message old.state) old
-      new end) (is_me layout work old from message brick.shape_is) (change (state_of shown) kept.parts) in
+      new end) (is_me layout tasks old from message brick.shape_is) (change (state_of shown) kept.parts) in
       subst (λ (n : Running D). StoreStep (message_append n.layout n.me from (state_of n) message)
       (member_step n.layout n.me from (state_of n) message).node n new end) is (record {
-        change = subst (λ (s : Shape). Change d (calls_for s old.listed append) (ImageShows layout work.calls.me (state_of shown))
-            (ImageShows layout work.calls.me after) old.disk new.disk end) brick.shape_is
-            (widen d _ (StandsFor old.shape old.state) _ (StandsForNext old.shape (IsStep layout work.calls.me from message old.state))
-            (ImageShows layout work.calls.me (state_of shown)) _ (ImageShows layout work.calls.me after) old.disk new.disk end
+        change = subst (λ (s : Shape). Change d (calls_for s old.listed append) (ImageShows layout tasks.work.calls.me (state_of shown))
+            (ImageShows layout tasks.work.calls.me after) old.disk new.disk end) brick.shape_is
+            (widen d _ (StandsFor old.shape old.state) _ (StandsForNext old.shape (IsStep layout tasks.work.calls.me from message old.state))
+            (ImageShows layout tasks.work.calls.me (state_of shown)) _ (ImageShows layout tasks.work.calls.me after) old.disk new.disk end
             (λ told shows. (stood told).has)
-            (λ told shows. shown_before layout work old from message brick.shape_is kept)
-            (λ told shows. follows_shown layout work old from message brick.shape_is kept)
-            (λ told. shown_after layout work old from message brick.shape_is kept) made.change);
-        listed = subst (λ (n : ℕ). ListsBy end (IsListedAfter (shape_at layout work.calls.me) n old.listed append) old.listed new.listed)
-            (live_seen layout work old)
+            (λ told shows. shown_before layout tasks old from message brick.shape_is kept)
+            (λ told shows. follows_shown layout tasks old from message brick.shape_is kept)
+            (λ told. shown_after layout tasks old from message brick.shape_is kept) made.change);
+        listed = subst (λ (n : ℕ). ListsBy end (IsListedAfter (shape_at layout tasks.work.calls.me) n old.listed append) old.listed new.listed)
+            (live_seen layout tasks old)
             (subst (λ (s : Shape). ListsBy end (IsListedAfter s (live old.state) old.listed append) old.listed new.listed) brick.shape_is made.listed);
       })
 

@@ -20,9 +20,10 @@ use Rattle.brick_store.specs.Openings.{IsCounted, Opens}
 use Rattle.brick_store.proofs.OpeningLaws.{counted_is}
 use Rattle.protocol.specs.Nodes.{Node, restarted}
 use Rattle.replica.specs.Parts.{part_in, learnt_in, ballots_in, live_at}
-use Rattle.node.specs.declared.open_work.OpenWork.{OpenWork}
+use Rattle.node.specs.declared.tasks.Tasks.{Tasks}
 use Rattle.node.specs.Openings.{OpensBrick, stopped_by}
-use Rattle.node.specs.States.{KeptParts, state_in, fresh_node, parts_in}
+use Rattle.node.specs.States.{KeptParts, fresh_node, parts_in}
+use Rattle.node.specs.Tasks.{tasks_in}
 use Rattle.node.specs.Running.{running, state_of, shape_at, ImageShows, reopened}
 use Rattle.node.proofs.States.{same_states}
 use Rattle.node.proofs.Views.{seen_so}
@@ -33,14 +34,14 @@ some_store shape A image none in_force = none.first in_force.0
 some_store shape B image none in_force = none.second in_force.0
 
 -- over a store that was opened once more, the brick is the one that the image showed, restarted
-pub restarts_so : {D : Type 0} (layout : Layout) (me : BrickId) (work : OpenWork) (store : Brick D) (boot : ℕ) (node : Node) (image : List ℕ)
-    → work.calls.stamps.boot ≡ store.state.boot → boot ≡ store.state.boot → ((kept : KeptParts) → state_in kept work ≡ fresh_node boot kept)
-    → ImageShows layout me node image → IsCounted (shape_at layout me) image store.state → state_of (running layout work store) ≡ restarted 1 node
+pub restarts_so : {D : Type 0} (layout : Layout) (me : BrickId) (tasks : Tasks) (store : Brick D) (boot : ℕ) (node : Node) (image : List ℕ)
+    → tasks.work.calls.stamps.boot ≡ store.state.boot → boot ≡ store.state.boot → ((kept : KeptParts) → tasks_in kept tasks ≡ fresh_node boot kept)
+    → ImageShows layout me node image → IsCounted (shape_at layout me) image store.state → state_of (running layout tasks store) ≡ restarted 1 node
 unfolding restarted
-restarts_so layout me work store boot node image own same fresh shows counted =
+restarts_so layout me tasks store boot node image own same fresh shows counted =
     let is : store.state ≡ booted (shows.st.boot + 1) shows.st =
     counted_is (shape_at layout me) image store.state counted shows.st shows.stands in
-    seen_so layout work store own
+    seen_so layout tasks store own
     ∙ fresh (parts_in layout store.state)
     ∙ same_states _ _ (same ∙ ap (λ (st : StateOf Version). st.boot) is ∙ ap (λ b. b + 1) (sym shows.parts.boot)) refl refl refl refl
     (ap (λ (st : StateOf Version). live st) is ∙ sym shows.parts.live)

@@ -1,5 +1,5 @@
 -- What the machine sees of a brick, and what its store shows of it.
-use Rattle.std.proofs.Common.{◌≡◌, ℕ, suc, Bool, cond, List, [], ◌∷◌, Option, Some, None, is_some, refl, sym, ◌∙◌, ap, subst}
+use Rattle.std.proofs.Common.{◌≡◌, ℕ, suc, Bool, cond, List, [], ◌∷◌, Option, Some, refl, sym, ◌∙◌, ap, subst}
 use Rattle.std.specs.Prelude.{length, map}
 use Rattle.std.specs.Option.{option_map}
 use Rattle.std.specs.Ordering.{nat_cmp}
@@ -13,12 +13,12 @@ use Rattle.brick_store.specs.Bricks.{Brick}
 use Rattle.brick_store.specs.Images.{StandsFor}
 use Rattle.fab_base.specs.Layouts.{Layout}
 use Rattle.protocol.specs.Nodes.{Node}
-use Rattle.node.specs.declared.open_calls.OpenCalls.{OpenCalls}
-use Rattle.node.specs.declared.open_work.OpenWork.{OpenWork}
-use Rattle.node.specs.declared.operations.Operation.{Operation}
+use Rattle.node.specs.declared.tasks.Tasks.{Tasks}
 use Rattle.node.specs.Operations.{coordinator_of}
-use Rattle.node.specs.States.{state_with, state_in, parts_in}
-use Rattle.node.specs.Running.{coordinators, running, state_of, shape_at, IsKept, IsBrickOf, ImageShows}
+use Rattle.node.specs.States.{state_with, parts_in}
+use Rattle.node.specs.Tasks.{tasks_in}
+use Rattle.node.specs.Jobs.{calls_with, reading_in}
+use Rattle.node.specs.Running.{running, state_of, shape_at, IsKept, IsBrickOf, ImageShows}
 use Rattle.node.proofs.States.{same_states}
 use Rattle.node.proofs.Tables.{map_cond}
 
@@ -34,24 +34,16 @@ map_lookup f test [] = refl
 map_lookup f test (e ∷ es) =
     ap (λ o. cond (test e.0) (Some (f e.1)) o) (map_lookup f test es) ∙ sym (map_cond f (test e.0) (Some e.1) (lookup test es))
 
--- a call has a coordinator where its operation is open
-pub open_seen : (calls : OpenCalls) (k : ℕ) → is_some (lookup (is_at (nat_cmp k)) (coordinators calls.operations)) ≡ is_some (get nat_cmp calls.operations k)
-open_seen calls k = ap is_some (map_lookup coordinator_of (is_at (nat_cmp k)) calls.operations.entries) ∙ as_is (get nat_cmp calls.operations k)
-  where
-    as_is : (found : Option Operation) → is_some (option_map coordinator_of found) ≡ is_some found
-    as_is None = refl
-    as_is (Some operation) = refl
-
-module _ {D : Type 0} (layout : Layout) (work : OpenWork) (store : Brick D) where
+module _ {D : Type 0} (layout : Layout) (tasks : Tasks) (store : Brick D) where
   -- the machine sees what the store keeps, and what is under way
-  pub seen_so : work.calls.stamps.boot ≡ store.state.boot → state_of (running layout work store) ≡ state_in (parts_in layout store.state) work
+  pub seen_so : tasks.work.calls.stamps.boot ≡ store.state.boot → state_of (running layout tasks store) ≡ tasks_in (parts_in layout store.state) tasks
   unfolding state_of state_with
   seen_so boot =
-      same_states _ _ (sym boot) refl refl refl (map_length (λ e. (e.0, coordinator_of e.1)) work.calls.operations.entries) refl (λ g e. refl) (λ g. refl)
-      (λ g. refl) (λ g e s. refl) (λ k. map_lookup coordinator_of (is_at (nat_cmp k)) work.calls.operations.entries) refl refl
+      same_states _ _ (sym boot) refl refl refl (map_length (λ e. (e.0, coordinator_of e.1)) tasks.work.calls.operations.entries) refl (λ g e. refl) (λ g. refl)
+      (λ g. refl) (λ g e s. refl) (λ k i. calls_with (reading_in tasks.job) (λ q. map_lookup coordinator_of (is_at (nat_cmp q)) tasks.work.calls.operations.entries i) k) refl refl
 
   -- what the machine's brick keeps is what the store keeps
-  pub kept_so : IsBrickOf layout store.shape store.state work → IsKept layout store.state (state_of (running layout work store))
+  pub kept_so : IsBrickOf layout store.shape store.state tasks → IsKept layout store.state (state_of (running layout tasks store))
   unfolding state_of
   kept_so is =
       record {
@@ -60,7 +52,7 @@ module _ {D : Type 0} (layout : Layout) (work : OpenWork) (store : Brick D) wher
       }
 
 -- whatever is under way, the images are the same
-pub still_shows : {D : Type 0} (layout : Layout) (before after : OpenWork) (store : Brick D) (me : BrickId) (image : List ℕ)
+pub still_shows : {D : Type 0} (layout : Layout) (before after : Tasks) (store : Brick D) (me : BrickId) (image : List ℕ)
     → ImageShows layout me (state_of (running layout before store)) image → ImageShows layout me (state_of (running layout after store)) image
 unfolding state_of
 still_shows layout before after store me image shows =
@@ -79,11 +71,11 @@ still_shows layout before after store me image shows =
     }
 
 -- a store that keeps the same is the same to the machine
-pub same_kept : {D : Type 0} (layout : Layout) (work : OpenWork) (old new : Brick D) → new.state ≡ old.state
-    → state_of (running layout work new) ≡ state_of (running layout work old)
+pub same_kept : {D : Type 0} (layout : Layout) (tasks : Tasks) (old new : Brick D) → new.state ≡ old.state
+    → state_of (running layout tasks new) ≡ state_of (running layout tasks old)
 unfolding state_of
-same_kept layout work old new is =
-    ap (λ (st : StateOf Version). state_of (running layout work (record { disk = old.disk; shape = old.shape; state = st; listed = old.listed; halted = old.halted }))) is
+same_kept layout tasks old new is =
+    ap (λ (st : StateOf Version). state_of (running layout tasks (record { disk = old.disk; shape = old.shape; state = st; listed = old.listed; halted = old.halted }))) is
 
 -- an image that stands for the store shows the brick
 pub shows_so : {D : Type 0} (layout : Layout) (me : BrickId) (node : Node) (store : Brick D) (image : List ℕ) → store.shape ≡ shape_at layout me

@@ -14,8 +14,12 @@ use Rattle.protocol.specs.declared.tellings.SyncAnswer.{SyncAnswer}
 use Rattle.protocol.specs.Views.{group_kept}
 use Rattle.protocol.specs.Coordinators as machine
 use Rattle.protocol.specs.Coordinators.{Coordinator}
-use Rattle.protocol.specs.Jobs.{Job, job_after}
-use Rattle.protocol.specs.Nodes.{Node, NodeStep, Report, Told, Began, Closed, put, reading, reporting, with_job, carried_out, carried_read, job_goes, read_closed, read_begun, synced_packets, then_does}
+use Rattle.protocol.specs.declared.tellings.Answered.{Answered}
+use Rattle.protocol.specs.Jobs.{Job, abort_cause, job_after}
+use Rattle.protocol.specs.declared.tellings.Report.{Report}
+use Rattle.protocol.specs.declared.tellings.Told.{Told}
+use Rattle.protocol.specs.declared.tellings.Told.TheVariants.{Began, Closed}
+use Rattle.protocol.specs.Nodes.{Node, NodeStep, put, reading, reporting, with_job, carried_out, carried_read, job_goes, read_closed, read_begun, synced_packets, then_does}
 use Rattle.coord_phase.specs.Messages.{packets_from}
 use Rattle.coord_phase.specs.Operations.{PriorIsWithinLimits}
 use Rattle.stripe_code.specs.Codes.{coding}
@@ -138,6 +142,11 @@ end_packets layout me group (Spent stripe) = []
 abbrev pub ended_by : Option Cause → Followed → Followed → Followed
 ended_by None answered aborted = answered
 ended_by (Some cause) answered aborted = by_cause cause aborted
+
+-- the cause by which a read was aborted, if one ended with these answers and was
+abbrev pub cause_in : List Answered → Option Cause
+cause_in [] = None
+cause_in (answered ∷ answers) = abort_cause answered.answer
 
 -- a step that has sent these packets before
 abbrev pub sends_first : List Packet → NodeStep → NodeStep

@@ -28,16 +28,20 @@ use Rattle.node.specs.Decisions.{NeverEnds}
 use Rattle.node.specs.Jobs.{FollowsFrom, GoesOn, IsOpenJobOf, MakesFrom, by_cause, closed, followed_step, job_of, reading_of, sent_in, then_told, with_reading}
 use Rattle.node.specs.Operations.{coordinator_of, shown_of, EndsOrWaits}
 
--- What may come after a read, by each way in which it may end, at a brick whose next call is from this source; and there is room for all that is sent then.
-pub record IsPrepared (layout : Layout) (held : OpenJob) (at : CallSource) (p : Prepared) : Type 0 where
+-- there is room for what the end of a read and what comes after it send
+pub record IsRoomy (p : Prepared) : Type 0 where
   pub empty : p.room.items ≡ []
   pub room : 96 ≤ vec_capacity p.room
+  pub answered : sent_in p.answered ≤ 64
+  pub aborted : sent_in p.aborted ≤ 64
+
+-- What may come after a read, by each way in which it may end, at a brick whose next call is from this source; and there is room for all that is sent then.
+pub record IsPrepared (layout : Layout) (held : OpenJob) (at : CallSource) (p : Prepared) : Type 0 where
+  pub roomy : IsRoomy p
   pub answered : GoesOn layout held.job held.view at None p.answered
   pub aborted : (cause : Cause) → GoesOn layout held.job held.view at (Some cause) (by_cause cause p.aborted)
   pub read_answered : FollowsFrom layout at.seq held.job.group p.answered
   pub read_aborted : FollowsFrom layout at.seq held.job.group p.aborted
-  pub few_answered : sent_in p.answered ≤ 64
-  pub few_aborted : sent_in p.aborted ≤ 64
 
 -- it is prepared, or the message does not end the read
 abbrev pub MayFollow : Layout → OpenJob → CallSource → BrickId → Message → Option Prepared → Type 0
@@ -85,9 +89,9 @@ sent_on (turn.Goes outs known) = length outs.messages
 sent_on (turn.Ends told next) = sent_in next
 
 -- A message to the read, which is a reply, comes to what the machine's brick does.
-pub record IsReadTurn (layout : Layout) (before : OpenJob) (from : BrickId) (message : Message) (at : CallSource) (turned : ReadTurn) (after : OpenJob) : Type 0 where
+pub record IsReadTurn (layout : Layout) (before : OpenJob) (from : BrickId) (told : Message) (at : CallSource) (turned : ReadTurn) (after : OpenJob) : Type 0 where
   pub group : after.job.group ≡ before.job.group
-  pub step : (node : Node) (call : Call) (reply : Reply) → message ≡ message.Reply call reply → MakesFrom at node
+  pub step : (node : Node) (call : Call) (reply : Reply) → told ≡ message.Reply call reply → MakesFrom at node
       → node.calls (coordinator_of before.read).call.seq ≡ None
       → read_step layout at before node from call reply ≡ turn_step at.me after node turned
   pub left : LeftSo layout before at turned after

@@ -9,7 +9,7 @@ ghost use Rattle.stripe_code.specs.Codes.{coding};
 ghost use Rattle.coord_phase.specs.Messages.{packets_from};
 ghost use Rattle.protocol.specs.Jobs.{begun_job};
 ghost use Rattle.view_sync.specs.Jobs.{begun_sync};
-ghost use Rattle.node.specs.Jobs.{GoesOn, IsJobOf, FollowsFrom, MakesFrom, begins_sync, by_cause, closed, end_packets, ended_by, followed_step, job_at, sends_first, sent_in};
+ghost use Rattle.node.specs.Jobs.{GoesOn, IsJobOf, FollowsFrom, MakesFrom, begins_sync, by_cause, closed, end_packets, followed_step, job_at, sends_first, sent_in};
 
 use crate::call_sources::CallSource;
 use crate::open_calls::fresh_stamp;
@@ -57,7 +57,7 @@ pub enum ReadTurn {
 struct Prepared {
     room: Messages,
     answered: Followed,
-    // By whichever cause.
+    // By whatever cause.
     aborted: Followed,
 }
 
@@ -216,10 +216,14 @@ impl Followed {
         ensures { result ≡ by_cause cause self }
     {
         match self {
-            Followed::Ends(messages, SyncAnswer::Stopped { stripe, .. }) => {
-                Followed::Ends(messages, SyncAnswer::Stopped { stripe, cause })
+            Followed::Reads(messages, open) => Followed::Reads(messages, open),
+            Followed::Ends(messages, answer) => {
+                let answer = match answer {
+                    SyncAnswer::Stopped { stripe, .. } => SyncAnswer::Stopped { stripe, cause },
+                    other => other,
+                };
+                Followed::Ends(messages, answer)
             }
-            next => next,
         }
     }
 
@@ -244,13 +248,21 @@ impl Followed {
 }
 
 impl Prepared {
+    ghost use Rattle.std.specs.Prelude.{◌≡◌, ◌≤◌, ◌++◌, ℕ, None, [], ◌∷◌, length, vec_len, vec_capacity};
+    ghost use Rattle.fab_base.specs.declared.identities.BrickId.{BrickId};
+    ghost use Rattle.fab_base.specs.declared.identities.GroupId.{GroupId};
+    ghost use Rattle.fab_base.specs.Layouts as layouts;
+    ghost use Rattle.protocol.specs.declared.tellings.Told.TheVariants.{Closed};
+    ghost use Rattle.protocol.specs.Nodes.{Node};
+    ghost use Rattle.coord_phase.specs.Messages.{packets_from};
+    ghost use Rattle.node.specs.Jobs.{FollowsFrom, cause_in, ended_by, followed_step, sends_first, sent_in};
+    ghost use Rattle.node.specs.Outcomes.{told_list};
+    ghost use Rattle.node.specs.Reads.{IsRoomy};
+
     /// What comes after the read, which sent these messages and was aborted by this cause, or answered.
     fn taken(self, sent: Messages, cause: Option<Cause>) -> Followed
-        requires empty { self.room.items ≡ [] }
         requires few { vec_len sent ≤ 32 }
-        requires answered { sent_in self.answered ≤ 64 }
-        requires aborted { sent_in self.aborted ≤ 64 }
-        requires room { 96 ≤ vec_capacity self.room }
+        requires roomy { IsRoomy self }
         ensures step { (me : BrickId) (group : GroupId) (node : Node) → followed_step me group node result
             ≡ sends_first (packets_from me sent.items) (followed_step me group node (ended_by cause self.answered self.aborted)) }
         ensures from { (layout : layouts.Layout) (seq : ℕ) (group : GroupId) → FollowsFrom layout seq group self.answered
@@ -262,11 +274,31 @@ impl Prepared {
             answered,
             aborted,
         } = self;
-        let next = match cause {
-            None => answered,
-            Some(cause) => aborted.by_cause(cause),
+        match cause {
+            None => answered.after(room, sent),
+            Some(cause) => aborted.by_cause(cause).after(room, sent),
+        }
+    }
+
+    /// What is told of a read of this call and comes after it, which has ended with this.
+    fn end(self, seq: u64, outs: Outs) -> (Tellings, Followed)
+        requires few { length outs.messages ≤ 32 }
+        requires one { length outs.told ≤ 1 }
+        requires roomy { IsRoomy self }
+        ensures told { told_list result.0 ≡ outs.told ++ (Closed seq (cause_in outs.answers) ∷ []) }
+        ensures begun { result.0.begun ≡ None }
+        ensures step { (me : BrickId) (group : GroupId) (node : Node) → followed_step me group node result.1
+            ≡ sends_first (packets_from me outs.messages) (followed_step me group node (ended_by (cause_in outs.answers) self.answered self.aborted)) }
+        ensures from { (layout : layouts.Layout) (seq : ℕ) (group : GroupId) → FollowsFrom layout seq group self.answered
+            → FollowsFrom layout seq group self.aborted → FollowsFrom layout seq group result.1 }
+        ensures few { sent_in result.1 ≤ 96 }
+    {
+        let (messages, told, answer, _) = outs.into_parts();
+        let cause = match answer {
+            Some(Answered { answer, .. }) => abort_cause(&answer),
+            None => None,
         };
-        next.after(room, sent)
+        (closed(seq, told.only(), cause), self.taken(messages, cause))
     }
 }
 
@@ -396,13 +428,11 @@ impl OpenJob {
         if outs.answer.is_none() {
             return Ok(ReadTurn::Goes(outs, stamps.known));
         }
-        let (messages, told, answer, _) = outs.into_parts();
-        let (Some(Answered { answer, .. }), Some(prepared)) = (answer, prepared) else {
+        let Some(prepared) = prepared else {
             unreachable!()
         };
-        let cause = abort_cause(&answer);
-        let told = closed(seq, told.only(), cause);
-        Ok(ReadTurn::Ends(told, prepared.taken(messages, cause)))
+        let (told, next) = prepared.end(seq, outs);
+        Ok(ReadTurn::Ends(told, next))
     }
 
     /// What is told of its read and comes after it, where that ends on a member's reply that counts and tells this later view. None where it waits for more

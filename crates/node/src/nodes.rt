@@ -426,6 +426,7 @@ impl<D: Disk> Node<D> {
             Ok(()) => Ok(self.tasks.finish(alloc, seq, turn)),
             Err(fault) => {
                 self.tasks.take_back(seq, &turn);
+                turn.let_go();
                 Err(NodeFault::from(fault))
             }
         }

@@ -34,7 +34,7 @@ impl OpenWork {
     ghost use Rattle.fab_base.specs.declared.identities.BrickId.{BrickId};
     ghost use Rattle.fab_base.specs.Layouts as layouts;
     ghost use Rattle.messages.specs.declared.calls.Call.{Call};
-    ghost use Rattle.messages.specs.declared.packets.Message.TheVariants as message;
+    ghost use Rattle.messages.specs.declared.packets.Message.TheVariants as told;
     ghost use Rattle.messages.specs.declared.replies.Reply.{Reply};
     ghost use Rattle.quorum.specs.Quorums.{IsWithinLimits};
     ghost use Rattle.stripe_code.specs.Codes.{coding};
@@ -125,7 +125,7 @@ impl OpenWork {
         call: Call,
         reply: &Reply,
     ) -> Result<Outs, NoMem>
-        requires reply { packet.now.message ≡ message.Reply call reply.now }
+        requires reply { packet.now.message ≡ told.Reply call reply.now }
         requires of { IsWorkOf layout.now self.old }
         ensures step { (kept : KeptParts) → IfOk result (StepsAs self.old.calls.me (state_in kept self.new)
             (replied_at (coding layout.now) self.old.calls.me now packet.now.from (with_round (state_in kept self.old) reply.now) call reply.now
@@ -149,7 +149,7 @@ impl OpenWork {
 
     /// Takes note of the time and the round of a ballot that a reply makes known.
     pub(crate) fn heard(&mut self, message: &Message, reply: &Reply)
-        requires reply { (call : Call) × (message.now ≡ message.Reply call reply.now) }
+        requires reply { (call : Call) × (message.now ≡ told.Reply call reply.now) }
         ensures state { (kept : KeptParts) → state_in kept self.new
             ≡ with_known (with_round (state_in kept self.old) reply.now) (known_after self.old.calls.stamps.known reply.now) }
         ensures operations { self.new.calls.operations ≡ self.old.calls.operations }
@@ -186,7 +186,7 @@ impl OpenWork {
         reply: &Reply,
         view: ViewNo,
     ) -> Result<Turn, NoMem>
-        requires reply { packet.now.message ≡ message.Reply call reply.now }
+        requires reply { packet.now.message ≡ told.Reply call reply.now }
         requires moved { IsMoved reply.now view }
         requires counts { counts_at self.old call.seq packet.now.from packet.now.message ≡ true }
         requires of { IsWorkOf layout.now self.old }

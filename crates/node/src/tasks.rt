@@ -28,8 +28,13 @@ pub enum TaskTurn {
     Follows(GroupId, Tellings, Followed),
 }
 
+impl TaskTurn {
+    /// Lets it go, once what was done already was taken back.
+    pub(crate) fn let_go(self) {}
+}
+
 impl Tasks {
-    ghost use Rattle.std.specs.Prelude.{◌≡◌, ◌+◌, ◌<◌, ◌≤◌, ◌^◌, ℕ, true, false, nat_eq, None, Some, is_some, option_map, IfOk, OnErr, length, vec_len};
+    ghost use Rattle.std.specs.Prelude.{◌≡◌, ◌+◌, ◌-◌, ◌<◌, ◌≤◌, ◌^◌, ℕ, true, false, nat_eq, None, Some, is_some, option_map, IfOk, OnErr, length, vec_len};
     ghost use Rattle.std.specs.BTreeMap.{btree_map_len};
     ghost use Rattle.fab_base.specs.declared.identities.BrickId.{BrickId};
     ghost use Rattle.fab_base.specs.Layouts as layouts;
@@ -364,7 +369,8 @@ impl Tasks {
     pub(crate) fn take_back(&mut self, seq: u64, turn: &TaskTurn)
         ensures state { (layout : layouts.Layout) (now : ℕ) (from : BrickId) (call : Call) (reply : Reply) (before : Tasks) → call.seq ≡ seq
             → IsTaskTurn layout now from call reply before turn.now self.old → (kept : KeptParts) → tasks_in kept self.new ≡ tasks_in kept before }
-        ensures same { (layout : layouts.Layout) → AreSameTasks layout self.old self.new }
+        ensures same { (layout : layouts.Layout) (now : ℕ) (from : BrickId) (call : Call) (reply : Reply) (before : Tasks) → call.seq ≡ seq
+            → IsTaskTurn layout now from call reply before turn.now self.old → AreSameTasks layout before self.old → AreSameTasks layout before self.new }
     {
         match turn {
             TaskTurn::Work(turn) => self.work.take_back(seq, turn),
@@ -384,8 +390,8 @@ impl Tasks {
             → IsTaskTurn layout now from call reply before turn self.old → (kept : KeptParts)
             → StepsAs before.work.calls.me (tasks_in kept self.new) (step_on layout now from call reply before kept) result }
         ensures few { length result.messages ≤ 64 }
-        ensures same { (layout : layouts.Layout) (now : ℕ) (from : BrickId) (call : Call) (reply : Reply) (before : Tasks)
-            → IsTaskTurn layout now from call reply before turn self.old → AreSameTasks layout self.old self.new }
+        ensures same { (layout : layouts.Layout) (now : ℕ) (from : BrickId) (call : Call) (reply : Reply) (before : Tasks) → call.seq ≡ seq
+            → IsTaskTurn layout now from call reply before turn self.old → AreSameTasks layout before self.old → AreSameTasks layout before self.new }
     {
         match turn {
             TaskTurn::Work(turn) => self.work.finish(alloc, seq, turn),

@@ -203,11 +203,11 @@ module _ (layout : Layout) (is : IsLayout layout) where
         let said = always_said (coding layout) (views_in layout w.packets) events (coding_is_sound layout is)
         (every_run_follows (coding layout) events (coding_is_sound layout is)) in
         let shown = said.1.ends k p n (Data bytes) at in
-        let own = (books.books (coding layout) events).operations n shown.operation shown.is in
+        let own = (books.books (coding layout) events).operations shown.number shown.operation shown.is in
         read_bytes shown.operation.ask.op bytes
         (w.contents shown.operation.ask.group.0 shown.operation.ask.stripe.0 shown.version) shown.bytes_are
         (content_bytes said.0 said.1 shown.operation.ask.group.0 shown.operation.ask.stripe.0 shown.version own.group own.group_is
-        ((said.1.operations n shown.operation shown.is).version shown.version shown.version_is).made)
+        ((said.1.operations shown.number shown.operation shown.is).version shown.version shown.version_is).made)
 
     -- the lengths of answers
     word_long : (group : Group) (op : Op) (bytes : List ℕ) → IsGroup layout.block layout.bricks group

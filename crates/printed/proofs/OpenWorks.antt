@@ -158,7 +158,7 @@ read_closes setting me now node job (Some group) most has =
 goes_closes : (setting : Setting) (me : BrickId) (now : ℕ) (node : Node) (job : Job) (next : JobNext) → 1 ≤ one_if (is_some node.job)
     → Closes node (job_goes setting me now node job next) 0
 goes_closes setting me now node job (Reads attempt) has =
-    read_closes setting me now node (record job { attempt = attempt }) (group_kept setting.layout job.view.members job.group.0) 0 has
+    read_closes setting me now node (record job { attempt = attempt }) (group_kept setting.layout job.view.members job.group.0) 0 (omega (arith, has))
 goes_closes setting me now node job Finishes has = omega (arith, has)
 goes_closes setting me now node job (GivesUp cause) has = omega (arith, has)
 

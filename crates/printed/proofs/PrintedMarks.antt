@@ -20,7 +20,7 @@ use Rattle.protocol.specs.Jobs.{Job}
 use Rattle.protocol.specs.Nodes.{Node, NodeStep, put, refusal_of, proposal_refusal, sync_refusal, group_at, began, invoked, proposed, synced_at, stopped, restarted}
 use Rattle.protocol.specs.Worlds.{World, Event, first_world, Found, Invokes, Proposes, Syncs, Delivers, Sets, Ticks, Stops, Starts, Before, After, number_of, mark_of, is_brick, is_up, may_start, world_began, world_told, world_tells, world_answered, world_answers, reports_of, world_stepped, world_ticked, world_stopped, world_found, world_started, delivered, packet_of, happens, run}
 use Rattle.lines.specs.declared.forms.Line.{Line}
-use Rattle.lines.specs.declared.forms.Line.TheVariants.{Nothing, Invoke, Deliver, SetClock, Tick, Crash, Start, Propose, Calm}
+use Rattle.lines.specs.declared.forms.Line.TheVariants.{Nothing, Invoke, Deliver, SetClock, Tick, Crash, Start, Propose, Sync, Calm}
 use Rattle.fab_base.specs.Layouts.{Layout, Group}
 use Rattle.fab_disk.specs.declared.mem_disk.MemDisk.{MemDisk}
 use Rattle.stripe_code.specs.Codes.{coding}
@@ -255,12 +255,12 @@ done_or_not setting w next true printed = printed refl
 done_or_not setting w next false printed = printed_idle setting w
 
 -- an answer is a mark, and nothing else that a step does is
-told_marks : (setting : Setting) (w : World) (brick : BrickId) (told : List Told) → (world_tells setting w brick told).marks ≡ w.marks
-told_marks setting w brick [] = refl
-told_marks setting w brick (told.Made seq t base ∷ more) = told_marks setting (world_told setting w brick (told.Made seq t base)) brick more
-told_marks setting w brick (told.Seen seq t ∷ more) = told_marks setting (world_told setting w brick (told.Seen seq t)) brick more
-told_marks setting w brick (told.Began call ∷ more) = told_marks setting (world_told setting w brick (told.Began call)) brick more
-told_marks setting w brick (told.Closed seq cause ∷ more) = told_marks setting (world_told setting w brick (told.Closed seq cause)) brick more
+told_marks : (setting : Setting) (nodes : ℕ → Node) (w : World) (brick : BrickId) (told : List Told) → (world_tells setting nodes w brick told).marks ≡ w.marks
+told_marks setting nodes w brick [] = refl
+told_marks setting nodes w brick (told.Made seq t base ∷ more) = told_marks setting nodes (world_told setting nodes w brick (told.Made seq t base)) brick more
+told_marks setting nodes w brick (told.Seen seq t ∷ more) = told_marks setting nodes (world_told setting nodes w brick (told.Seen seq t)) brick more
+told_marks setting nodes w brick (told.Began call ∷ more) = told_marks setting nodes (world_told setting nodes w brick (told.Began call)) brick more
+told_marks setting nodes w brick (told.Closed seq cause ∷ more) = told_marks setting nodes (world_told setting nodes w brick (told.Closed seq cause)) brick more
 
 -- answers are Ends
 answer_marks : (w : World) (brick : BrickId) (answers : List Answered)
@@ -275,12 +275,12 @@ answer_marks w brick (one ∷ answers) =
 stepped_printed : (setting : Setting) (w : World) (brick : BrickId) (step : NodeStep) (most : ℕ) → is_up setting.layout w brick ≡ true
     → Closes (w.nodes brick.0) step most → IsPrinted setting w (world_stepped setting w brick step) Marks most
 stepped_printed setting w brick step most up closes =
-    let more = answer_marks (world_tells setting w brick step.told) brick step.answers in
+    let more = answer_marks (world_tells setting (put w.nodes brick.0 step.node) w brick step.told) brick step.answers in
     let changed = works_put setting.layout.bricks brick.0 w.nodes step.node (up_brick setting.layout w brick up) in
     let many : length (reports_of brick step.reports) ≡ length step.reports = length-map step.reports (λ (report : Report). (brick, report)) in
     let none = more.2 in
     printed_more setting w (world_stepped setting w brick step) more.0 (reports_of brick step.reports) most
-    (more.1 ∙ ap (λ (l : List Mark). l ++ more.0) (told_marks setting w brick step.told)) refl
+    (more.1 ∙ ap (λ (l : List Mark). l ++ more.0) (told_marks setting (put w.nodes brick.0 step.node) w brick step.told)) refl
     (omega (arith, none, many, changed, closes))
 
 -- no other line is at most one
@@ -590,6 +590,7 @@ line_printed layout w old new (Start b fault) events (inl down) = of_one (coding
 line_printed layout w old new (Start b fault) events (inr (inl started)) = of_one (coding layout) w (Start b fault) _ events started.events_are
 line_printed layout w old new (Start b fault) events (inr (inr none)) = of_one (coding layout) w (Start b fault) _ events none.events_are
 line_printed layout w old new (Propose b g members) events are = of_one (coding layout) w (Propose b g members) _ events are
+line_printed layout w old new (Sync b g) events are = of_one (coding layout) w (Sync b g) _ events are
 line_printed layout w old new (Calm n numbers) events (inl calm) =
     calm_printed (coding layout) n numbers w (run (coding layout) events w) events calm.runs
 line_printed layout w old new (Calm n numbers) events (inr none) =

@@ -113,8 +113,8 @@ module _ (layout : Layout) (is : IsLayout layout) (schedule : List (List ℕ)) (
   others_low = lines_few layout w (steps_text (coding layout) (first_world layout) steps) (length steps) printed
 
   -- how many begin, and how many end
-  begun_is : length (begun_numbers w.marks) ≡ w.begun
-  begun_is = (always_numbered (coding layout) events).count ∙ (books (coding layout) events).own.count
+  begun_is : length (begun_numbers w.marks) ≡ w.marked
+  begun_is = (always_numbered (coding layout) events).count
 
   -- no more begin than there are steps
   begins_few : count_by is_begin w.marks ≤ length steps

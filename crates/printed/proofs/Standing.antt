@@ -48,17 +48,17 @@ stand_cases setting w all = record {
       (up_brick setting.layout w brick up, begin_fits setting w brick ask may));
   proposes = λ brick group members may.
       stepped_each (MarksStand setting) setting brick (proposed setting brick (w.nodes brick.0) group members) (λ x seq t base holds. holds)
-      (λ x seq v holds. holds) (λ x call holds. holds) (λ x seq cause holds. holds)
+      (λ x seq v holds. holds) (λ x nodes call holds. holds) (λ x seq cause holds. holds)
       (λ x one holds. one_more setting x.marks (End (length x.marks) _ one.answer) holds tt)
       (λ x nodes held packets choices holds. holds) w all;
   syncs = λ brick group may.
       stepped_each (MarksStand setting) setting brick (synced_at setting brick (w.clocks brick.0) (w.nodes brick.0) group) (λ x seq t base holds. holds)
-      (λ x seq v holds. holds) (λ x call holds. holds) (λ x seq cause holds. holds)
+      (λ x seq v holds. holds) (λ x nodes call holds. holds) (λ x seq cause holds. holds)
       (λ x one holds. one_more setting x.marks (End (length x.marks) _ one.answer) holds tt)
       (λ x nodes held packets choices holds. holds) w all;
   handles = λ number packet at up.
       stepped_each (MarksStand setting) setting packet.to (step_on setting w packet) (λ x seq t base holds. holds) (λ x seq v holds. holds)
-      (λ x call holds. holds) (λ x seq cause holds. holds) (λ x one holds. one_more setting x.marks (End (length x.marks) _ one.answer) holds tt) (λ x nodes held packets choices holds. holds)
+      (λ x nodes call holds. holds) (λ x seq cause holds. holds) (λ x one holds. one_more setting x.marks (End (length x.marks) _ one.answer) holds tt) (λ x nodes held packets choices holds. holds)
       (world_counting setting w number packet) all;
   sets = λ brick time is. all;
   ticks = λ brick up. all;

@@ -9,6 +9,7 @@ use Rattle.protocol.specs.Views.{views_in}
 use Rattle.protocol.specs.Worlds.{World, first_world}
 use Rattle.view_laws.proofs.Followed.{every_run_follows}
 use Rattle.view_laws.proofs.Named.{every_one_successor, every_name_is_chosen, every_proposal_shows}
+use Rattle.view_laws.proofs.SyncedViews.{syncs_are_said as said_synced}
 use Rattle.protocol_laws.specs.Laws.{Laws}
 use Rattle.protocol_laws.proofs.EveryRun.{every_views_run}
 use Rattle.stripe_code.specs.Codes.{coding}
@@ -45,11 +46,14 @@ strict_world layout is steps =
       words = kept.words;
       strict = kept.strict;
       aborts_show = kept.aborts;
+      syncs_show = kept.stopped;
+      synced_stand = kept.synced;
       laws = kept;
       views = record {
         one_successor = every_one_successor (coding layout) (all_events steps) (coding_is_sound layout is);
         names_are_chosen = every_name_is_chosen (coding layout) (all_events steps) (coding_is_sound layout is);
         ends_show = every_proposal_shows (coding layout) (all_events steps) (coding_is_sound layout is);
+        syncs_are_said = said_synced (coding layout) (all_events steps) (coding_is_sound layout is);
       };
     }
 

@@ -6,6 +6,7 @@ use Rattle.protocol.specs.Views.{view_of, group_in, views_in}
 use Rattle.protocol.specs.Worlds.{World}
 use Rattle.view_laws.specs.Ends.{ProposalsShowIn}
 use Rattle.view_laws.specs.Successors.{OneSuccessorIn, NamesAreChosenIn, ChoicesHoldIn, StaysClosed}
+use Rattle.view_laws.specs.Syncs.{SyncsAreSaidIn}
 use Rattle.protocol_laws.specs.Laws.{NeverFalls, AddsNothingBelow, OrdersRise, IsLost, IsHeldByQuorum}
 
 -- No brick has lowered the stamp below which it takes nothing for a stripe, added a version below that, or replaced an order stamp by one of an earlier
@@ -20,9 +21,10 @@ pub record Succeeds (layout : Layout) (earlier later : World) : Type 0 where
   pub choices_hold : ChoicesHoldIn earlier later
   pub stays_closed : StaysClosed layout earlier later
 
--- What holds of the views of a world. Each has one successor at most; whatever names the members of a later view names those that were chosen; and
--- each end of a proposal shows its cause.
+-- What holds of the views of a world. Each has one successor at most; whatever names the members of a later view names those that were chosen;
+-- each end of a proposal shows its cause; and a view is followed only once all stripes are said to be kept in it.
 pub record ViewsHold (layout : Layout) (world : World) : Type 0 where
   pub one_successor : OneSuccessorIn layout world
   pub names_are_chosen : NamesAreChosenIn layout world
   pub ends_show : ProposalsShowIn layout world
+  pub syncs_are_said : SyncsAreSaidIn layout world

@@ -43,13 +43,15 @@ use std::alloc::Global;
 /// `specs/AuditFindings.antt`).
 ///
 /// At every status the steps that were run are those of the first lines of the input (`AreStepsIn`, `specs/LineSteps.antt`), and
-/// what is printed is their texts and then what the lines behind them end it with. Their texts are marks, refusals and `idle`, and the marks
-/// are those of the world that they leave (`ArePrinted`, `specs/Printed.antt` of `printed`).
+/// what is printed is their texts and then what the lines behind them end it with. Their texts are marks, reports, refusals and `idle`, and the marks and
+/// the reports are those of the world that they leave (`ArePrinted`, `specs/Printed.antt` of `printed`).
 ///
 /// What comes first in the input decides: no read is made once what was read holds a line that is none, a line past
 /// 70,000 bytes, a layout that is none, or a line too many (`ReadsAsNeeded` and `FailedSource`, `specs/Replays.antt`).
 ///
-/// However far a run comes, all laws of the disk hold of what its lines left (`Laws` of `protocol_laws`), and what
+/// However far a run comes, all laws of the disk hold of what its lines left (`Laws` of `protocol_laws`). Every abort shows its evidence, and
+/// so does a synchronisation that was stopped: its stripe had been read eight times, and each read was aborted. Once a message says that all
+/// stripes are kept in a view, a quorum of its members has held a version of each (`IsStrictWorld`, `specs/Replays.antt`). What
 /// further lines leave follows it: no brick has lowered what it had promised or stored, or added a version
 /// below that, and no version that was lost has surfaced (`Succeeds`, `specs/Histories.antt`).
 ///

@@ -10,12 +10,12 @@ use Rattle.lines.specs.declared.forms.Line.TheVariants.{Calm}
 use Rattle.protocol.specs.Settings.{Setting}
 use Rattle.protocol.specs.declared.tellings.Report.{Report}
 use Rattle.protocol.specs.Calms.{RunsAlone, Ended, Stuck, Next, IsCalm, operation_marked}
-use Rattle.protocol.specs.Worlds.{World, Event, Delivers, happens, run}
+use Rattle.protocol.specs.Worlds.{World, Event, Delivers, first_world, happens, run}
 use Rattle.rs_code.proofs.StripeLaws.{length-coded_block}
 use Rattle.stripe_code.specs.Codes.{coding}
 use Rattle.stripe_code.proofs.Soundness.{coding_is_sound}
 use Rattle.calm_laws.specs.Laws.{IsOver, LeavesItsOwn}
-use Rattle.calm_laws.proofs.Discharge.{calm_ends}
+use Rattle.calm_laws.proofs.Discharge.{calm_ends, marked_has_stripe}
 use Rattle.calm_laws.proofs.Leaving.{collects_leave}
 use Rattle.world.specs.Runs.{brick_of}
 use Rattle.world.specs.Shown.{Shows, Comes, Refused, HasRun, HasBegun, IsReachedBy, disks_of, is_empty}
@@ -25,21 +25,26 @@ use Rattle.world.specs.declared.simulations.Simulation.{Simulation}
 use Rattle.world.proofs.CalmRuns.{begins_run}
 
 -- it is over
-over_alone : (layout : Layout) (is : IsLayout layout) (n : ℕ) (bricks : List BrickId) (w last : World) (events : List Event) → IsReachedBy layout w
-    → IsCalm (coding layout) w n bricks → RunsAlone (coding layout) n bricks w events last → IsOver last n
-over_alone layout is n bricks w last events (before, reached) calm runs =
-    (calm_ends (coding layout) before n bricks (coding_is_sound layout is) (λ m content seat. length-coded_block m layout.block content seat)
-    is.few_records (subst (λ (v : World). IsCalm (coding layout) v n bricks) reached calm)).over events last
-    (subst (λ (v : World). RunsAlone (coding layout) n bricks v events last) reached runs)
+over_alone : (layout : Layout) (is : IsLayout layout) (mark : ℕ) (bricks : List BrickId) (w last : World) (events : List Event) → IsReachedBy layout w
+    → IsCalm (coding layout) w (operation_marked w mark) bricks → RunsAlone (coding layout) (operation_marked w mark) bricks w events last
+    → IsOver last (operation_marked w mark)
+over_alone layout is mark bricks w last events (before, reached) =
+    subst (λ (v : World). IsCalm (coding layout) v (operation_marked v mark) bricks → RunsAlone (coding layout) (operation_marked v mark) bricks v events last
+    → IsOver last (operation_marked v mark)) (sym reached)
+    (λ calm runs. (calm_ends (coding layout) before (operation_marked (run (coding layout) before (first_world layout)) mark) bricks (coding_is_sound layout is)
+    (λ m content seat. length-coded_block m layout.block content seat) is.few_records calm
+    (marked_has_stripe (coding layout) before mark calm.operation calm.is)).over events last runs)
 
 -- and its Collects leave its own version only
-leaves_own : (layout : Layout) (is : IsLayout layout) (n : ℕ) (bricks : List BrickId) (w last : World) (events : List Event) → IsReachedBy layout w
-    → (calm : IsCalm (coding layout) w n bricks) → RunsAlone (coding layout) n bricks w events last → LeavesItsOwn (coding layout) w n bricks calm last
-leaves_own layout is n bricks w last events (before, reached) =
-    subst (λ (v : World). (calm : IsCalm (coding layout) v n bricks) → RunsAlone (coding layout) n bricks v events last
-    → LeavesItsOwn (coding layout) v n bricks calm last) (sym reached)
-    (λ calm runs. collects_leave (coding layout) before n bricks (coding_is_sound layout is)
-    (λ m content seat. length-coded_block m layout.block content seat) is.few_records calm events last runs)
+leaves_own : (layout : Layout) (is : IsLayout layout) (mark : ℕ) (bricks : List BrickId) (w last : World) (events : List Event) → IsReachedBy layout w
+    → (calm : IsCalm (coding layout) w (operation_marked w mark) bricks) → RunsAlone (coding layout) (operation_marked w mark) bricks w events last
+    → LeavesItsOwn (coding layout) w (operation_marked w mark) bricks calm last
+leaves_own layout is mark bricks w last events (before, reached) =
+    subst (λ (v : World). (calm : IsCalm (coding layout) v (operation_marked v mark) bricks)
+    → RunsAlone (coding layout) (operation_marked v mark) bricks v events last → LeavesItsOwn (coding layout) v (operation_marked v mark) bricks calm last) (sym reached)
+    (λ calm runs. collects_leave (coding layout) before (operation_marked (run (coding layout) before (first_world layout)) mark) bricks (coding_is_sound layout is)
+    (λ m content seat. length-coded_block m layout.block content seat) is.few_records calm
+    (marked_has_stripe (coding layout) before mark calm.operation calm.is) events last runs)
 
 -- it leaves the world after its events
 runs_run : (setting : Setting) (n : ℕ) (bricks : List BrickId) (w last : World) (events : List Event) → RunsAlone setting n bricks w events last
@@ -72,8 +77,8 @@ run_comes layout is w mark numbers disks state some reached may has =
         are = inl (record {
           may = may;
           runs = runs;
-          over = over_alone layout is n (map brick_of numbers) w (run (coding layout) has.events w) has.events reached may runs;
-          leaves = leaves_own layout is n (map brick_of numbers) w (run (coding layout) has.events w) has.events reached may runs;
+          over = over_alone layout is mark (map brick_of numbers) w (run (coding layout) has.events w) has.events reached may runs;
+          leaves = leaves_own layout is mark (map brick_of numbers) w (run (coding layout) has.events w) has.events reached may runs;
         });
         shows = subst (λ (v : World). Shows layout state v) after has.shows;
         prints =

@@ -23,7 +23,7 @@ use Rattle.protocol.specs.declared.tellings.Told.{Told}
 use Rattle.protocol.specs.declared.tellings.Told.TheVariants.{Made, Seen, Began, Closed}
 use Rattle.protocol.specs.Jobs.{Job}
 use Rattle.protocol.specs.Happenings.{is_marked}
-use Rattle.protocol.specs.Nodes.{NodeStep, put, received, job_reading}
+use Rattle.protocol.specs.Nodes.{Node, NodeStep, put, received, job_reading}
 use Rattle.protocol.specs.Worlds.{World, Operation, Event, Delivers, is_brick, is_up, number_of, mark_of, packet_of, reports_of, world_told, world_tells, world_answered, world_answers, first_world, happens, run}
 use Rattle.reg_model.specs.declared.marks.Mark.{Mark}
 use Rattle.reg_model.specs.declared.marks.Mark.TheVariants.{End}
@@ -51,20 +51,20 @@ use Rattle.world.proofs.RunLaws.{JobsReadUnmarked, reached_numbers, reached_numb
 use Rattle.protocol.proofs.Events.{run-append, step_on, world_counting, world_handled}
 
 -- what is told makes no mark, and what is answered adds some
-told_marks : (setting : Setting) (w : World) (brick : BrickId) (told : List Told) → (world_tells setting w brick told).marks ≡ w.marks
-told_marks setting w brick [] = refl
-told_marks setting w brick (Made seq t base ∷ more) = told_marks setting (world_told setting w brick (Made seq t base)) brick more
-told_marks setting w brick (Seen seq v ∷ more) = told_marks setting (world_told setting w brick (Seen seq v)) brick more
-told_marks setting w brick (Began call ∷ more) = told_marks setting (world_told setting w brick (Began call)) brick more
-told_marks setting w brick (Closed seq cause ∷ more) = told_marks setting (world_told setting w brick (Closed seq cause)) brick more
+told_marks : (setting : Setting) (nodes : ℕ → Node) (w : World) (brick : BrickId) (told : List Told) → (world_tells setting nodes w brick told).marks ≡ w.marks
+told_marks setting nodes w brick [] = refl
+told_marks setting nodes w brick (Made seq t base ∷ more) = told_marks setting nodes (world_told setting nodes w brick (Made seq t base)) brick more
+told_marks setting nodes w brick (Seen seq v ∷ more) = told_marks setting nodes (world_told setting nodes w brick (Seen seq v)) brick more
+told_marks setting nodes w brick (Began call ∷ more) = told_marks setting nodes (world_told setting nodes w brick (Began call)) brick more
+told_marks setting nodes w brick (Closed seq cause ∷ more) = told_marks setting nodes (world_told setting nodes w brick (Closed seq cause)) brick more
 
 -- nor does it number a call, where no read begins
-told_numbers : (setting : Setting) (w : World) (brick : BrickId) (told : List Told) → reads_begun told ≡ 0 → (world_tells setting w brick told).numbers ≡ w.numbers
-told_numbers setting w brick [] none = refl
-told_numbers setting w brick (Made seq t base ∷ more) none = told_numbers setting (world_told setting w brick (Made seq t base)) brick more none
-told_numbers setting w brick (Seen seq v ∷ more) none = told_numbers setting (world_told setting w brick (Seen seq v)) brick more none
-told_numbers setting w brick (Began call ∷ more) none = absurd (omega (arith, none))
-told_numbers setting w brick (Closed seq cause ∷ more) none = told_numbers setting (world_told setting w brick (Closed seq cause)) brick more none
+told_numbers : (setting : Setting) (nodes : ℕ → Node) (w : World) (brick : BrickId) (told : List Told) → reads_begun told ≡ 0 → (world_tells setting nodes w brick told).numbers ≡ w.numbers
+told_numbers setting nodes w brick [] none = refl
+told_numbers setting nodes w brick (Made seq t base ∷ more) none = told_numbers setting nodes (world_told setting nodes w brick (Made seq t base)) brick more none
+told_numbers setting nodes w brick (Seen seq v ∷ more) none = told_numbers setting nodes (world_told setting nodes w brick (Seen seq v)) brick more none
+told_numbers setting nodes w brick (Began call ∷ more) none = absurd (omega (arith, none))
+told_numbers setting nodes w brick (Closed seq cause ∷ more) none = told_numbers setting nodes (world_told setting nodes w brick (Closed seq cause)) brick more none
 
 answers_numbers : (w : World) (brick : BrickId) (answers : List Answered) → (world_answers w brick answers).numbers ≡ w.numbers
 answers_numbers w brick [] = refl
@@ -99,6 +99,9 @@ module _ (setting : Setting) (w : World) (number : ℕ) (packet : Packet) (sent 
   abbrev marked : World
   marked = world_counting setting w number packet
 
+  abbrev after_nodes : ℕ → Node
+  after_nodes = put w.nodes packet.to.0 step.node
+
   after_is : happens setting w (Delivers number) ≡ world_handled setting w number packet
   after_is = happens_handled setting w number packet sent up
 
@@ -113,8 +116,8 @@ module _ (setting : Setting) (w : World) (number : ℕ) (packet : Packet) (sent 
 
   marks_after : (made : List Mark) × ((happens setting w (Delivers number)).marks ≡ w.marks ++ made)
   marks_after =
-      let (made, are) = answers_marks (world_tells setting marked packet.to step.told) packet.to step.answers in
-      (made, ap (λ (v : World). v.marks) after_is ∙ are ∙ ap (λ (l : List Mark). l ++ made) (told_marks setting marked packet.to step.told))
+      let (made, are) = answers_marks (world_tells setting after_nodes marked packet.to step.told) packet.to step.answers in
+      (made, ap (λ (v : World). v.marks) after_is ∙ are ∙ ap (λ (l : List Mark). l ++ made) (told_marks setting after_nodes marked packet.to step.told))
 
   reports_after : (happens setting w (Delivers number)).choices.reports ≡ w.choices.reports ++ reports_of packet.to step.reports
   reports_after = ap (λ (v : World). v.choices.reports) after_is
@@ -122,8 +125,8 @@ module _ (setting : Setting) (w : World) (number : ℕ) (packet : Packet) (sent 
   -- the calls keep their numbers, where no read begins
   numbers_after : reads_begun step.told ≡ 0 → (happens setting w (Delivers number)).numbers ≡ w.numbers
   numbers_after none =
-      ap (λ (v : World). v.numbers) after_is ∙ answers_numbers (world_tells setting marked packet.to step.told) packet.to step.answers
-      ∙ told_numbers setting marked packet.to step.told none
+      ap (λ (v : World). v.numbers) after_is ∙ answers_numbers (world_tells setting after_nodes marked packet.to step.told) packet.to step.answers
+      ∙ told_numbers setting after_nodes marked packet.to step.told none
 
   -- of one that reports nothing
   module _ (quiet : step.reports ≡ []) where

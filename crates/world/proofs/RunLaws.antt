@@ -62,6 +62,11 @@ abbrev pub JobsReadUnmarked : World → Type 0
 JobsReadUnmarked w =
     (i : ℕ) (job : Job) → (w.nodes i).job ≡ Some job → (o : Operation) → w.operations (number_of w i job.seq) ≡ Some o → o.mark ≡ 0
 
+pub reached_unmarked : (layout : Layout) (w : World) → IsReachedBy layout w → JobsReadUnmarked w
+reached_unmarked layout w reached i job is o at =
+    let own = (reached_books layout w reached).jobs i job is in
+    ap (λ (x : Operation). x.mark) (same_Some o own.operation (sym at ∙ own.operation_is)) ∙ own.mark
+
 pub reached_bricks : (layout : Layout) (w : World) → IsReachedBy layout w → AreOfBricks layout w
 reached_bricks layout w (events, is) = subst (AreOfBricks layout) (sym is) (of_bricks layout events)
 

@@ -1,6 +1,6 @@
 //! Whether an operation may run alone among some bricks.
 
-ghost use Rattle.std.specs.Prelude.{◌≡◌, ◌&&◌, ◌+◌, ◌<◌, ◌≤◌, ℕ, map, nat_lt, nat_le, nat_eq, length, filter, is_some, slice_get, Some};
+ghost use Rattle.std.specs.Prelude.{◌≡◌, ◌&&◌, ◌+◌, true, ◌<◌, ◌≤◌, ℕ, map, nat_lt, nat_le, nat_eq, length, filter, is_some, slice_get, Some};
 ghost use Rattle.std.specs.List.{IsDistinct, list_any};
 ghost use Rattle.std.specs.Bool.{Decides};
 ghost use Rattle.std.specs.Option.{option_copied};
@@ -189,6 +189,18 @@ fn has_quorum(m: u8, members: &Members, numbers: &[u64]) -> bool
     quorum_of(m, members) <= members_among(members, numbers)
 }
 
+/// Whether a quorum of the members before a view is among these bricks, where an operation in the view may have to ask them.
+fn has_prior_quorum(bricks: &[Brick], m: u8, group: GroupId, view: &View, numbers: &[u64]) -> bool
+    requires { group.0 < most_groups }
+    ensures { Decides result (may_ask_prior_at bricks.now group.0 view.now.number.0 numbers.now ≡ true
+        → q_of m (length view.now.prior) ≤ length (filter (λ number. list_any (λ member. nat_eq member.0 number) view.now.prior) numbers.now)) }
+{
+    if !may_ask_prior(bricks, group, view.number, numbers) {
+        return true;
+    }
+    has_quorum(m, &view.prior, numbers)
+}
+
 impl Simulation {
     ghost use Rattle.std.specs.Prelude.{◌≡◌};
     ghost use Rattle.world.specs.Shown.{DecidesCalm, open_record, open_view};
@@ -241,9 +253,7 @@ impl Simulation {
         if !are_able(&self.bricks, layout, record.group, view.number, bricks) {
             return false;
         }
-        if may_ask_prior(&self.bricks, record.group, view.number, bricks)
-            && !has_quorum(group.m(), &view.prior, bricks)
-        {
+        if !has_prior_quorum(&self.bricks, group.m(), record.group, &view, bricks) {
             return false;
         }
         let delivered = &self.history.delivered;

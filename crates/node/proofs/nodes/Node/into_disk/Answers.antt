@@ -11,4 +11,4 @@ returns-clause-stands g c =
     let x = c.self.inside in
     subst (λ (n : Running g.row.D.Denot). d.tells → n.brick.halted ≡ false → Stands d (ImageShows n.layout n.me (state_of n)) c.into_disk.result)
     c.self.view_is
-    (λ told runs. shown_so d x.layout x.work x.store c.into_disk.result c.self.invariant (c.into_disk.ensures.stands told runs))
+    (λ told runs. shown_so d x.layout x.tasks x.store c.into_disk.result c.self.invariant (c.into_disk.ensures.stands told runs))

@@ -6,7 +6,6 @@ use Rattle.quorum.specs.Quorums.{IsWithinLimits}
 use Rattle.coord_phase.specs.Operations.{PriorIsWithinLimits}
 use Rattle.protocol.specs.Nodes.{Node, refusal_of, invoked, has_block, has_length}
 use Rattle.stripe_code.specs.Codes.{coding}
-use Rattle.node.specs.declared.open_work.OpenWork.{OpenWork}
 use Rattle.node.specs.States.{parts_in, parts_with, BeginsAs}
 use Rattle.node.specs.Running.{Running, running, state_of}
 use Rattle.node.proofs.Views.{seen_so}
@@ -19,8 +18,8 @@ returns-in-Err g c =
     let x = c.self.inside in
     record {
       refused = subst (λ (n : Running g.row.D.Denot). refusal_of n.layout (state_of n) c.args.ask.now ≡ Some c.in-Err.refusal) c.self.view_is
-          (ap (λ (s : Node). refusal_of x.layout s c.args.ask.now) (seen_so x.layout x.work x.store c.self.invariant.boot)
-          ∙ sym (c.in-Err.ensures.refused (parts_with (parts_in x.layout x.store.state) x.work.proposals)));
+          (ap (λ (s : Node). refusal_of x.layout s c.args.ask.now) (seen_so x.layout x.tasks x.store c.self.invariant.boot)
+          ∙ sym (c.in-Err.ensures.refused (parts_with (parts_in x.layout x.store.state) x.tasks.work.proposals)));
       begun = tt;
       err = search rules;
       few = tt;
@@ -35,24 +34,24 @@ pub returns-in_err-begin-clause-err : goal.returns-in_err-begin-clause-err
 returns-in_err-begin-clause-err g c =
     let x = c.self.inside in
     on_err _
-    (stays_so x.layout x.work (record { calls = c.begin.new.self; proposals = x.work.proposals }) x.store c.self.invariant.boot c.in_err-begin.ensures.same.boot
-    (c.in_err-begin.ensures.err (parts_with (parts_in x.layout x.store.state) x.work.proposals))
+    (stays_so x.layout x.tasks c.begin.new.self x.store c.self.invariant.boot c.in_err-begin.ensures.same.boot
+    (c.in_err-begin.ensures.err (parts_in x.layout x.store.state))
     ∙ ap (λ (n : Running g.row.D.Denot). state_of n) c.self.view_is)
 
 pub returns-in_err-begin-clause-refused : goal.returns-in_err-begin-clause-refused
 returns-in_err-begin-clause-refused g c =
     let x = c.self.inside in
     let none = subst (λ (n : Running g.row.D.Denot). refusal_of n.layout (state_of n) c.args.ask.now ≡ None) c.self.view_is
-    (ap (λ (s : Node). refusal_of x.layout s c.args.ask.now) (seen_so x.layout x.work x.store c.self.invariant.boot)
-    ∙ sym (c.in-Ok.ensures.refused (parts_with (parts_in x.layout x.store.state) x.work.proposals))) in
+    (ap (λ (s : Node). refusal_of x.layout s c.args.ask.now) (seen_so x.layout x.tasks x.store c.self.invariant.boot)
+    ∙ sym (c.in-Ok.ensures.refused (parts_with (parts_in x.layout x.store.state) x.tasks.work.proposals))) in
     search (rules, none)
 
 pub returns-clause-refused : goal.returns-clause-refused
 returns-clause-refused g c =
     let x = c.self.inside in
     subst (λ (n : Running g.row.D.Denot). refusal_of n.layout (state_of n) c.args.ask.now ≡ None) c.self.view_is
-    (ap (λ (s : Node). refusal_of x.layout s c.args.ask.now) (seen_so x.layout x.work x.store c.self.invariant.boot)
-    ∙ sym (c.in-Ok.ensures.refused (parts_with (parts_in x.layout x.store.state) x.work.proposals)))
+    (ap (λ (s : Node). refusal_of x.layout s c.args.ask.now) (seen_so x.layout x.tasks x.store c.self.invariant.boot)
+    ∙ sym (c.in-Ok.ensures.refused (parts_with (parts_in x.layout x.store.state) x.tasks.work.proposals)))
 
 pub begin-requires-clause-limits : goal.begin-requires-clause-limits
 begin-requires-clause-limits g c =
@@ -92,14 +91,14 @@ returns-clause-begun g c =
     let x = c.self.inside in
     let view = c.learnt_view-view.result in
     let found = c.in-Ok.ensures.group in
-    let after : OpenWork = record { calls = c.begin.new.self; proposals = x.work.proposals } in
+    let after = c.begin.new.self in
     subst
     (λ (n : Running g.row.D.Denot). BeginsAs n.me (state_of (running x.layout after x.store))
     (invoked (coding n.layout) n.me c.args.now (state_of n) c.args.ask.now) c.in_ok-begin.field-0)
     c.self.view_is
-    (begins_so x.layout x.work after x.store c.self.invariant.boot c.args.now c.args.ask.now c.in-Ok.group.now view c.in_ok-begin.field-0
+    (begins_so x.layout x.tasks after x.store c.self.invariant.boot c.args.now c.args.ask.now c.in-Ok.group.now view c.in_ok-begin.field-0
     c.in_ok-begin.ensures.same.boot (sym (c.learnt_view-view.ensures.view x.layout found)) found
-    (λ kept. c.in_ok-begin.ensures.begun (parts_with kept x.work.proposals)))
+    c.in_ok-begin.ensures.begun)
 
 pub returns-then-is_halted : goal.returns-then-is_halted
 returns-then-is_halted g c = search rules

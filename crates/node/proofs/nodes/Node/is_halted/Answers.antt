@@ -11,10 +11,10 @@ returns-clause-stands g c =
     let d = g.D.Disk in
     let x = c.self.inside in
     subst (λ (n : Running g.row.D.Denot). IsShown d n) c.self.view_is
-    (λ told runs. shown_so d x.layout x.work x.store x.store.disk c.self.invariant (c.is_halted.ensures.stands told runs))
+    (λ told runs. shown_so d x.layout x.tasks x.store x.store.disk c.self.invariant (c.is_halted.ensures.stands told runs))
 
 pub returns-clause-kept : goal.returns-clause-kept
 returns-clause-kept g c =
     let x = c.self.inside in
     subst (λ (n : Running g.row.D.Denot). IsKept n.layout n.brick.state (state_of n)) c.self.view_is
-    (kept_so x.layout x.work x.store c.self.invariant)
+    (kept_so x.layout x.tasks x.store c.self.invariant)

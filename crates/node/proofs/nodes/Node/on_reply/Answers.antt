@@ -114,7 +114,7 @@ returns-clause-step g c =
     let old = c.args.self.now in
     subst (λ (step : NodeStep). IfOk c.on_moved.result (StepsAs old.me (state_of c.on_moved.new.self) step))
     (sym (received_reply old.layout old.me c.args.now (state_of old) c.args.packet.now c.args.call c.args.reply.now c.requires.reply))
-    (c.on_moved.ensures.step c.args.now)
+    c.on_moved.ensures.step
 
 pub returns-clause-still : goal.returns-clause-still
 returns-clause-still g c = λ none.

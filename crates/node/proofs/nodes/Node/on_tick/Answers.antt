@@ -12,5 +12,5 @@ pub returns-clause-packets : goal.returns-clause-packets
 returns-clause-packets g c =
     let x = c.self.inside in
     subst (λ (n : Running g.row.D.Denot). packets_from n.me c.in_ok-on_tick.field-0.items ≡ ticked (coding n.layout) n.me (state_of n)) c.self.view_is
-    (c.in_ok-on_tick.ensures.packets x.layout (parts_in x.layout x.store.state) c.self.invariant.work_is
-    ∙ ap (λ (s : Node). ticked (coding x.layout) x.work.calls.me s) (sym (seen_so x.layout x.work x.store c.self.invariant.boot)))
+    (c.in_ok-on_tick.ensures.packets x.layout (parts_in x.layout x.store.state) c.self.invariant.tasks_are
+    ∙ ap (λ (s : Node). ticked (coding x.layout) x.tasks.work.calls.me s) (sym (seen_so x.layout x.tasks x.store c.self.invariant.boot)))

@@ -17,14 +17,14 @@ returns-in_default-clause-refused g c =
     let x = c.self.inside in
     let found : group_of x.layout c.args.group.0 ≡ None = sym c.group.ensures.found ∙ ap option_copied c.in_default.is in
     subst (λ (n : Running g.row.D.Denot). proposal_refusal_in (state_of n) c.args.group.0 (group_of n.layout c.args.group.0) ≡ Some Refusal.NoStripe) c.self.view_is
-    (ap (proposal_refusal_in (state_of (running x.layout x.work x.store)) c.args.group.0) found)
+    (ap (proposal_refusal_in (state_of (running x.layout x.tasks x.store)) c.args.group.0) found)
 
 pub returns-in-Some-proposal_refusal-clause-refused : goal.returns-in-Some-proposal_refusal-clause-refused
 returns-in-Some-proposal_refusal-clause-refused g c =
     let x = c.self.inside in
     let found = c.in-Some.ensures.found in
     subst (λ (n : Running g.row.D.Denot). proposal_refusal n.layout (state_of n) c.args.group.0 ≡ Some c.in-Some-proposal_refusal.refusal) c.self.view_is
-    (refused_so x.layout x.work x.store c.self.invariant.boot c.args.group.0 c.in-Some.kept.now (Some c.in-Some-proposal_refusal.refusal)
+    (refused_so x.layout x.tasks x.store c.self.invariant.boot c.args.group.0 c.in-Some.kept.now (Some c.in-Some-proposal_refusal.refusal)
     (sym found)
     (c.in-Some-proposal_refusal.ensures.value (parts_in x.layout x.store.state) c.in-Some.kept.now c.args.group.0
     (ap (λ (v : View). v.number.0) (sym (c.learnt_view-view.ensures.view x.layout (sym found))))))
@@ -34,7 +34,7 @@ returns-in_err-propose-clause-refused g c =
     let x = c.self.inside in
     let found = sym c.in-Some.ensures.found in
     let none = subst (λ (n : Running g.row.D.Denot). proposal_refusal n.layout (state_of n) c.args.group.0 ≡ None) c.self.view_is
-    (refused_so x.layout x.work x.store c.self.invariant.boot c.args.group.0 c.in-Some.kept.now None found
+    (refused_so x.layout x.tasks x.store c.self.invariant.boot c.args.group.0 c.in-Some.kept.now None found
     (c.in_default-proposal_refusal.ensures.value (parts_in x.layout x.store.state) c.in-Some.kept.now c.args.group.0
     (ap (λ (v : View). v.number.0) (sym (c.learnt_view-view.ensures.view x.layout found))))) in
     search (rules, none)
@@ -44,7 +44,7 @@ returns-clause-refused g c =
     let x = c.self.inside in
     let found = sym c.in-Some.ensures.found in
     subst (λ (n : Running g.row.D.Denot). proposal_refusal n.layout (state_of n) c.args.group.0 ≡ None) c.self.view_is
-    (refused_so x.layout x.work x.store c.self.invariant.boot c.args.group.0 c.in-Some.kept.now None found
+    (refused_so x.layout x.tasks x.store c.self.invariant.boot c.args.group.0 c.in-Some.kept.now None found
     (c.in_default-proposal_refusal.ensures.value (parts_in x.layout x.store.state) c.in-Some.kept.now c.args.group.0
     (ap (λ (v : View). v.number.0) (sym (c.learnt_view-view.ensures.view x.layout found)))))
 
@@ -58,6 +58,6 @@ returns-clause-step g c =
     (λ (n : Running g.row.D.Denot). StepsAs n.me (state_of (running x.layout c.propose.new.self x.store))
     (proposed (coding n.layout) n.me (state_of n) group members) c.in_ok-propose.field-0)
     c.self.view_is
-    (proposes_so x.layout x.work x.store c.self.invariant.boot c.propose.new.self group c.in-Some.kept.now members c.in_ok-propose.field-0
+    (proposes_so x.layout x.tasks x.store c.self.invariant.boot c.propose.new.self group c.in-Some.kept.now members c.in_ok-propose.field-0
     c.in_ok-propose.ensures.same.boot found
     (c.in_ok-propose.ensures.step (parts_in x.layout x.store.state) (sym (c.learnt_view-view.ensures.view x.layout found))))

@@ -42,11 +42,11 @@ returns-in_err-answer g c =
     let fault = err_from_is_err_and c.from_residual.result c.from_residual.ensures.1 in
     let err =
     on_err c.from_residual.result
-    (same_kept x.layout x.work x.store c.handle.new.store handled.handles.refused ∙ ap (λ (n : Running g.row.D.Denot). state_of n) c.self.view_is) in
+    (same_kept x.layout x.tasks x.store c.handle.new.store handled.handles.refused ∙ ap (λ (n : Running g.row.D.Denot). state_of n) c.self.view_is) in
     let change =
-    refused_step d _ (Option Message) c.in_err-answer.field-0.0 c.from_residual.result _ _ c.args.self.now (running x.layout x.work c.handle.new.store)
+    refused_step d _ (Option Message) c.in_err-answer.field-0.0 c.from_residual.result _ _ c.args.self.now (running x.layout x.tasks c.handle.new.store)
     (fault.1 ∙ ap (λ (e : NodeFault). Err e) fault.2) c.requires.stands
-    (change_so d x.layout x.work from message x.store c.handle.new.store c.args.self.now _ c.self.view_is c.self.invariant
+    (change_so d x.layout x.tasks from message x.store c.handle.new.store c.args.self.now _ c.self.view_is c.self.invariant
     (λ told. handled.handles.stood told runs) handled.change) in
     search (rules, err, change)
 
@@ -55,12 +55,12 @@ invariant_of-self-2 g c =
     let x = c.self.inside in
     let h = c.in_ok-answer.ensures.handles in
     let is = subst (λ (me : BrickId). IsStep x.layout me c.args.from c.args.message.now x.store.state c.in_ok-answer.answer c.handle.new.store.state)
-    (is_me x.layout x.work x.store c.args.from c.args.message.now c.self.invariant.shape_is) h.ok in
+    (is_me x.layout x.tasks x.store c.args.from c.args.message.now c.self.invariant.shape_is) h.ok in
     record {
       shape_is = h.shape ∙ c.self.invariant.shape_is;
-      boot = follows_boot x.layout x.work x.store c.args.from c.args.message.now c.handle.new.store c.in_ok-answer.answer is c.self.invariant.boot;
+      boot = follows_boot x.layout x.tasks x.store c.args.from c.args.message.now c.handle.new.store c.in_ok-answer.answer is c.self.invariant.boot;
       lists = is.lists c.self.invariant.lists;
-      work_is = c.self.invariant.work_is;
+      tasks_are = c.self.invariant.tasks_are;
     }
 
 pub returns-clause-step : goal.returns-clause-step
@@ -71,19 +71,19 @@ returns-clause-step g c =
     let answer = c.in_ok-answer.answer in
     let new = c.handle.new.store in
     let is = subst (λ (me : BrickId). IsStep x.layout me from message x.store.state answer new.state)
-    (is_me x.layout x.work x.store from message c.self.invariant.shape_is) c.in_ok-answer.ensures.handles.ok in
+    (is_me x.layout x.tasks x.store from message c.self.invariant.shape_is) c.in_ok-answer.ensures.handles.ok in
     subst
-    (λ (n : Running g.row.D.Denot). StepsAs n.me (state_of (running x.layout x.work new))
+    (λ (n : Running g.row.D.Denot). StepsAs n.me (state_of (running x.layout x.tasks new))
     (member_step n.layout n.me from (state_of n) message) c.sending.result)
     c.self.view_is
     (record {
-      packets = ap (λ (outs : Outcome). packets_from x.work.calls.me outs.messages) c.sending.ensures
-          ∙ ap (packets_from x.work.calls.me) c.answer_messages.ensures.items ∙ answered_is x.work.calls.me from answer
-          ∙ sym (follows_packets x.layout x.work x.store from message new.state answer is);
-      told = ap (λ (outs : Outcome). outs.told) c.sending.ensures ∙ (follows_told x.layout x.work x.store from message).0;
-      answers = ap (λ (outs : Outcome). outs.answers) c.sending.ensures ∙ (follows_told x.layout x.work x.store from message).1;
-      reports = ap (λ (outs : Outcome). outs.reports) c.sending.ensures ∙ (follows_told x.layout x.work x.store from message).2;
-      state_is = follows_state x.layout x.work x.store from message new answer is;
+      packets = ap (λ (outs : Outcome). packets_from x.tasks.work.calls.me outs.messages) c.sending.ensures
+          ∙ ap (packets_from x.tasks.work.calls.me) c.answer_messages.ensures.items ∙ answered_is x.tasks.work.calls.me from answer
+          ∙ sym (follows_packets x.layout x.tasks x.store from message new.state answer is);
+      told = ap (λ (outs : Outcome). outs.told) c.sending.ensures ∙ (follows_told x.layout x.tasks x.store from message).0;
+      answers = ap (λ (outs : Outcome). outs.answers) c.sending.ensures ∙ (follows_told x.layout x.tasks x.store from message).1;
+      reports = ap (λ (outs : Outcome). outs.reports) c.sending.ensures ∙ (follows_told x.layout x.tasks x.store from message).2;
+      state_is = follows_state x.layout x.tasks x.store from message new answer is;
     })
 
 pub returns-clause-still : goal.returns-clause-still
@@ -96,13 +96,13 @@ returns-clause-still g c =
     let new = c.handle.new.store in
     let shape = c.self.invariant.shape_is in
     let is = subst (λ (me : BrickId). IsStep x.layout me from message x.store.state answer new.state)
-    (is_me x.layout x.work x.store from message shape) c.in_ok-answer.ensures.handles.ok in
+    (is_me x.layout x.tasks x.store from message shape) c.in_ok-answer.ensures.handles.ok in
     subst (λ (n : Running g.row.D.Denot). message_calls n.layout n.me from (shape_at n.layout n.me) n.brick.listed (state_of n) message ≡ 0
     → (new.state ≡ n.brick.state) × IsUntouched d.seen d.may_leave d.moment d.left_since n.brick.disk new.disk) c.self.view_is
     (λ none. c.in_ok-answer.ensures.handles.still x.layout
     (subst (λ (s : Shape). KeepsAll x.layout s.block x.store.state new.state) (sym shape)
-    (follows_still x.layout x.work x.store from message new answer is
-    (subst (λ (s : Shape). message_calls x.layout x.work.calls.me from s x.store.listed (state_of (running x.layout x.work x.store)) message ≡ 0)
+    (follows_still x.layout x.tasks x.store from message new answer is
+    (subst (λ (s : Shape). message_calls x.layout x.tasks.work.calls.me from s x.store.listed (state_of (running x.layout x.tasks x.store)) message ≡ 0)
     (sym shape) none))))
 
 pub returns-clause-change : goal.returns-clause-change
@@ -112,15 +112,15 @@ returns-clause-change g c =
     let new = c.handle.new.store in
     let handled = c.in_ok-answer.ensures in
     let runs : x.store.halted ≡ false = ap (λ (n : Running g.row.D.Denot). n.brick.halted) c.self.view_is ∙ c.requires.runs in
-    let made = change_so d x.layout x.work c.args.from c.args.message.now x.store new c.args.self.now Whole c.self.view_is c.self.invariant
+    let made = change_so d x.layout x.tasks c.args.from c.args.message.now x.store new c.args.self.now Whole c.self.view_is c.self.invariant
     (λ told. handled.handles.stood told runs) handled.change in
     record {
       stood = c.requires.stands;
       change = made.change;
       listed = made.listed;
       stands = λ whole told.
-          subst (λ (n : Running g.row.D.Denot). Stands d (ImageShows n.layout n.me (state_of (running x.layout x.work new))) new.disk) c.self.view_is
-          (shown_so d x.layout x.work new new.disk (invariant_of-self-2 g c) (handled.handles.stands told));
+          subst (λ (n : Running g.row.D.Denot). Stands d (ImageShows n.layout n.me (state_of (running x.layout x.tasks new))) new.disk) c.self.view_is
+          (shown_so d x.layout x.tasks new new.disk (invariant_of-self-2 g c) (handled.handles.stands told));
     }
 
 pub returns-clause-few : goal.returns-clause-few

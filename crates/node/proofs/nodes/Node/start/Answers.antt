@@ -68,10 +68,10 @@ invariant_of-result g c =
     let same : shape_of me.0 c.block.result c.records.result ≡ shape_at layout me = λ i. shape_of me.0 (c.block.ensures i)
     (c.records.ensures.value i) in
     record {
-      shape_is = c.in-Ok.ensures.shape ∙ same ∙ ap (λ (brick : BrickId). shape_at layout brick) (sym c.new-work.ensures.me);
-      boot = c.new-work.ensures.boot ∙ c.boot.ensures;
+      shape_is = c.in-Ok.ensures.shape ∙ same ∙ ap (λ (brick : BrickId). shape_at layout brick) (sym c.new-tasks.ensures.me);
+      boot = c.new-tasks.ensures.boot ∙ c.boot.ensures;
       lists = c.if-not-do_lists_stand.ensures.stand refl;
-      work_is = c.new-work.ensures.of layout;
+      tasks_are = c.new-tasks.ensures.of layout;
     }
 
 pub returns : goal.returns
@@ -83,18 +83,18 @@ returns g c =
     let same : shape_of me.0 c.block.result c.records.result ≡ shape_at layout me = λ i. shape_of me.0 (c.block.ensures i)
     (c.records.ensures.value i) in
     let store = c.in-Ok.store in
-    let work = c.new-work.result in
+    let tasks = c.new-tasks.result in
     let found : d.tells → IsCounted (shape_at layout me) (d.seen disk) store.state = λ told.
     subst (λ (s : Shape). IsCounted s (d.seen disk) store.state) same (c.in-Ok.ensures.found told) in
-    let state : d.tells → (before : Node) → ImageShows layout me before (d.seen disk) → state_of (running layout work store) ≡ restarted 1 before =
+    let state : d.tells → (before : Node) → ImageShows layout me before (d.seen disk) → state_of (running layout tasks store) ≡ restarted 1 before =
     λ told before shows.
-    restarts_so layout me work store c.boot.result before (d.seen disk) (c.new-work.ensures.boot ∙ c.boot.ensures) c.boot.ensures
-    c.new-work.ensures.state shows (found told) in
-    let stands : d.tells → Stands d (ImageShows layout me (state_of (running layout work store))) store.disk = λ told.
-    subst (λ (brick : BrickId). Stands d (ImageShows layout brick (state_of (running layout work store))) store.disk) c.new-work.ensures.me
-    (shown_so d layout work store store.disk (invariant_of-result g c) (c.in-Ok.ensures.stands told)) in
+    restarts_so layout me tasks store c.boot.result before (d.seen disk) (c.new-tasks.ensures.boot ∙ c.boot.ensures) c.boot.ensures
+    c.new-tasks.ensures.state shows (found told) in
+    let stands : d.tells → Stands d (ImageShows layout me (state_of (running layout tasks store))) store.disk = λ told.
+    subst (λ (brick : BrickId). Stands d (ImageShows layout brick (state_of (running layout tasks store))) store.disk) c.new-tasks.ensures.me
+    (shown_so d layout tasks store store.disk (invariant_of-result g c) (c.in-Ok.ensures.stands told)) in
     let opens = opens_so d layout me disk store.disk Whole (subst (λ (s : Shape). Opens d s disk store.disk Whole) same c.in-Ok.ensures.opens) in
-    let listed : d.tells → IsListedOnOpening (shape_at layout me) (d.seen disk) (state_of (running layout work store)).live store.listed = λ told.
-    subst (λ (n : ℕ). IsListedOnOpening (shape_at layout me) (d.seen disk) n store.listed) (live_seen layout work store)
+    let listed : d.tells → IsListedOnOpening (shape_at layout me) (d.seen disk) (state_of (running layout tasks store)).live store.listed = λ told.
+    subst (λ (n : ℕ). IsListedOnOpening (shape_at layout me) (d.seen disk) n store.listed) (live_seen layout tasks store)
     (subst (λ (s : Shape). IsListedOnOpening s (d.seen disk) (live store.state) store.listed) (c.in-Ok.ensures.shape ∙ same) (c.in-Ok.ensures.listed told)) in
     search (rules, found, state, stands, opens, listed)

@@ -1,0 +1,141 @@
+-- All that a brick has under way, beside a synchronisation.
+use Rattle.std.proofs.Common.{◌≡◌, ◌≤◌, ◌<◌, ◌+◌, ℕ, Bool, true, false, cond, if◌then◌else◌, nat_eq, [], Option, Some, None, refl, sym, ◌∙◌, ap, subst, arith}
+use Rattle.std.specs.Option.{option_map}
+use Rattle.std.specs.Ordering.{nat_cmp}
+use Rattle.std.specs.BTreeMap.{get, is_at}
+use Rattle.fab_base.specs.declared.identities.BrickId.{BrickId}
+use Rattle.fab_base.specs.Layouts.{Layout}
+use Rattle.messages.specs.declared.calls.Call.{Call}
+use Rattle.messages.specs.declared.packets.Message.TheVariants as message
+use Rattle.messages.specs.declared.replies.Reply.{Reply}
+use Rattle.protocol.specs.Coordinators.{Coordinator, Next, Ignores, Waits, Sends, Makes, Ends, on_reply}
+use Rattle.protocol.specs.Jobs.{Job}
+use Rattle.protocol.specs.Proposals.{Proposal, Voting, Ignored, Waited, Asks, Ended, voted}
+use Rattle.protocol.specs.Replicas.{fresh_replica}
+use Rattle.protocol.specs.Nodes.{Node, NodeStep, put, carried_ballot, carried_for, carried_out, fresh_stamp, job_reading, known_after, replied_at, replied_ballot, with_known}
+use Rattle.stripe_code.specs.Codes.{coding}
+use Rattle.node.specs.declared.jobs.OpenJob.{OpenJob}
+use Rattle.node.specs.declared.open_calls.OpenCalls.{OpenCalls}
+use Rattle.node.specs.declared.open_work.OpenWork.{OpenWork}
+use Rattle.node.specs.declared.open_work.Turn.{Turn}
+use Rattle.node.specs.declared.open_work.Turn.TheVariants as turn
+use Rattle.node.specs.declared.operations.Operation.{Operation}
+use Rattle.node.specs.declared.tasks.Tasks.{Tasks}
+use Rattle.node.specs.Jobs.{FollowsFrom, Reading, reading_in, with_reading}
+use Rattle.node.specs.Moves.{HasCounted, IsTurn}
+use Rattle.node.specs.Operations.{coordinator_of}
+use Rattle.node.specs.Outcomes.{Outcome}
+use Rattle.node.specs.States.{AreCallsOf, KeptParts, StepsAs, state_in, state_with}
+use Rattle.node.specs.Tasks.{AreTasksOf, IsAside, IsJobAt, IsJobIn, read_seq}
+use Rattle.node.proofs.Beside.{ApartFrom, beside, eq_turned, none_reads}
+use Rattle.node.proofs.Tables.{is_at_number}
+
+-- ---- steps
+
+-- a step of what is under way beside a synchronisation is one of the brick
+pub steps_beside : (me : BrickId) (r : Option Reading) (state : Node) (step : NodeStep) (outs : Outcome) → StepsAs me state step outs
+    → StepsAs me (with_reading r state) (beside r step) outs
+steps_beside me r state step outs steps =
+    record { packets = steps.packets; told = steps.told; answers = steps.answers; reports = steps.reports; state_is = ap (with_reading r) steps.state_is }
+
+-- a synchronisation whose read has another call has it as the machine sees it
+pub apart_so : (job : Option OpenJob) (seq : ℕ) → IsAside job seq → ApartFrom (reading_in job) seq
+apart_so None seq aside = tt
+apart_so (Some held) seq aside = aside
+
+-- ---- a synchronisation stays one of the brick
+
+-- a brick that keeps nothing
+pub no_parts : KeptParts
+no_parts = record {
+  live = 0;
+  live_in = λ g e. 0;
+  learnt = λ g. record { view = record { number = record { 0 = 0 }; members = []; prior = [] }; synced = false };
+  ballots = λ g. None;
+  replicas = λ g e s. fresh_replica 0 0;
+}
+
+-- no operation has a call where the machine sees none
+unmapped : (o : Option Operation) → option_map coordinator_of o ≡ None → o ≡ None
+unmapped None none = refl
+unmapped (Some operation) none = absurd cc
+
+-- what is under way goes on, and no operation gets the call of this number
+pub record KeepsFree (seq : ℕ) (before after : Node) : Type 0 where
+  pub later : before.seq ≤ after.seq
+  pub free : before.calls seq ≡ None → after.calls seq ≡ None
+
+pub same_free : (seq : ℕ) (before after : Node) → after ≡ before → KeepsFree seq before after
+same_free seq before after same =
+    let seq_is = ap (λ (n : Node). n.seq) same in
+    record { later = omega (arith, seq_is); free = λ none. ap (λ (n : Node). n.calls seq) same ∙ none }
+
+-- the read is of the brick still
+pub job_kept : (layout : Layout) (before after : OpenWork) (job : Option OpenJob)
+    → ((held : OpenJob) → job ≡ Some held → KeepsFree (read_seq held) (state_in no_parts before) (state_in no_parts after))
+    → IsJobIn layout before.calls job → IsJobIn layout after.calls job
+unfolding state_with
+job_kept layout before after None keeps is = tt
+job_kept layout before after (Some held) keeps is =
+    let kept = keeps held refl in
+    let made = is.made in
+    let later = kept.later in
+    record {
+      open_is = is.open_is;
+      made = omega (arith, made, later);
+      apart = unmapped (get nat_cmp after.calls.operations (read_seq held)) (kept.free (ap (option_map coordinator_of) is.apart));
+    }
+
+-- ---- replies
+
+module _ (layout : Layout) (me : BrickId) where
+  -- another call than that of this operation is as it was
+  put_other : (f : ℕ → Option Coordinator) (k seq : ℕ) (v : Option Coordinator) → nat_eq seq k ≡ false → put f k v seq ≡ f seq
+  put_other f k seq v other = ap (λ (b : Bool). cond b v (f seq)) other
+
+  carried_free : (node : Node) (known : ℕ) (c : Coordinator) (next : Next) (seq : ℕ) → nat_eq seq c.call.seq ≡ false
+      → KeepsFree seq node (carried_out (coding layout) me node known c next).node
+  carried_free node known c Ignores seq other = record { later = omega arith; free = λ none. none }
+  carried_free node known c (Waits d) seq other = record { later = omega arith; free = λ none. put_other node.calls c.call.seq seq (Some d) other ∙ none }
+  carried_free node known c (Sends d) seq other = record { later = omega arith; free = λ none. put_other node.calls c.call.seq seq (Some d) other ∙ none }
+  carried_free node known c (Makes d) seq other = record { later = omega arith; free = λ none. put_other node.calls c.call.seq seq (Some d) other ∙ none }
+  carried_free node known c (Ends answer seen stored) seq other =
+      record { later = omega arith; free = λ none. put_other node.calls c.call.seq seq None other ∙ none }
+
+  ballot_free : (node : Node) (p : Proposal) (decided : Voting) (seq : ℕ) → KeepsFree seq node (carried_ballot layout me node p decided).node
+  ballot_free node p Ignored seq = record { later = omega arith; free = λ none. none }
+  ballot_free node p (Waited q) seq = record { later = omega arith; free = λ none. none }
+  ballot_free node p (Asks q) seq = record { later = omega arith; free = λ none. none }
+  ballot_free node p (Ended call ended) seq = record { later = omega arith; free = λ none. none }
+
+  heard_free : (from : BrickId) (node : Node) (call : Call) (reply : Reply) (p : Option Proposal) (seq : ℕ)
+      → KeepsFree seq node (replied_ballot layout me from node call reply p).node
+  heard_free from node call reply None seq = record { later = omega arith; free = λ none. none }
+  heard_free from node call reply (Some p) seq = ballot_free node p (voted layout.bricks p from call reply) seq
+
+  -- a reply gives no operation another call
+  pub replied_free : (now : ℕ) (from : BrickId) (node : Node) (call : Call) (reply : Reply) (o : Option Coordinator) (seq : ℕ) → node.job ≡ None
+      → nat_eq seq call.seq ≡ false → ((c : Coordinator) → o ≡ Some c → c.call.seq ≡ call.seq)
+      → KeepsFree seq node (replied_at (coding layout) me now from node call reply o).node
+  replied_free now from node call reply None seq idle other at =
+      let kept = heard_free from (with_known node (known_after node.known reply)) call reply node.proposal seq in
+      record { later = kept.later; free = kept.free }
+  replied_free now from node call reply (Some c) seq idle other at =
+      let known = known_after node.known reply in
+      let next = on_reply layout.block (coding layout).code (fresh_stamp me c.stamp.view now node.boot known) c from call reply in
+      let other_here = subst (λ (k : ℕ). nat_eq seq k ≡ false) (sym (at c refl)) other in
+      subst (λ (step : NodeStep). KeepsFree seq node step.node)
+      (sym (ap (carried_for (coding layout) me now node known c next)
+      (ap (λ (job : Option Job). job_reading job c.call.seq) idle)))
+      (carried_free node known c next seq other_here)
+
+-- the coordinators of the open operations of a brick of the layout have their calls
+pub at_call : (layout : Layout) (calls : OpenCalls) (seq : ℕ) → AreCallsOf layout calls → (c : Coordinator)
+    → option_map coordinator_of (get nat_cmp calls.operations seq) ≡ Some c → c.call.seq ≡ seq
+at_call layout calls seq of c is = by (get nat_cmp calls.operations seq) refl is
+  where
+    by : (o : Option Operation) → get nat_cmp calls.operations seq ≡ o → option_map coordinator_of o ≡ Some c → c.call.seq ≡ seq
+    by None e is = absurd cc
+    by (Some operation) e is =
+        let same : coordinator_of operation ≡ c = cc in
+        ap (λ (x : Coordinator). x.call.seq) (sym same) ∙ (of seq operation e).seq
