@@ -47,6 +47,15 @@ impl Maker {
         ensures drawn { IfOk result (λ line. (line, self.new) ≡ drawn.next_line sent self.old) }
         ensures spelt { IfOk result (λ line. line_of (spelt line) ≡ Some line) }
     {
+        let line = self.draw_next(alloc, sent)?;
+        Ok(line)
+    }
+
+    /// Draws the next line, where so many messages were sent before it.
+    #[tactic(auto, unfolding(crate::specs::Lines::next_line, crate::specs::Lines::tick_line))]
+    fn draw_next(&mut self, alloc: Global, sent: u64) -> Result<Line, NoMem>
+        ensures { IfOk result (λ line. (line, self.new) ≡ drawn.next_line sent self.old) }
+    {
         match self.draw_below(16) {
             0 => self.draw_write(alloc),
             1 => Ok(self.draw_read()),
@@ -79,7 +88,19 @@ impl Maker {
         self.source.next_word().to_be_bytes()
     }
 
+    /// The bytes that the next two words spell, one behind the other.
+    fn draw_eight(&mut self, alloc: Global) -> Result<Bytes, NoMem>
+        ensures { IfOk result (λ bytes. (bytes, self.new) ≡ eight_bytes self.old) }
+    {
+        let first = self.draw_four();
+        let second = self.draw_four();
+        let mut bytes = Vec::from_slice(alloc, first.as_slice())?;
+        bytes.extend_from_slice(second.as_slice())?;
+        Ok(Bytes::from_vec(bytes))
+    }
+
     /// `write B 0 S J HEX`.
+    #[tactic(auto, unfolding(crate::specs::Lines::write_line))]
     fn draw_write(&mut self, alloc: Global) -> Result<Line, NoMem>
         ensures { IfOk result (λ line. (line, self.new) ≡ drawn.write_line self.old) }
     {
@@ -97,6 +118,7 @@ impl Maker {
     }
 
     /// `read B 0 S J`.
+    #[tactic(auto, unfolding(crate::specs::Lines::read_line))]
     fn draw_read(&mut self) -> Line
         ensures { (result, self.new) ≡ drawn.read_line self.old }
     {
@@ -112,25 +134,23 @@ impl Maker {
     }
 
     /// `writeall B 0 S HEX`.
+    #[tactic(auto, unfolding(crate::specs::Lines::write_all_line))]
     fn draw_write_all(&mut self, alloc: Global) -> Result<Line, NoMem>
         ensures { IfOk result (λ line. (line, self.new) ≡ drawn.write_all_line self.old) }
     {
         let brick = self.draw_below(6);
         let stripe = self.draw_below(8);
-        let first = self.draw_four();
-        let second = self.draw_four();
-        let mut bytes = Vec::new(alloc);
-        bytes.extend_from_slice(first.as_slice())?;
-        bytes.extend_from_slice(second.as_slice())?;
+        let bytes = self.draw_eight(alloc)?;
         Ok(Line::Invoke {
             brick,
             group: 0,
             stripe,
-            access: Access::WriteStripe(Bytes::from_vec(bytes)),
+            access: Access::WriteStripe(bytes),
         })
     }
 
     /// `readall B 0 S`.
+    #[tactic(auto, unfolding(crate::specs::Lines::read_all_line))]
     fn draw_read_all(&mut self) -> Line
         ensures { (result, self.new) ≡ drawn.read_all_line self.old }
     {
@@ -145,6 +165,7 @@ impl Maker {
     }
 
     /// `clock B V`.
+    #[tactic(auto, unfolding(crate::specs::Lines::clock_line))]
     fn draw_clock(&mut self) -> Line
         ensures { (result, self.new) ≡ drawn.clock_line self.old }
     {
@@ -154,6 +175,7 @@ impl Maker {
     }
 
     /// One time in eight `crash B`, else `start B`.
+    #[tactic(auto, unfolding(crate::specs::Lines::power_line, crate::specs::Lines::crash_line))]
     fn draw_power(&mut self) -> Line
         ensures { (result, self.new) ≡ drawn.power_line self.old }
     {
@@ -166,6 +188,7 @@ impl Maker {
     }
 
     /// `start B`.
+    #[tactic(auto, unfolding(crate::specs::Lines::start_line))]
     fn draw_start(&mut self) -> Line
         ensures { (result, self.new) ≡ drawn.start_line self.old }
     {
@@ -176,6 +199,7 @@ impl Maker {
     }
 
     /// One time in sixty-four `view B 0 M ..`, one time `sync B 0`, else `start B`.
+    #[tactic(auto, unfolding(crate::specs::Lines::change_line, crate::specs::Lines::sync_line))]
     fn draw_change(&mut self, alloc: Global) -> Result<Line, NoMem>
         ensures { IfOk result (λ line. (line, self.new) ≡ drawn.change_line self.old) }
     {
@@ -190,6 +214,7 @@ impl Maker {
     }
 
     /// `view B 0 R R+1 R+2 R+3`, the bricks counted round.
+    #[tactic(auto, unfolding(crate::specs::Lines::proposal_line))]
     fn draw_proposal(&mut self, alloc: Global) -> Result<Line, NoMem>
         ensures { IfOk result (λ line. (line, self.new) ≡ drawn.proposal_line self.old) }
     {
@@ -205,6 +230,7 @@ impl Maker {
     }
 
     /// The number of a message: one of the last 32 that were sent. Where none was, 1, and no word is drawn.
+    #[tactic(auto, unfolding(crate::specs::Lines::message))]
     fn draw_message(&mut self, sent: u64) -> u64
         ensures { (result, self.new) ≡ drawn.message sent self.old }
     {
@@ -215,6 +241,7 @@ impl Maker {
     }
 
     /// `deliver K`.
+    #[tactic(auto, unfolding(crate::specs::Lines::delivery_line))]
     fn draw_delivery(&mut self, sent: u64) -> Line
         ensures { (result, self.new) ≡ drawn.delivery_line sent self.old }
     {
@@ -225,6 +252,7 @@ impl Maker {
     }
 
     /// One time in sixteen `deliver K cut C pick P`, else `deliver K`.
+    #[tactic(auto, unfolding(crate::specs::Lines::fault_line, crate::specs::Lines::cut_line))]
     fn draw_fault(&mut self, sent: u64) -> Line
         ensures { (result, self.new) ≡ drawn.fault_line sent self.old }
     {

@@ -7,6 +7,7 @@ ghost use Rattle.replay.specs.Audits.{asks_audit, AuditEnds, IsAuditDecided};
 
 use crate::audits::audit_input;
 use crate::endings::{Halt, status_of};
+use crate::makes::{asked_of, make};
 use crate::schedules::run;
 use crate::turns::write;
 use fab_io::{Sink, Source};
@@ -95,6 +96,9 @@ pub fn replay<S: Source, K: Sink>(
     }
     if is_word(words, "audit") {
         return status_of(audit_input(alloc, source, sink));
+    }
+    if let Some(asked) = asked_of(words) {
+        return status_of(make(alloc, asked, sink));
     }
     match write(
         sink,
