@@ -93,7 +93,7 @@ all_then p q (x ∷ xs) then all =
     ap (λ (b : Bool). b && list_all q xs) (then x parts.0) ∙ all_then p q xs then parts.1
 
 -- bytes none of which is a space
-clear_of : (xs : List ℕ) → list_all (λ byte. not (byte == 32)) xs ≡ true → All (λ byte. (byte == 32) ≡ false) xs
+pub clear_of : (xs : List ℕ) → list_all (λ byte. not (byte == 32)) xs ≡ true → All (λ byte. (byte == 32) ≡ false) xs
 clear_of [] all = λ k d within. absurd (omega arith)
 clear_of (x ∷ xs) all =
     let parts = and_parts (not (x == 32)) (list_all (λ byte. not (byte == 32)) xs) all in

@@ -1,0 +1,110 @@
+-- A run of a schedule that is drawn: its lines, what it prints, and that it is a run as any other.
+use Rattle.std.specs.Prelude.{◌≡◌, ℕ, zero, suc, ◌<◌, nat_le, ◌⊎◌, if◌then◌else◌, List, [], ◌∷◌, ◌++◌, length, map, ⊥, codes, Option, Some, None, Result, Ok, Err}
+use Rattle.std.specs.Fmt.{decimal}
+use Rattle.std.specs.Str.{bytes_eq}
+use Rattle.std.specs.Io.KnownBytes.{Appends, Keeps}
+use Rattle.fab_io.specs.Ends.{AppendsFront}
+use Rattle.fab_base.specs.Layouts.{Layout, group_of, most_groups}
+use Rattle.fab_base.specs.Texts.{newline}
+use Rattle.lines.specs.Grammar.{◌>>=◌}
+use Rattle.lines.specs.Tokens.{number}
+use Rattle.lines.specs.declared.forms.Line.{Line}
+use Rattle.reg_model.specs.declared.marks.Happening.{Happening}
+use Rattle.protocol.specs.Settings.{Setting}
+use Rattle.protocol.specs.Worlds.{World, first_world, run}
+use Rattle.protocol.specs.Happenings.{happenings_of}
+use Rattle.stripe_code.specs.Codes.{coding}
+use Rattle.rand_pcg.specs.Lcg.{Lcg}
+use Rattle.made.specs.declared.disks.TheConstants.{DISK}
+use Rattle.made.specs.Disks.{made_layout}
+use Rattle.made.specs.Draws.{seeded}
+use Rattle.made.specs.Lines.{next_line}
+use Rattle.made.specs.Spellings.{spelt}
+use Rattle.world.specs.Runs.{Step}
+use Rattle.printed.specs.Outputs.{most_lines, stripes_of, left_by, count_text}
+use Rattle.printed.specs.LineSteps.{AreStepsOf}
+use Rattle.replay.specs.declared.makes.Asked.{Asked}
+use Rattle.replay.specs.declared.endings.RunResult.{RunResult}
+use Rattle.replay.specs.declared.endings.RunResult.TheVariants.{Whole, BadLayout, BadLine, TooManyLines, Refuted}
+use Rattle.replay.specs.declared.endings.Halt.{Halt}
+use Rattle.replay.specs.declared.endings.Halt.TheVariants.{Source, Sink, Memory}
+use Rattle.replay.specs.Inputs.{Input, Parted}
+use Rattle.replay.specs.Outputs.{output_of}
+use Rattle.replay.specs.Replays.{IsLinearizable, status_of}
+
+-- the schedule that the words behind `make` ask for: two numbers, the second no more than a schedule has lines
+abbrev pub asked_by : List ℕ → List ℕ → Option Asked
+asked_by seed lines = do
+  s ← number seed
+  n ← number lines
+  if nat_le n most_lines then Some (record { seed = s; lines = n }) else None
+
+-- the schedule that words ask for, if they are `make SEED LINES`
+abbrev pub asked_of : List (List ℕ) → Option Asked
+asked_of (word ∷ seed ∷ lines ∷ []) = if bytes_eq word (codes "make") then asked_by seed lines else None
+asked_of words = None
+
+-- The lines that a generator draws while these steps are run, one after another. Each is drawn in the world that the steps before it left, by how
+-- many messages were sent by then.
+unfoldable pub drawn_lines : Setting → World → Lcg → List Step → List Line
+drawn_lines setting w random [] = []
+drawn_lines setting w random (step ∷ steps) =
+    (next_line (length w.packets) random).0
+    ∷ drawn_lines setting (run setting step.events w) (next_line (length w.packets) random).1 steps
+
+-- the schedule of a seed, as far as these steps go
+abbrev pub made_lines : ℕ → List Step → List Line
+made_lines seed steps = drawn_lines (coding made_layout) (first_world made_layout) (seeded seed) steps
+
+-- the same, as it is spelt
+abbrev pub made_schedule : ℕ → List Step → List (List ℕ)
+made_schedule seed steps = map spelt (made_lines seed steps)
+
+-- the layout and that schedule, as an input
+abbrev pub made_input : ℕ → List Step → Input
+made_input seed steps = Parted DISK.now (made_schedule seed steps)
+
+-- the happenings of a group's stripes below a number
+unfoldable pub happenings_to : World → ℕ → ℕ → List Happening
+happenings_to w group zero = []
+happenings_to w group (suc stripe) = happenings_to w group stripe ++ happenings_of w group stripe
+
+-- the happenings of the stripes of the groups below a number
+unfoldable pub happenings_below : Layout → World → ℕ → List Happening
+happenings_below layout w zero = []
+happenings_below layout w (suc group) = happenings_below layout w group ++ happenings_to w group (stripes_of (group_of layout group))
+
+-- what sums up a run of so many lines: the counts, and how many happenings there are over all stripes
+abbrev pub summary_text : Layout → World → ℕ → List ℕ
+summary_text layout w lines =
+    count_text lines w.marks ++ (codes "happened total " ++ (decimal (length (happenings_below layout w most_groups)) ++ newline))
+
+-- These are the steps of a made schedule: each is of the line that is drawn for it. They are a run as any other: what `run` prints for this layout and schedule is
+-- strict, and its last line is that of the summary.
+pub record IsMadeRun (asked : Asked) (steps : List Step) : Type 0 where
+  pub lines : length steps ≡ asked.lines
+  pub are_drawn : map (λ step. step.line) steps ≡ made_lines asked.seed steps
+  pub steps_are : AreStepsOf made_layout (made_schedule asked.seed steps) steps
+  pub linearizable : IsLinearizable (made_input asked.seed steps) (output_of steps (made_input asked.seed steps)).text
+
+-- the summary of some steps of a made schedule
+abbrev pub made_text : List Step → List ℕ
+made_text steps = summary_text made_layout (left_by made_layout steps) (length steps)
+
+-- What a made run prints: the summary of a whole run, or some of it, from its front, where the sink failed. Nothing else stops it but want of memory, and then
+-- nothing is printed.
+abbrev pub MakePrints : Asked → Option (List ℕ) → Option (List ℕ) → Result RunResult Halt → Type 0
+MakePrints asked old new (Ok Whole) = (steps : List Step) × IsMadeRun asked steps × Appends old new (made_text steps)
+MakePrints asked old new (Ok BadLayout) = ⊥
+MakePrints asked old new (Ok (BadLine line)) = ⊥
+MakePrints asked old new (Ok TooManyLines) = ⊥
+MakePrints asked old new (Ok Refuted) = ⊥
+MakePrints asked old new (Err Source) = ⊥
+MakePrints asked old new (Err Sink) = (steps : List Step) × IsMadeRun asked steps × AppendsFront old new (made_text steps)
+MakePrints asked old new (Err Memory) = Keeps old new
+
+-- A made run. There is an end, of which the status tells, and the sink took what is printed at it.
+pub record MakeEnds (asked : Asked) (sink sink_after : Option (List ℕ)) (status : ℕ) : Type 0 where
+  pub ending : Result RunResult Halt
+  pub status_is : status ≡ status_of ending
+  pub printed : MakePrints asked sink sink_after ending
