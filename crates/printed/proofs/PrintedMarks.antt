@@ -25,7 +25,7 @@ use Rattle.fab_base.specs.Layouts.{Layout, Group}
 use Rattle.fab_disk.specs.declared.mem_disk.MemDisk.{MemDisk}
 use Rattle.stripe_code.specs.Codes.{coding}
 use Rattle.protocol.specs.Coordinators.{Coordinator}
-use Rattle.protocol.specs.Calms.{RunsAlone, Ended, Stuck, Next, open_call, next_delivery}
+use Rattle.protocol.specs.Calms.{RunsAlone, Ended, Stuck, Next, open_call, next_delivery, operation_marked}
 use Rattle.transcript.specs.Kinds.{is_begin}
 use Rattle.world.specs.Faults.{IsEventsOf}
 use Rattle.world.specs.Runs.{Run, Step, world_of, all_events, brick_of}
@@ -569,10 +569,11 @@ of_one setting w line event events are =
     subst (λ (l : List Event). IsPrintedAs setting w (run setting l w) (line_text setting w line l) 1) (sym are) (one_printed setting w line event)
 
 -- so its line prints one other line at most
-calm_printed : (setting : Setting) (n : ℕ) (numbers : List ℕ) (w last : World) (events : List Event)
-    → RunsAlone setting n (map brick_of numbers) w events last → IsPrintedAs setting w (run setting events w) (line_text setting w (Calm n numbers) events) 1
-calm_printed setting n numbers w last [] runs = idle_printed setting n numbers w
-calm_printed setting n numbers w last (event ∷ events) runs =
+calm_printed : (setting : Setting) (mark n : ℕ) (numbers : List ℕ) (w last : World) (events : List Event)
+    → RunsAlone setting n (map brick_of numbers) w events last
+    → IsPrintedAs setting w (run setting events w) (line_text setting w (Calm mark numbers) events) 1
+calm_printed setting mark n numbers w last [] runs = idle_printed setting mark numbers w
+calm_printed setting mark n numbers w last (event ∷ events) runs =
     most_printed setting w (run setting (event ∷ events) w) (text_of setting w (event ∷ events)) 0 1 (omega arith)
     (alone_printed setting n (map brick_of numbers) w last (event ∷ events) runs)
 
@@ -592,7 +593,7 @@ line_printed layout w old new (Start b fault) events (inr (inr none)) = of_one (
 line_printed layout w old new (Propose b g members) events are = of_one (coding layout) w (Propose b g members) _ events are
 line_printed layout w old new (Sync b g) events are = of_one (coding layout) w (Sync b g) _ events are
 line_printed layout w old new (Calm n numbers) events (inl calm) =
-    calm_printed (coding layout) n numbers w (run (coding layout) events w) events calm.runs
+    calm_printed (coding layout) n (operation_marked w n) numbers w (run (coding layout) events w) events calm.runs
 line_printed layout w old new (Calm n numbers) events (inr none) =
     of_none (coding layout) w (Calm n numbers) events none.1 (idle_printed (coding layout) n numbers w)
 

@@ -245,9 +245,9 @@ message_as_quiet : (setting : Setting) (w : World) (n : ℕ) (from to : BrickId)
     → operation_of w (record { from = from; to = to; message = message }) ≡ n
     → IsQuiet (step_on setting w (record { from = from; to = to; message = message }))
 unfolding received
-message_as_quiet setting w n from to (Message.Request call request) says unmarked marked numbered some opens its =
+message_as_quiet setting w n from to (Message.Request call request) says unmarked having numbered some opens its =
     request_quiet setting to from (w.nodes to.0) call request
-message_as_quiet setting w n from to (Message.Reply call reply) says unmarked marked numbered some opens its =
+message_as_quiet setting w n from to (Message.Reply call reply) says unmarked having numbered some opens its =
     let found = says to.0 call.boot call.seq (λ none. some (sym its ∙ none)) in
     let at : w.operations n ≡ Some found.1.0 = ap w.operations (sym its) ∙ found.1.1 in
     let has = has_open w n found.1.0 opens at in
@@ -259,13 +259,13 @@ message_as_quiet setting w n from to (Message.Reply call reply) says unmarked ma
     let number : number_of w to.0 has.coordinator.call.seq ≡ n =
     ap (λ (k : ℕ). number_of w to.0 k) own ∙ ap (λ (b : ℕ). w.numbers to.0 b call.seq) boot ∙ its in
     reply_quiet setting to (w.clocks to.0) from (w.nodes to.0) call reply has.coordinator called
-    (not_reading w to.0 n has.coordinator.call.seq found.1.0 (w.nodes to.0).job unmarked refl at number (marked found.1.0 at))
-message_as_quiet setting w n from to message says unmarked marked numbered some opens its = absurd (some (sym its))
+    (not_reading w to.0 n has.coordinator.call.seq found.1.0 (w.nodes to.0).job unmarked refl at number (having found.1.0 at))
+message_as_quiet setting w n from to message says unmarked having numbered some opens its = absurd (some (sym its))
 
 message_quiet : (setting : Setting) (w : World) (n : ℕ) (packet : Packet) → NumbersSay w → JobsReadUnmarked w → HasMarks w n → IsNumbered w → n ≢ 0
     → is_some (open_call w n) ≡ true → operation_of w packet ≡ n → IsQuiet (step_on setting w packet)
-message_quiet setting w n packet says unmarked marked numbered some opens its =
-    message_as_quiet setting w n packet.from packet.to packet.message says unmarked marked numbered some opens its
+message_quiet setting w n packet says unmarked having numbered some opens its =
+    message_as_quiet setting w n packet.from packet.to packet.message says unmarked having numbered some opens its
 
 -- one of these bricks is up, where each is
 among_up : (layout : Layout) (w : World) (bricks : List BrickId) → ((k : ℕ) (brick : BrickId) → slice_get bricks k ≡ Some brick → is_up layout w brick ≡ true)

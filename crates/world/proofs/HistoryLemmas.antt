@@ -29,7 +29,6 @@ use Rattle.world.specs.declared.histories.History.{History}
 use Rattle.world.specs.declared.histories.OperationRecord.{OperationRecord}
 use Rattle.world.specs.CallNumbers.{AreCalls, calls_in, call_at}
 use Rattle.world.specs.Shown.{TellsOperations, AreMarked, ChangesAt, TellsOperation, TellsAt, Tells, OpensAside, made_kept, seen_kept, ended_kept, mark_kept, mark_of_kept, record_at, number_at, seqs_of, reads_begun, calls_used, calls_aside}
-use Rattle.world.specs.declared.call_numbers.CallNumbers.{CallNumbers}
 use Rattle.world.specs.declared.deliveries.Deliveries.{Deliveries}
 use Rattle.world.proofs.KeptNumbers.{KeepsMarks, changed_record, known_changed, known_begun, mark_told, marked_changed, marked_unmarked, marked_next}
 use Rattle.world.proofs.Places.{each_value, value_here, value_elsewhere, get_or_end, set_here, set_elsewhere, slice_get_not_none}

@@ -1,7 +1,8 @@
 -- What holds in the world that a run leaves, since a schedule of events reaches it.
-use Rattle.std.proofs.Common.{◌≡◌, ℕ, ◌+◌, Option, Some, None, refl, sym, ap, ◌∙◌, subst}
+use Rattle.std.proofs.Common.{◌≡◌, ℕ, ◌+◌, List, Option, Some, None, refl, sym, ap, ◌∙◌, subst}
 use Rattle.std.specs.Option.{option_map}
 use Rattle.std.proofs.lemmas.Option.{same_Some}
+use Rattle.fab_base.specs.declared.identities.BrickId.{BrickId}
 use Rattle.fab_base.specs.Layouts.{Layout, Group, group_of}
 use Rattle.protocol.specs.Jobs.{Job}
 use Rattle.protocol.specs.Worlds.{World, Operation, first_world, number_of, run}
@@ -41,12 +42,12 @@ reached_group layout w i k c sound (events, is) call =
     let v : World = run (coding layout) events (first_world layout) in
     let views : Views = views_in layout v.packets in
     let said = always_said (coding layout) views events sound (every_run_follows (coding layout) events sound) in
-    of_layout (group_of layout c.call.group.0) (said.1.calls i k c (ap (λ (x : World). (x.nodes i).calls k) (sym is) ∙ call)).group
+    of_layout _ (group_of layout c.call.group.0) (said.1.calls i k c (ap (λ (x : World). (x.nodes i).calls k) (sym is) ∙ call)).group
   where
-    of_layout : {members : _} (found : Option Group) → option_map (kept_by members) found ≡ Some c.group
+    of_layout : (members : List BrickId) (found : Option Group) → option_map (kept_by members) found ≡ Some c.group
         → (group : Group) × (found ≡ Some group) × (c.group.m ≡ group.m)
-    of_layout None none = absurd (let never : None ≡ Some c.group = none in cc)
-    of_layout {members} (Some group) same = (group, refl, sym (ap (λ (g : Group). g.m) (same_Some (kept_by members group) c.group same)))
+    of_layout members None none = absurd (let never : None ≡ Some c.group = none in cc)
+    of_layout members (Some group) same = (group, refl, sym (ap (λ (g : Group). g.m) (same_Some (kept_by members group) c.group same)))
 
 pub reached_numbered : (layout : Layout) (w : World) → IsReachedBy layout w → IsNumbered w
 reached_numbered layout w reached = numbered_from_books (coding layout) w (reached_books layout w reached)

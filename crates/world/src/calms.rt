@@ -112,16 +112,23 @@ fn knows_synced(bricks: &[Brick], group: GroupId, number: u64) -> bool
     }
 }
 
+/// Whether one of these bricks knows that all stripes of a group are kept in the view that it has learnt.
+fn one_knows_synced(bricks: &[Brick], group: GroupId, numbers: &[u64]) -> bool
+    requires { group.0 < most_groups }
+    ensures { result ≡ list_any (λ number. node_knows_synced group.0 (running_at bricks.now number)) numbers.now }
+{
+    numbers
+        .iter()
+        .any(|number| knows_synced(bricks, group, *number))
+}
+
 /// Whether an operation in a view may have to ask the members of the view before: it is a later view than 1, and none of these bricks knows that all stripes of
 /// the group are kept in that.
 fn may_ask_prior(bricks: &[Brick], group: GroupId, view: ViewNo, numbers: &[u64]) -> bool
     requires { group.0 < most_groups }
     ensures { result ≡ may_ask_prior_at bricks.now group.0 view.0 numbers.now }
 {
-    view.0 > 1
-        && !numbers
-            .iter()
-            .any(|number| knows_synced(bricks, group, *number))
+    view.0 > 1 && !one_knows_synced(bricks, group, numbers)
 }
 
 /// What the clock of a brick reads, 0 where there is none.
@@ -219,11 +226,11 @@ impl Simulation {
     }
 
     /// The view of an operation, if it is open.
-    fn open_view(&self, record: OperationRecord) -> Option<View>
-        ensures { result ≡ open_view self.now record }
+    fn open_view(&self, kept: OperationRecord) -> Option<View>
+        ensures { result ≡ open_view self.now kept }
     {
-        let node = running(&self.bricks, u64::from(record.brick.0))?;
-        node.view_of(record.seq)
+        let node = running(&self.bricks, u64::from(kept.brick.0))?;
+        node.view_of(kept.seq)
     }
 
     /// Whether an operation may run alone among these bricks.

@@ -166,7 +166,7 @@ pub fn record_at(operations: &[OperationRecord], number: u64) -> Option<Operatio
     operations.get((number - 1) as usize).copied()
 }
 
-/// The number of the marks of the operation of a number.
+/// The number of the marks of the operation of a number: its own number where there is no such operation.
 fn mark_of(operations: &[OperationRecord], number: u64) -> u64
     ensures { result ≡ mark_kept operations.now number }
 {
@@ -234,6 +234,7 @@ impl History {
         requires room { HasStepRoom self.old }
         ensures delivered { HistoryBecomes (λ w. record w { reached = changed w.reached number true }) self.old self.new }
         ensures room { HasStepRoom self.new }
+        ensures calls { self.new.calls ≡ self.old.calls }
     {
         self.delivered.note(number);
     }

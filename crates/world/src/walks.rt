@@ -49,7 +49,7 @@ fn base_of(operations: &[OperationRecord], number: u64) -> Option<Stamp>
     kept_of(operations, number)?.base
 }
 
-/// The number of the marks of the operation of a number.
+/// The number of the marks of the operation of a number: its own number where there is no such operation.
 fn mark_of(operations: &[OperationRecord], number: u64) -> u64
     ensures { result ≡ own_mark number (operations_of operations.now number) }
 {

@@ -1,5 +1,5 @@
 -- The store tells what is known of the learnt view.
-use Rattle.std.proofs.Common.{◌≡◌, Option, Bool, Some, None, sym, ap, ◌∙◌}
+use Rattle.std.proofs.Common.{◌≡◌, ℕ, Option, Bool, Some, sym, ap, ◌∙◌}
 use Rattle.fab_base.specs.declared.member_lists.View.{View}
 use Rattle.fab_disk.specs.declared.mem_disk.MemDisk.{MemDisk}
 use Rattle.brick_state.specs.States.{group_at}
@@ -15,10 +15,10 @@ told : (group : ℕ) (node : Running MemDisk) (store : Brick MemDisk) (found : O
 told group node store found known same is at =
     ap synced_of is ∙ ap (λ (b : Brick MemDisk). synced_of (group_at b.state group).known) same ∙ sym (synced_told node group) ∙ ap (node_knows_synced group) at
 
-pub returns-in-Some-in-Some : goal.returns-in-Some-in-Some
-returns-in-Some-in-Some c =
-    told c.args.group.0 c.in-Some.node.now c.store.result.now _ _ c.store.ensures c.in-Some-in-Some.ensures.value c.in-Some.ensures
+pub returns-in-Some-known_view : goal.returns-in-Some-known_view
+returns-in-Some-known_view c =
+    told c.args.group.0 c.in-Some.node.now c.store.result.now _ _ c.store.ensures c.in-Some-known_view.ensures.value c.in-Some.ensures
 
-pub returns-in-Some-in-None : goal.returns-in-Some-in-None
-returns-in-Some-in-None c =
-    told c.args.group.0 c.in-Some.node.now c.store.result.now _ _ c.store.ensures c.in-Some-in-None.ensures.value c.in-Some.ensures
+pub returns-in-None-known_view : goal.returns-in-None-known_view
+returns-in-None-known_view c =
+    told c.args.group.0 c.in-Some.node.now c.store.result.now _ _ c.store.ensures c.in-None-known_view.ensures.value c.in-Some.ensures

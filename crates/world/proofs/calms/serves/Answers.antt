@@ -15,15 +15,15 @@ returns-then-learnt-view c =
     serves_other c.args.node.now c.args.group.0 c.args.view.0 c.learnt.result.0
     (c.learnt.ensures ∙ ap (λ (b : Brick MemDisk). learnt_of (group_at b.state c.args.group.0)) c.store-store.ensures) c.if-learnt-view.true
 
-pub returns-then-view-MAX : goal.returns-then-view-MAX
-returns-then-view-MAX c =
+pub returns-then-view-eq4294967295 : goal.returns-then-view-eq4294967295
+returns-then-view-eq4294967295 c =
     serves_last c.args.node.now c.args.group.0 c.args.view.0 c.learnt.result.0
-    (c.learnt.ensures ∙ ap (λ (b : Brick MemDisk). learnt_of (group_at b.state c.args.group.0)) c.store-store.ensures) c.if-learnt-view.false c.if-view-MAX.true
+    (c.learnt.ensures ∙ ap (λ (b : Brick MemDisk). learnt_of (group_at b.state c.args.group.0)) c.store-store.ensures) c.if-learnt-view.false c.if-view-eq4294967295.true
 
 pub returns : goal.returns
 returns c =
     subst (λ (b : Bool). Decides b (Serves (state_of c.args.node.now) c.args.group.0 c.args.view.0)) (none_is c.accepted.result c.is_none.result c.is_none.ensures)
     (serves_told c.args.node.now c.args.group.0 c.args.view.0 c.learnt.result.0
     (c.learnt.ensures ∙ ap (λ (b : Brick MemDisk). learnt_of (group_at b.state c.args.group.0)) c.store-store.ensures)
-    c.accepted.result c.if-learnt-view.false (omega arith) c.if-view-MAX.false
+    c.accepted.result c.if-learnt-view.false (omega arith) c.if-view-eq4294967295.false
     (c.accepted.ensures ∙ ap (λ (b : Brick MemDisk). accepted_of (group_at b.state c.args.group.0)) c.store-store.ensures))

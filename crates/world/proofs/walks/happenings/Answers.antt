@@ -1,5 +1,5 @@
 -- the happenings along the walk of the entries
-use Rattle.std.proofs.Common.{◌≡◌, List, ap, ◌∙◌}
+use Rattle.std.proofs.Common.{List, ap, ◌∙◌}
 use Rattle.std.proofs.lemmas.Result.{IfOk-weaker}
 use Rattle.reg_model.specs.declared.entries.Entry.{Entry}
 use Rattle.world.specs.Walks.{operations_of, placed}

@@ -1,5 +1,5 @@
 -- What is told and answered is noted, and then what was sent and reported.
-use Rattle.std.proofs.Common.{◌≡◌, ℕ, ◌+◌, ◌≤◌, Bool, List, ◌++◌, refl, sym, ap, subst, ◌∙◌, arith}
+use Rattle.std.proofs.Common.{◌≡◌, ℕ, ◌+◌, Bool, List, ◌++◌, refl, sym, ap, subst, ◌∙◌, arith}
 use Rattle.std.specs.Prelude.{option_to_list}
 use Rattle.coord_phase.specs.Messages.{packets_from}
 use Rattle.protocol.specs.Nodes.{Node, put}
@@ -7,8 +7,8 @@ use Rattle.protocol.specs.declared.tellings.Answered.{Answered}
 use Rattle.protocol.specs.declared.tellings.Told.{Told}
 use Rattle.protocol.specs.Worlds.{World, world_tells, world_answers, reports_of}
 use Rattle.node.specs.Outcomes.{told_list}
-use Rattle.world.specs.Shown.{TellsAt, HasReadRoom, AreTold, AreAnswered, reads_begun, seqs_of}
-use Rattle.world.proofs.HearingLemmas.{hears_then, reads_more, answered_past}
+use Rattle.world.specs.Shown.{TellsAt, AreTold, AreAnswered, reads_begun, seqs_of}
+use Rattle.world.proofs.HearingLemmas.{hears_then, answered_past}
 use Rattle.world.proofs.HistoryLemmas.{tells_sent, tells_reported, tells_stepped, up_told}
 use Rattle.world.proofs.Places.{value_here}
 use Rattle.world.proofs.histories.History.step.Goals as goal

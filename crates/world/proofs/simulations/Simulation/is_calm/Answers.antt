@@ -68,11 +68,11 @@ returns-in_default c w reached shows = (
 )
 
 -- it has a view
-pub returns-in_default-view : goal.returns-in_default-view
-returns-in_default-view c w reached shows =
+pub returns-in_default-open_view : goal.returns-in_default-open_view
+returns-in_default-open_view c w reached shows =
     let here = here_of c.args.layout.now w c.args.self.now c.args.operation c.in-Some.record reached shows c.in-Some.ensures in
     absurd (let never : None ≡ Some (view_in here.coordinator) =
-    view_here c.args.layout.now w c.args.self.now c.args.operation c.in-Some.record None here shows c.in_default-view.ensures in cc)
+    view_here c.args.layout.now w c.args.self.now c.args.operation c.in-Some.record None here shows c.in_default-open_view.ensures in cc)
 
 -- there is its group
 pub returns-in_default-group : goal.returns-in_default-group
@@ -154,8 +154,8 @@ module _ (layout : Layout) (w : World) (n : ℕ) (kept : OperationRecord) (view 
 
 pub returns-then-not-has_quorum : goal.returns-then-not-has_quorum
 returns-then-not-has_quorum c w reached shows =
-    let found = found_of c.args.layout.now w c.args.self.now c.args.operation c.in-Some.record c.in-Some-view.view c.in-Some-group.group.now c.m.result
-    c.bricks.ensures.limits reached shows c.in-Some.ensures c.in-Some-view.ensures c.in-Some-group.ensures.found c.m.ensures in
+    let found = found_of c.args.layout.now w c.args.self.now c.args.operation c.in-Some.record c.in-Some-open_view.view c.in-Some-group.group.now c.m.result
+    c.bricks.ensures.limits reached shows c.in-Some.ensures c.in-Some-open_view.ensures c.in-Some-group.ensures.found c.m.ensures in
     against _ c.has_quorum.result c.if-not-has_quorum.true
     (λ calm. c.has_quorum.ensures.1 (enough_as _ _ _ _ c.args.bricks.now (sym found.m_is) (sym (members_is _ _ _ _ _ _ found))
     (parts_of c.args.layout.now w c.args.operation c.args.bricks.now found.here.coordinator found.here.opens found.here.at found.here.up calm).members))
@@ -172,20 +172,20 @@ returns-then-not-is_in_time c w reached shows =
 
 pub returns-then-not-are_able : goal.returns-then-not-are_able
 returns-then-not-are_able c w reached shows =
-    let found = found_of c.args.layout.now w c.args.self.now c.args.operation c.in-Some.record c.in-Some-view.view c.in-Some-group.group.now c.m.result
-    c.bricks.ensures.limits reached shows c.in-Some.ensures c.in-Some-view.ensures c.in-Some-group.ensures.found c.m.ensures in
+    let found = found_of c.args.layout.now w c.args.self.now c.args.operation c.in-Some.record c.in-Some-open_view.view c.in-Some-group.group.now c.m.result
+    c.bricks.ensures.limits reached shows c.in-Some.ensures c.in-Some-open_view.ensures c.in-Some-group.ensures.found c.m.ensures in
     let bricks : ShowsBricks c.args.layout.now c.deref-2.result.now w.nodes w.after w.up w.clocks =
     subst (λ (l : List Brick). ShowsBricks c.args.layout.now l w.nodes w.after w.up w.clocks) (sym c.deref-2.ensures.value) shows.bricks in
     against _ c.are_able.result c.if-not-are_able.true
     (λ calm. c.are_able.ensures.1 (λ k number at.
-    (able_shown c.args.layout.now c.in-Some.record.group.0 c.in-Some-view.view.number.0 c.deref-2.result.now w number bricks).1
+    (able_shown c.args.layout.now c.in-Some.record.group.0 c.in-Some-open_view.view.number.0 c.deref-2.result.now w number bricks).1
     (able_back _ _ _ _ _ _ found number
     ((parts_of c.args.layout.now w c.args.operation c.args.bricks.now found.here.coordinator found.here.opens found.here.at found.here.up calm).able k number at))))
 
 pub returns-then-not-has_prior_quorum : goal.returns-then-not-has_prior_quorum
 returns-then-not-has_prior_quorum c w reached shows =
-    let found = found_of c.args.layout.now w c.args.self.now c.args.operation c.in-Some.record c.in-Some-view.view c.in-Some-group.group.now c.m-2.result
-    c.bricks.ensures.limits reached shows c.in-Some.ensures c.in-Some-view.ensures c.in-Some-group.ensures.found c.m-2.ensures in
+    let found = found_of c.args.layout.now w c.args.self.now c.args.operation c.in-Some.record c.in-Some-open_view.view c.in-Some-group.group.now c.m-2.result
+    c.bricks.ensures.limits reached shows c.in-Some.ensures c.in-Some-open_view.ensures c.in-Some-group.ensures.found c.m-2.ensures in
     let bricks : ShowsBricks c.args.layout.now c.deref-3.result.now w.nodes w.after w.up w.clocks =
     subst (λ (l : List Brick). ShowsBricks c.args.layout.now l w.nodes w.after w.up w.clocks) (sym c.deref-3.ensures.value) shows.bricks in
     against _ c.has_prior_quorum.result c.if-not-has_prior_quorum.true
@@ -196,8 +196,8 @@ returns-then-not-has_prior_quorum c w reached shows =
 
 pub returns : goal.returns
 returns c w reached shows =
-    let found = found_of c.args.layout.now w c.args.self.now c.args.operation c.in-Some.record c.in-Some-view.view c.in-Some-group.group.now c.m.result
-    c.bricks.ensures.limits reached shows c.in-Some.ensures c.in-Some-view.ensures c.in-Some-group.ensures.found c.m.ensures in
+    let found = found_of c.args.layout.now w c.args.self.now c.args.operation c.in-Some.record c.in-Some-open_view.view c.in-Some-group.group.now c.m.result
+    c.bricks.ensures.limits reached shows c.in-Some.ensures c.in-Some-open_view.ensures c.in-Some-group.ensures.found c.m.ensures in
     let here = found.here in
     let first : ShowsBricks c.args.layout.now c.deref.result.now w.nodes w.after w.up w.clocks =
     subst (λ (l : List Brick). ShowsBricks c.args.layout.now l w.nodes w.after w.up w.clocks) (sym c.deref.ensures.value) shows.bricks in
@@ -206,9 +206,9 @@ returns c w reached shows =
     let third : ShowsBricks c.args.layout.now c.deref-3.result.now w.nodes w.after w.up w.clocks =
     subst (λ (l : List Brick). ShowsBricks c.args.layout.now l w.nodes w.after w.up w.clocks) (sym c.deref-3.ensures.value) shows.bricks in
     let able : (k number : ℕ) → slice_get c.args.bricks.now k ≡ Some number
-        → IsAble c.args.layout.now w here.at.operation.ask.group.0 here.coordinator.stamp.view.0 number =
+    → IsAble c.args.layout.now w here.at.operation.ask.group.0 here.coordinator.stamp.view.0 number =
     (λ k number at. able_as _ _ _ _ _ _ found number
-    ((able_shown c.args.layout.now c.in-Some.record.group.0 c.in-Some-view.view.number.0 c.deref-2.result.now w number second).0
+    ((able_shown c.args.layout.now c.in-Some.record.group.0 c.in-Some-open_view.view.number.0 c.deref-2.result.now w number second).0
     (c.are_able.ensures.0 c.if-not-are_able.false k number at))) in
     let sent : c.args.self.now.history.sent.packets.items ≡ w.packets = shows.history.packets in (
       λ on. calm_of c.args.layout.now w c.args.operation c.args.bricks.now here.coordinator here.opens here.at
