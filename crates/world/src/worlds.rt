@@ -165,8 +165,10 @@ impl World {
         ensures err { OnErr result (LeavesSome self.old self.new line.now) }
         ensures disks { ShowsDisks self.new }
     {
-        let _outcome = self.run(line)?;
-        Ok(())
+        match self.run(line) {
+            Ok(_) => Ok(()),
+            Err(refused) => Err(refused),
+        }
     }
 
     /// Runs a line.
