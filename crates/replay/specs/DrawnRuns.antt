@@ -1,11 +1,11 @@
 -- What a part of a made run leaves.
-use Rattle.std.specs.Prelude.{◌≡◌, ℕ, ◌<◌, ◌+◌, List, [], ◌∷◌, ◌++◌, length, map, Some}
+use Rattle.std.specs.Prelude.{◌≡◌, ℕ, List, [], ◌∷◌, length, map, Some}
 use Rattle.lines.specs.Grammar.{line_of}
-use Rattle.lines.specs.declared.forms.Line.{Line}
 use Rattle.protocol.specs.Settings.{Setting}
 use Rattle.protocol.specs.Worlds.{World, run}
 use Rattle.stripe_code.specs.Codes.{coding}
 use Rattle.rand_pcg.specs.Lcg.{Lcg}
+use Rattle.made.specs.Draws.{seeded}
 use Rattle.made.specs.Lines.{next_line}
 use Rattle.made.specs.Spellings.{spelt}
 use Rattle.world.specs.Runs.{Run, Step, world_of}
@@ -31,5 +31,9 @@ pub record HasDrawn (first last : Run) (random random_after : Lcg) (count : ℕ)
   pub leads : LeadsTo first steps last
   pub count_is : length steps ≡ count
   pub lines_are : map (λ step. step.line) steps ≡ drawn_lines (coding first.layout) (world_of first) random steps
-  pub read : AreLinesOfSteps (map (λ step. spelt step.line) steps) steps
+  pub read : AreLinesOfSteps (map spelt (map (λ step. step.line) steps)) steps
   pub left : random_after ≡ left_of (coding first.layout) (world_of first) random steps
+
+-- the same, of the generator of a seed
+abbrev pub DrawsAll : Run → Run → ℕ → ℕ → Type 0
+DrawsAll first last seed count = (left : Lcg) × HasDrawn first last (seeded seed) left count

@@ -1,13 +1,10 @@
 -- A run of a schedule that is drawn: its lines, what it prints, and that it is a run as any other.
-use Rattle.std.specs.Prelude.{◌≡◌, ℕ, zero, suc, ◌<◌, nat_le, ◌⊎◌, if◌then◌else◌, List, [], ◌∷◌, ◌++◌, length, map, ⊥, codes, Option, Some, None, Result, Ok, Err}
+use Rattle.std.specs.Prelude.{◌≡◌, ℕ, zero, suc, List, [], ◌∷◌, ◌++◌, length, map, codes, Option, Result, Ok, Err}
 use Rattle.std.specs.Fmt.{decimal}
-use Rattle.std.specs.Str.{bytes_eq}
 use Rattle.std.specs.Io.KnownBytes.{Appends, Keeps}
 use Rattle.fab_io.specs.Ends.{AppendsFront}
 use Rattle.fab_base.specs.Layouts.{Layout, group_of, most_groups}
 use Rattle.fab_base.specs.Texts.{newline}
-use Rattle.lines.specs.Grammar.{◌>>=◌}
-use Rattle.lines.specs.Tokens.{number}
 use Rattle.lines.specs.declared.forms.Line.{Line}
 use Rattle.reg_model.specs.declared.marks.Happening.{Happening}
 use Rattle.protocol.specs.Settings.{Setting}
@@ -21,9 +18,8 @@ use Rattle.made.specs.Draws.{seeded}
 use Rattle.made.specs.Lines.{next_line}
 use Rattle.made.specs.Spellings.{spelt}
 use Rattle.world.specs.Runs.{Step}
-use Rattle.printed.specs.Outputs.{most_lines, stripes_of, left_by, count_text}
+use Rattle.printed.specs.Outputs.{stripes_of, left_by, count_text}
 use Rattle.printed.specs.LineSteps.{AreStepsOf}
-use Rattle.replay.specs.declared.makes.Asked.{Asked}
 use Rattle.replay.specs.declared.endings.RunResult.{RunResult}
 use Rattle.replay.specs.declared.endings.RunResult.TheVariants.{Whole, BadLayout, BadLine, TooManyLines, Refuted}
 use Rattle.replay.specs.declared.endings.Halt.{Halt}
@@ -31,18 +27,6 @@ use Rattle.replay.specs.declared.endings.Halt.TheVariants.{Source, Sink, Memory}
 use Rattle.replay.specs.Inputs.{Input, Parted}
 use Rattle.replay.specs.Outputs.{output_of}
 use Rattle.replay.specs.Replays.{IsLinearizable, status_of}
-
--- the schedule that the words behind `make` ask for: two numbers, the second no more than a schedule has lines
-abbrev pub asked_by : List ℕ → List ℕ → Option Asked
-asked_by seed lines = do
-  s ← number seed
-  n ← number lines
-  if nat_le n most_lines then Some (record { seed = s; lines = n }) else None
-
--- the schedule that words ask for, if they are `make SEED LINES`
-abbrev pub asked_of : List (List ℕ) → Option Asked
-asked_of (word ∷ seed ∷ lines ∷ []) = if bytes_eq word (codes "make") then asked_by seed lines else None
-asked_of words = None
 
 -- The lines that a generator draws while these steps are run, one after another. Each is drawn in the world that the steps before it left, by how
 -- many messages were sent by then.
@@ -65,7 +49,7 @@ abbrev pub made_input : ℕ → List Step → Input
 made_input seed steps = Parted DISK.now (made_schedule seed steps)
 
 -- the happenings of a group's stripes below a number
-unfoldable pub happenings_to : World → ℕ → ℕ → List Happening
+abbrev pub happenings_to : World → ℕ → ℕ → List Happening
 happenings_to w group zero = []
 happenings_to w group (suc stripe) = happenings_to w group stripe ++ happenings_of w group stripe
 
@@ -81,30 +65,34 @@ summary_text layout w lines =
 
 -- These are the steps of a made schedule: each is of the line that is drawn for it. They are a run as any other: what `run` prints for this layout and schedule is
 -- strict, and its last line is that of the summary.
-pub record IsMadeRun (asked : Asked) (steps : List Step) : Type 0 where
-  pub lines : length steps ≡ asked.lines
-  pub are_drawn : map (λ step. step.line) steps ≡ made_lines asked.seed steps
-  pub steps_are : AreStepsOf made_layout (made_schedule asked.seed steps) steps
-  pub linearizable : IsLinearizable (made_input asked.seed steps) (output_of steps (made_input asked.seed steps)).text
+pub record IsMadeRun (seed lines : ℕ) (steps : List Step) : Type 0 where
+  pub count_is : length steps ≡ lines
+  pub are_drawn : map (λ step. step.line) steps ≡ made_lines seed steps
+  pub steps_are : AreStepsOf made_layout (made_schedule seed steps) steps
+  pub linearizable : IsLinearizable (made_input seed steps) (output_of steps (made_input seed steps)).text
 
 -- the summary of some steps of a made schedule
 abbrev pub made_text : List Step → List ℕ
 made_text steps = summary_text made_layout (left_by made_layout steps) (length steps)
 
--- What a made run prints: the summary of a whole run, or some of it, from its front, where the sink failed. Nothing else stops it but want of memory, and then
+-- a whole run of a made schedule, and its summary
+abbrev pub SumsUp : ℕ → ℕ → List ℕ → Type 0
+SumsUp seed lines text = (steps : List Step) × IsMadeRun seed lines steps × (text ≡ made_text steps)
+
+-- What a made run prints: the summary of a whole run; or some of it, from its front, where the sink failed. Want of memory alone stops it else, and then
 -- nothing is printed.
-abbrev pub MakePrints : Asked → Option (List ℕ) → Option (List ℕ) → Result RunResult Halt → Type 0
-MakePrints asked old new (Ok Whole) = (steps : List Step) × IsMadeRun asked steps × Appends old new (made_text steps)
-MakePrints asked old new (Ok BadLayout) = ⊥
-MakePrints asked old new (Ok (BadLine line)) = ⊥
-MakePrints asked old new (Ok TooManyLines) = ⊥
-MakePrints asked old new (Ok Refuted) = ⊥
-MakePrints asked old new (Err Source) = ⊥
-MakePrints asked old new (Err Sink) = (steps : List Step) × IsMadeRun asked steps × AppendsFront old new (made_text steps)
-MakePrints asked old new (Err Memory) = Keeps old new
+abbrev pub MakePrints : ℕ → ℕ → Option (List ℕ) → Option (List ℕ) → Result RunResult Halt → Type 0
+MakePrints seed lines old new (Ok Whole) = (text : List ℕ) × SumsUp seed lines text × Appends old new text
+MakePrints seed lines old new (Ok BadLayout) = ⊥
+MakePrints seed lines old new (Ok (BadLine line)) = ⊥
+MakePrints seed lines old new (Ok TooManyLines) = ⊥
+MakePrints seed lines old new (Ok Refuted) = ⊥
+MakePrints seed lines old new (Err Source) = ⊥
+MakePrints seed lines old new (Err Sink) = (text : List ℕ) × SumsUp seed lines text × AppendsFront old new text
+MakePrints seed lines old new (Err Memory) = Keeps old new
 
 -- A made run. There is an end, of which the status tells, and the sink took what is printed at it.
-pub record MakeEnds (asked : Asked) (sink sink_after : Option (List ℕ)) (status : ℕ) : Type 0 where
+pub record MakeEnds (seed lines : ℕ) (sink sink_after : Option (List ℕ)) (status : ℕ) : Type 0 where
   pub ending : Result RunResult Halt
   pub status_is : status ≡ status_of ending
-  pub printed : MakePrints asked sink sink_after ending
+  pub printed : MakePrints seed lines sink sink_after ending
