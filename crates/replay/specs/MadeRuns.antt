@@ -58,10 +58,13 @@ unfoldable pub happenings_below : Layout → World → ℕ → List Happening
 happenings_below layout w zero = []
 happenings_below layout w (suc group) = happenings_below layout w group ++ happenings_to w group (stripes_of (group_of layout group))
 
--- what sums up a run of so many lines: the counts, and how many happenings there are over all stripes
+-- how many happenings there are over all stripes
+abbrev pub total_text : Layout → World → List ℕ
+total_text layout w = codes "happened total " ++ (decimal (length (happenings_below layout w most_groups)) ++ newline)
+
+-- what sums up a run of so many lines: the counts, and the happenings
 abbrev pub summary_text : Layout → World → ℕ → List ℕ
-summary_text layout w lines =
-    count_text lines w.marks ++ (codes "happened total " ++ (decimal (length (happenings_below layout w most_groups)) ++ newline))
+summary_text layout w lines = count_text lines w.marks ++ total_text layout w
 
 -- These are the steps of a made schedule: each is of the line that is drawn for it. They are a run as any other: what `run` prints for this layout and schedule is
 -- strict, and its last line is that of the summary.

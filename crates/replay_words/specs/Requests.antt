@@ -1,5 +1,5 @@
 -- What words ask for.
-use Rattle.std.specs.Prelude.{ℕ, ◌==◌, nat_le, Bool, if◌then◌else◌, List, [], ◌∷◌, slice_index, codes, Option, Some, None}
+use Rattle.std.specs.Prelude.{ℕ, ◌==◌, ◌≤◌, ⊤, nat_le, Bool, if◌then◌else◌, List, [], ◌∷◌, slice_index, codes, Option, Some, None}
 use Rattle.std.specs.Str.{bytes_eq}
 use Rattle.clap.specs.Matches.{first_value}
 use Rattle.clap.specs.declared.parser.matches.Found.{Found}
@@ -30,6 +30,12 @@ request_of (word ∷ []) = one_word word
 request_of (word ∷ (seed ∷ [])) = None
 request_of (word ∷ (seed ∷ (lines ∷ []))) = three_words word seed lines
 request_of (word ∷ (seed ∷ (lines ∷ (more ∷ words)))) = None
+
+-- a schedule that is to be made has at most 1,048,576 lines
+abbrev pub IsLegal : Request → Type 0
+IsLegal Run = ⊤
+IsLegal Audit = ⊤
+IsLegal (Make seed lines) = lines ≤ 1048576
 
 -- a word begins with `-`
 abbrev pub is_option : List ℕ → Bool
