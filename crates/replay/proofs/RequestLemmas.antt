@@ -53,11 +53,14 @@ audit_ends source source_after old new came untouched ending status prints reads
   failed_source = λ failed. failed_source AuditGoesOn source source_after old new came untouched (ending ≡ Err Source) reads failed;
 }
 
--- want of memory is no failure of the source, and no whole run
-memory_no_source : Err {T = RunResult} Memory ≡ Err Source → ⊥
+-- the end for want of memory, which is no failure of the source, and no whole run
+abbrev lacking : Result RunResult Halt
+lacking = Err Memory
+
+memory_no_source : lacking ≡ Err Source → ⊥
 memory_no_source same = cc
 
-memory_not_whole : Err Memory ≡ Ok Whole → ⊥
+memory_not_whole : lacking ≡ Ok Whole → ⊥
 memory_not_whole same = cc
 
 -- there was no memory for the words
@@ -65,14 +68,14 @@ pub answers_memory : (request : Option Request) (source old : Option (List ℕ))
     → AnswersTo request source source came untouched old old 7
 answers_memory None source old came untouched same = (inr (inr refl, AppendsFront-none old old usage_text (Keeps-refl old)), same)
 answers_memory (Some Run) source old came untouched same =
-    run_ends source source old old came untouched (Err Memory) 7 (PrintsInput-stopped source old Memory)
-    (ReadsPart-none (LeavesOpen RunGoesOn) [] source old old came untouched (Err Memory ≡ Err Source) same memory_no_source)
+    run_ends source source old old came untouched lacking 7 (PrintsInput-stopped source old Memory)
+    (ReadsPart-none (LeavesOpen RunGoesOn) [] source old old came untouched (lacking ≡ Err Source) same memory_no_source)
     (λ whole. absurd (memory_not_whole whole)) refl
 answers_memory (Some Audit) source old came untouched same =
-    audit_ends source source old old came untouched (Err Memory) 7 (Keeps-refl old)
-    (ReadsPart-none (LeavesOpen AuditGoesOn) [] source old old came untouched (Err Memory ≡ Err Source) same memory_no_source) refl
+    audit_ends source source old old came untouched lacking 7 (Keeps-refl old)
+    (ReadsPart-none (LeavesOpen AuditGoesOn) [] source old old came untouched (lacking ≡ Err Source) same memory_no_source) refl
 answers_memory (Some (Make seed lines)) source old came untouched same =
-    (record { ending = Err Memory; status_is = refl; printed = Keeps-refl old }, same)
+    (record { ending = lacking; status_is = refl; printed = Keeps-refl old }, same)
 
 pub decided_memory : (request : Option Request) (source : Option (List ℕ)) → IsDecidedFor request source 7
 decided_memory None source = inr refl

@@ -1,6 +1,7 @@
 //! The program's top call.
 
-ghost use Rattle.std.specs.Prelude.{◌≡◌, ◌≢◌, ◌⊎◌, Some, map, string_bytes};
+ghost use Rattle.std.specs.Prelude.{◌≡◌, ◌≢◌, ◌⊎◌, map, string_bytes};
+ghost use Rattle.std.specs.Option.{ForSome};
 ghost use Rattle.fab_io.specs.Ends.{Kept, WriteTakes};
 ghost use Rattle.replay_words.specs.Requests.{request_of, IsLegal};
 ghost use Rattle.replay.specs.Replays.{is_word, usage_text, Refuses};
@@ -99,34 +100,33 @@ pub fn replay<S: Source, K: Sink>(
     ensures decided { S.sound source.old → K.sound sink.old
         → IsDecidedFor (request_of (map string_bytes words.now)) (S.told source.old) result }
 {
-    let request = match request_of(alloc, words) {
-        Ok(request) => request,
-        Err(_) => return NO_MEMORY,
-    };
-    match request {
-        Some(request) => answer(alloc, request, source, sink),
-        None => refuse_words(sink),
+    match request_of(alloc, words) {
+        Ok(request) => answer(alloc, request, source, sink),
+        Err(_) => NO_MEMORY,
     }
 }
 
-/// Does what is asked for, and answers the exit status.
+/// Does what is asked for, if anything is, and answers the exit status.
 fn answer<S: Source, K: Sink>(
     alloc: Global,
-    request: Request,
+    request: Option<Request>,
     source: &mut S,
     sink: &mut K,
 ) -> u8
-    requires { IsLegal request }
-    ensures answers { AnswersTo (Some request) (S.told source.old) (S.told source.new) (S.came source.new) (source.new ≡ source.old)
+    requires { ForSome request IsLegal }
+    ensures answers { AnswersTo request (S.told source.old) (S.told source.new) (S.came source.new) (source.new ≡ source.old)
         (K.told sink.old) (K.told sink.new) result }
     ensures source { Kept (S.faults source.old) (S.faults source.new) (S.sound source.old) (S.sound source.new) (result ≡ 5) }
     ensures sink { Kept (K.faults sink.old) (K.faults sink.new) (K.sound sink.old) (K.sound sink.new) (result ≡ 6) }
-    ensures decided { S.sound source.old → K.sound sink.old → IsDecidedFor (Some request) (S.told source.old) result }
+    ensures decided { S.sound source.old → K.sound sink.old → IsDecidedFor request (S.told source.old) result }
 {
     match request {
-        Request::Run => status_of(run(alloc, source, sink)),
-        Request::Audit => status_of(audit_input(alloc, source, sink)),
-        Request::Make { seed, lines } => status_of(make(alloc, seed, lines, sink)),
+        None => refuse_words(sink),
+        Some(request) => match request {
+            Request::Run => status_of(run(alloc, source, sink)),
+            Request::Audit => status_of(audit_input(alloc, source, sink)),
+            Request::Make { seed, lines } => status_of(make(alloc, seed, lines, sink)),
+        },
     }
 }
 

@@ -1,8 +1,11 @@
 -- What clap makes of words none of which begins with `-`: one to three of them fill the command line's places, and a fourth has none.
-use Rattle.std.proofs.Common.{◌≡◌, ℕ, ◌==◌, ◌&&◌, ◌||◌, ◌×◌, Bool, true, false, List, [], ◌∷◌, Option, Some, None, refl, sym, ap, ap₂, ◌∙◌, codes, fold}
+use Rattle.std.proofs.Common.{◌≡◌, ℕ, ◌==◌, ◌&&◌, ◌||◌, Bool, true, false, List, [], ◌∷◌, Option, Some, None, refl, sym, ap, ap₂, ◌∙◌, codes, fold}
 use Rattle.std.specs.Prelude.{is_some, slice_index}
 use Rattle.std.specs.List.{list_any, list_all}
-use Rattle.clap.specs.Walk.{Held, Names, Row, Rule, Step, Text, Walk, idle, value, walk, walk_from, walked, word_met, after_step, to_positional, arg_by_index, nothing_held, finished, first_of}
+use Rattle.clap.specs.Matches.{first_value}
+use Rattle.clap.specs.declared.parser.matches.Found.{Found}
+use Rattle.clap.proofs.WalkLemmas.{first_value-rows}
+use Rattle.clap.specs.Walk.{Held, Names, Row, rows_of, Rule, Step, Text, Walk, idle, value, walk, walk_from, walked, word_met, after_step, to_positional, arg_by_index, nothing_held, finished, first_of}
 use Rattle.clap.specs.Simple.{App, Shape, built, matches_of, is_simple, entered}
 use Rattle.clap.specs.Takes.{takes, walk_passes, turn_passes, word_passes, step_passes, settle_passes, default_passes, is_valid, entered_passes}
 use Rattle.clap.specs.Kinds.{Kinds, or_else}
@@ -10,7 +13,7 @@ use Rattle.clap.specs.Faults.{fault_of, walk_fault, turn_fault, word_fault, step
 use Rattle.clap.specs.declared.error.kind.ErrorKind.TheVariants.{UnknownArgument}
 use Rattle.replay_words.specs.declared.requests.Request.{Request}
 use Rattle.replay_words.specs.CommandLines.{command_app}
-use Rattle.replay_words.specs.Requests.{is_option, request_of, request_found}
+use Rattle.replay_words.specs.Requests.{is_option, request_of, request_found, request_matched}
 
 -- a word that does not begin with `-`
 abbrev IsPlain : Text → Type 0
@@ -199,3 +202,14 @@ refused (a ∷ (b ∷ (c ∷ []))) plain none =
     let second = neither (is_option b) (list_any is_option (c ∷ [])) first.1 in
     absurd (none (takes_three a b c first.0 second.0 (neither (is_option c) false second.1).0))
 refused (a ∷ (b ∷ (c ∷ (d ∷ words)))) plain none = refl
+
+-- the same, of what clap found
+pub by_matches : (found : Found) (words : List Text) → list_any is_option words ≡ false → fault_of command_app words ≡ []
+    → rows_of found ≡ matches_of command_app words → request_matched found ≡ request_of words
+by_matches found words plain sound rows =
+    let value_is = λ (id : Text). first_value-rows found id ∙ ap (first_of id) rows in
+    ap (λ (w : Option Text). request_found w (first_value found (codes "seed")) (first_value found (codes "lines"))) (value_is (codes "word"))
+    ∙ ap (λ (s : Option Text). request_found (first_of (codes "word") (matches_of command_app words)) s (first_value found (codes "lines"))) (value_is (codes "seed"))
+    ∙ ap (λ (n : Option Text). request_found (first_of (codes "word") (matches_of command_app words)) (first_of (codes "seed") (matches_of command_app words)) n)
+      (value_is (codes "lines"))
+    ∙ matched words plain sound
