@@ -1,15 +1,15 @@
 -- What clap makes of words none of which begins with `-`: one to three of them fill the command line's places, and a fourth has none.
-use Rattle.std.proofs.Common.{◌≡◌, ℕ, ◌==◌, ◌&&◌, ◌||◌, Bool, true, false, List, [], ◌∷◌, Option, Some, None, refl, sym, ap, ap₂, ◌∙◌, codes, fold}
-use Rattle.std.specs.Prelude.{is_some, slice_index}
+use Rattle.std.proofs.Common.{◌≡◌, ℕ, ◌==◌, ◌&&◌, ◌||◌, Bool, true, false, List, [], ◌∷◌, Option, Some, None, refl, ap, ap₂, ◌∙◌, codes}
+use Rattle.std.specs.Prelude.{is_some}
 use Rattle.std.specs.List.{list_any, list_all}
 use Rattle.clap.specs.Matches.{first_value}
 use Rattle.clap.specs.declared.parser.matches.Found.{Found}
 use Rattle.clap.proofs.WalkLemmas.{first_value-rows}
-use Rattle.clap.specs.Walk.{Held, Names, Row, rows_of, Rule, Step, Text, Walk, idle, value, walk, walk_from, walked, word_met, after_step, to_positional, arg_by_index, nothing_held, finished, first_of}
+use Rattle.clap.specs.Walk.{Held, Names, Row, rows_of, Rule, Step, Text, Walk, idle, value, walk, walk_from, walked, word_met, after_step, to_positional, arg_by_index, nothing_held, settled, finished, first_of}
 use Rattle.clap.specs.Simple.{App, Shape, built, matches_of, is_simple, entered}
 use Rattle.clap.specs.Takes.{takes, walk_passes, turn_passes, word_passes, step_passes, settle_passes, default_passes, is_valid, entered_passes}
 use Rattle.clap.specs.Kinds.{Kinds, or_else}
-use Rattle.clap.specs.Faults.{fault_of, walk_fault, turn_fault, word_fault, step_fault, is_simple_and_free}
+use Rattle.clap.specs.Faults.{fault_of, walk_fault, turn_fault, word_fault, step_fault, entered_fault, settle_fault, defaults_fault, check_fault, is_simple_and_free}
 use Rattle.clap.specs.declared.error.kind.ErrorKind.TheVariants.{UnknownArgument}
 use Rattle.replay_words.specs.declared.requests.Request.{Request}
 use Rattle.replay_words.specs.CommandLines.{command_app}
@@ -153,10 +153,16 @@ fails_four a b c d words pa pb pc pd =
     ∙ walk_fault_is line.top (after_two a b).held 3 c (d ∷ words) pc
     ∙ walk_fault_is line.top (after_three a b c).held 4 d words pd
 
+-- the faults behind those of a walk
+abbrev behind : Walk → Kinds
+behind w =
+    or_else (entered_fault line w.stopped) (or_else (settle_fault rules line.top.args_override_self w.held)
+    (or_else (defaults_fault (settled rules w.held).rows rules) (check_fault line.top (finished rules w.held) (is_some (entered line w.stopped)))))
+
 -- some fault, and more
-some_fault : (first behind : Kinds) → first ≡ UnknownArgument ∷ [] → or_else first behind ≡ [] → ⊥
-some_fault first behind is none =
-    let same : or_else first behind ≡ UnknownArgument ∷ [] = ap (λ (k : Kinds). or_else k behind) is in
+some_fault : (first more : Kinds) → first ≡ UnknownArgument ∷ [] → or_else first more ≡ [] → ⊥
+some_fault first more is none =
+    let same : or_else first more ≡ UnknownArgument ∷ [] = ap (λ (k : Kinds). or_else k more) is in
     cc
 
 -- what is asked for
@@ -177,7 +183,7 @@ pub matched : (words : List Text) → list_any is_option words ≡ false → fau
     → request_found (first_of (codes "word") (matches_of command_app words)) (first_of (codes "seed") (matches_of command_app words))
       (first_of (codes "lines") (matches_of command_app words)) ≡ request_of words
 matched [] plain sound = refl
-matched (a ∷ []) plain sound = ap asked (walk_one a (neither _ _ plain).0)
+matched (a ∷ []) plain sound = ap asked (walk_one a (neither (is_option a) false plain).0)
 matched (a ∷ (b ∷ [])) plain sound =
     let first = neither (is_option a) (list_any is_option (b ∷ [])) plain in
     ap asked (walk_two a b first.0 (neither (is_option b) false first.1).0)
@@ -190,7 +196,8 @@ matched (a ∷ (b ∷ (c ∷ (d ∷ words)))) plain sound =
     let second = neither (is_option b) (list_any is_option (c ∷ d ∷ words)) first.1 in
     let third = neither (is_option c) (list_any is_option (d ∷ words)) second.1 in
     let fourth = neither (is_option d) (list_any is_option words) third.1 in
-    absurd (some_fault _ _ (fails_four a b c d words first.0 second.0 third.0 fourth.0) sound)
+    absurd (some_fault (walk_fault line.top [] start (a ∷ b ∷ c ∷ d ∷ words)) (behind (walk rules [] nothing_held (a ∷ b ∷ c ∷ d ∷ words)))
+    (fails_four a b c d words first.0 second.0 third.0 fourth.0) sound)
 
 -- words that are refused ask for nothing
 pub refused : (words : List Text) → list_any is_option words ≡ false → (takes command_app words ≡ true → ⊥) → request_of words ≡ None
