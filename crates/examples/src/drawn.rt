@@ -158,8 +158,16 @@ fn summary(alloc: Global, text: &str) -> Result<String, AllocError> {
 
 /// Whether a made run of a seed prints what sums up a run of its lines as a text, and whether an audit finds that run sound.
 pub fn agrees(alloc: Global, seed: u64, count: u64) -> Result<bool, NoMem> {
-    let ran = printed(alloc, word(alloc, "run")?.as_slice(), input_of(alloc, seed, count)?);
-    let made = printed(alloc, make_words(alloc, seed, count)?.as_slice(), Vec::new(alloc));
+    let ran = printed(
+        alloc,
+        word(alloc, "run")?.as_slice(),
+        input_of(alloc, seed, count)?,
+    );
+    let made = printed(
+        alloc,
+        make_words(alloc, seed, count)?.as_slice(),
+        Vec::new(alloc),
+    );
     let mut output = layout_text(alloc)?;
     output.extend_from_slice(ran.taken())?;
     let audited = printed(alloc, word(alloc, "audit")?.as_slice(), output);

@@ -102,6 +102,7 @@ clear_of (x ∷ xs) all =
     isnt : (b : Bool) → not b ≡ true → b ≡ false
     isnt true h = sym h
     isnt false h = refl
+
     each : (x == 32) ≡ false → All (λ byte. (byte == 32) ≡ false) xs → All (λ byte. (byte == 32) ≡ false) (x ∷ xs)
     each one more zero d within = one
     each one more (suc k) d within = more k d (omega arith)

@@ -84,7 +84,7 @@ drawn_one_more first mid last random between after count has one =
     let is : (one.step.line, after) ≡ next_line (length (after_steps setting w has.steps).packets) (left_of setting w random has.steps) =
     one.drawn ∙ ap₂ (λ (v : World) (g : Lcg). next_line (length v.packets) g) world_is has.left in
     let spelt_more : map spelt (map (λ (s : Step). s.line) (has.steps ++ one.step ∷ []))
-        ≡ map spelt (map (λ (s : Step). s.line) has.steps) ++ spelt one.step.line ∷ [] =
+    ≡ map spelt (map (λ (s : Step). s.line) has.steps) ++ spelt one.step.line ∷ [] =
     ap (map spelt) (line_more has.steps one.step) ∙ map-append spelt (map (λ (s : Step). s.line) has.steps) (one.step.line ∷ []) in
     record {
       steps = has.steps ++ one.step ∷ [];
@@ -148,8 +148,7 @@ sums_up seed lines first last text few first_is fresh draws told text_is =
     ∙ ap (λ (r : Run). after_steps (coding r.layout) (world_of r) has.steps) first_is
     ∙ sym (after_steps-all (coding made_layout) (first_world made_layout) has.steps) in
     let layout_is : last.layout ≡ made_layout = leads_layout first last has.steps has.leads ∙ ap (λ (r : Run). r.layout) first_is in
-    let left_told : WorldReads (left_by made_layout has.steps) = subst WorldReads world_is told in
-    (
+    let left_told : WorldReads (left_by made_layout has.steps) = subst WorldReads world_is told in (
       has.steps,
       record {
         count_is = has.count_is;
@@ -160,7 +159,7 @@ sums_up seed lines first last text few first_is fresh draws told text_is =
             (made_told seed has.steps left_told);
       },
       text_is
-      ∙ ap (λ (l : Layout). summary_text l (world_of last) lines) layout_is
-      ∙ ap (λ (w : World). summary_text made_layout w lines) world_is
-      ∙ ap (λ (n : ℕ). summary_text made_layout (left_by made_layout has.steps) n) (sym has.count_is),
+          ∙ ap (λ (l : Layout). summary_text l (world_of last) lines) layout_is
+          ∙ ap (λ (w : World). summary_text made_layout w lines) world_is
+          ∙ ap (λ (n : ℕ). summary_text made_layout (left_by made_layout has.steps) n) (sym has.count_is),
     )

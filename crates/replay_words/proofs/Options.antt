@@ -61,10 +61,10 @@ three_none word seed lines some =
     one_of (is_option word) (is_option seed || (is_option lines || false)) (three_words word seed lines ≡ None) some
     (λ is. hyphen (λ w. three_words w seed lines ≡ None) word is (λ rest. refl))
     (λ more. one_of (is_option seed) (is_option lines || false) (three_words word seed lines ≡ None) more
-      (λ is. hyphen (λ s. three_words word s lines ≡ None) seed is (λ rest. either_none (bytes_eq word (codes "make")) _ (no_seed rest lines)))
-      (λ last. one_of (is_option lines) false (three_words word seed lines ≡ None) last
-        (λ is. hyphen (λ n. three_words word seed n ≡ None) lines is (λ rest. either_none (bytes_eq word (codes "make")) _ (no_lines seed rest)))
-        (λ bad. absurd (cc))))
+    (λ is. hyphen (λ s. three_words word s lines ≡ None) seed is (λ rest. either_none (bytes_eq word (codes "make")) _ (no_seed rest lines)))
+    (λ last. one_of (is_option lines) false (three_words word seed lines ≡ None) last
+    (λ is. hyphen (λ n. three_words word seed n ≡ None) lines is (λ rest. either_none (bytes_eq word (codes "make")) _ (no_lines seed rest)))
+    (λ bad. absurd (cc))))
 
 -- words, one of which begins with `-`
 pub option_none : (words : List (List ℕ)) → list_any is_option words ≡ true → request_of words ≡ None

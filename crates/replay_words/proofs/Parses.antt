@@ -67,8 +67,8 @@ turn_is s held position word plain =
 
 walk_is : (s : Shape) (held : Held) (position : ℕ) (word : Text) (words : List Text) → IsPlain word
     → walk_passes s [] (at held position) (word ∷ words)
-      ≡ (step_passes s position held value
-        && walk_passes s [] (to_positional s.rules (arg_by_index s.rules position) word (at held position) held) words)
+    ≡ (step_passes s position held value
+    && walk_passes s [] (to_positional s.rules (arg_by_index s.rules position) word (at held position) held) words)
 unfolding walk_passes
 walk_is s held position word words plain =
     ap₂ (λ (b : Bool) (w : Walk). b && walk_passes s [] w words) (turn_is s held position word plain) (goes s.rules held position word plain)
@@ -81,8 +81,8 @@ fault_is s held position word plain =
 
 walk_fault_is : (s : Shape) (held : Held) (position : ℕ) (word : Text) (words : List Text) → IsPlain word
     → walk_fault s [] (at held position) (word ∷ words)
-      ≡ or_else (step_fault s position held value)
-        (walk_fault s [] (to_positional s.rules (arg_by_index s.rules position) word (at held position) held) words)
+    ≡ or_else (step_fault s position held value)
+    (walk_fault s [] (to_positional s.rules (arg_by_index s.rules position) word (at held position) held) words)
 unfolding walk_fault
 walk_fault_is s held position word words plain =
     ap₂ (λ (k : Kinds) (w : Walk). or_else k (walk_fault s [] w words)) (fault_is s held position word plain) (goes s.rules held position word plain)
@@ -181,7 +181,7 @@ asked w =
 -- the matches ask for what the words do
 pub matched : (words : List Text) → list_any is_option words ≡ false → fault_of command_app words ≡ []
     → request_found (first_of (codes "word") (matches_of command_app words)) (first_of (codes "seed") (matches_of command_app words))
-      (first_of (codes "lines") (matches_of command_app words)) ≡ request_of words
+    (first_of (codes "lines") (matches_of command_app words)) ≡ request_of words
 matched [] plain sound = refl
 matched (a ∷ []) plain sound = ap asked (walk_one a (neither (is_option a) false plain).0)
 matched (a ∷ (b ∷ [])) plain sound =
@@ -218,5 +218,5 @@ by_matches found words plain sound rows =
     ap (λ (w : Option Text). request_found w (first_value found (codes "seed")) (first_value found (codes "lines"))) (value_is (codes "word"))
     ∙ ap (λ (s : Option Text). request_found (first_of (codes "word") (matches_of command_app words)) s (first_value found (codes "lines"))) (value_is (codes "seed"))
     ∙ ap (λ (n : Option Text). request_found (first_of (codes "word") (matches_of command_app words)) (first_of (codes "seed") (matches_of command_app words)) n)
-      (value_is (codes "lines"))
+    (value_is (codes "lines"))
     ∙ matched words plain sound
