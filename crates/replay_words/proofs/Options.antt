@@ -27,8 +27,8 @@ one_of false q A some left right = right some
 
 -- a word that begins so
 hyphen : (P : List ℕ → Type 0) (word : List ℕ) → is_option word ≡ true → ((rest : List ℕ) → P (45 ∷ rest)) → P word
-hyphen P [] is then = absurd (cc)
-hyphen P (byte ∷ rest) is then = subst (λ (b : ℕ). P (b ∷ rest)) (sym (eqb-true byte 45 is)) (then rest)
+hyphen P [] is behind = absurd (cc)
+hyphen P (byte ∷ rest) is behind = subst (λ (b : ℕ). P (b ∷ rest)) (sym (eqb-true byte 45 is)) (behind rest)
 
 -- it is no number
 no_number : (rest : List ℕ) → number (45 ∷ rest) ≡ None

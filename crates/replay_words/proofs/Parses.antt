@@ -1,15 +1,18 @@
 -- What clap makes of words none of which begins with `-`: one to three of them fill the command line's places, and a fourth has none.
 use Rattle.std.proofs.Common.{◌≡◌, ℕ, ◌==◌, ◌&&◌, ◌||◌, Bool, true, false, List, [], ◌∷◌, Option, Some, None, refl, ap, ap₂, ◌∙◌, codes}
-use Rattle.std.specs.Prelude.{is_some}
+use Rattle.std.specs.Prelude.{is_some, option_and_then, if◌then◌else◌}
+use Rattle.std.specs.Option.{option_map_or}
+use Rattle.std.specs.Str.{bytes_eq}
+use Rattle.clap.specs.Lexer.{strip_byte, long_of, long_of_rest, short_of, short_of_rest}
 use Rattle.std.specs.List.{list_any, list_all}
 use Rattle.clap.specs.Matches.{first_value}
 use Rattle.clap.specs.declared.parser.matches.Found.{Found}
 use Rattle.clap.proofs.WalkLemmas.{first_value-rows}
-use Rattle.clap.specs.Walk.{Held, Names, Row, rows_of, Rule, Step, Text, Walk, idle, value, walk, walk_from, walked, word_met, after_step, to_positional, arg_by_index, nothing_held, settled, finished, first_of}
+use Rattle.clap.specs.Walk.{Held, Names, Row, rows_of, Rule, Step, Text, Walk, idle, value, trailing, long_or_other, short_or_plain, walk, walk_from, walked, word_met, after_step, to_positional, arg_by_index, nothing_held, settled, finished, first_of}
 use Rattle.clap.specs.Simple.{App, Shape, built, matches_of, is_simple, entered}
-use Rattle.clap.specs.Takes.{takes, walk_passes, turn_passes, word_passes, step_passes, settle_passes, default_passes, is_valid, entered_passes}
+use Rattle.clap.specs.Takes.{takes, walk_passes, turn_passes, word_passes, step_passes, settle_passes, default_passes, is_valid, entered_passes, flag_word_passes, bundle_passes}
 use Rattle.clap.specs.Kinds.{Kinds, or_else}
-use Rattle.clap.specs.Faults.{fault_of, walk_fault, turn_fault, word_fault, step_fault, entered_fault, settle_fault, defaults_fault, check_fault, is_simple_and_free}
+use Rattle.clap.specs.Faults.{fault_of, flag_word_fault, bundle_fault, walk_fault, turn_fault, word_fault, step_fault, entered_fault, settle_fault, defaults_fault, check_fault, is_simple_and_free}
 use Rattle.clap.specs.declared.error.kind.ErrorKind.TheVariants.{UnknownArgument}
 use Rattle.replay_words.specs.declared.requests.Request.{Request}
 use Rattle.replay_words.specs.CommandLines.{command_app}
@@ -39,10 +42,28 @@ at held position = record { held = held; waiting = idle; position = position; is
 
 -- one plain word
 
+-- it has no hyphen to take off
+strip_none : (word : Text) → IsPlain word → strip_byte 45 word ≡ None
+strip_none [] plain = refl
+strip_none (byte ∷ rest) plain = ap (λ (b : Bool). if b then Some rest else None) plain
+
+-- so it is no flag, long or short, and no `--`
+long_none : (word : Text) → IsPlain word → long_of word ≡ None
+long_none word plain = ap (λ (o : Option Text). option_and_then long_of_rest (option_and_then (strip_byte 45) o)) (strip_none word plain)
+
+short_none : (word : Text) → IsPlain word → short_of word ≡ None
+short_none word plain = ap (option_and_then short_of_rest) (strip_none word plain)
+
+no_dashes : (word : Text) → IsPlain word → bytes_eq word (45 ∷ 45 ∷ []) ≡ false
+no_dashes [] plain = refl
+no_dashes (byte ∷ rest) plain = ap (λ (b : Bool). b && bytes_eq rest (45 ∷ [])) plain
+
 -- it goes to a positional
 meets : (c : List Rule) (position : ℕ) (word : Text) (held : Held) → IsPlain word → word_met c [] false idle position word held ≡ (held, value)
-meets c position [] held plain = refl
-meets c position (byte ∷ rest) held plain = let other : (byte == 45) ≡ false = plain in rw other refl
+meets c position word held plain =
+    ap (λ (b : Bool). if b then (held, trailing position) else long_or_other c idle word (long_of word) held) (no_dashes word plain)
+    ∙ ap (λ (l : Option (Text × Option Text)). long_or_other c idle word l held) (long_none word plain)
+    ∙ ap (λ (s : Option Text). short_or_plain c idle word s held) (short_none word plain)
 
 goes : (c : List Rule) (held : Held) (position : ℕ) (word : Text) → IsPlain word
     → walked c [] (at held position) word ≡ to_positional c (arg_by_index c position) word (at held position) held
@@ -52,12 +73,18 @@ goes c held position word plain =
 
 -- and does nothing else
 passes : (s : Shape) (word : Text) (held : Held) → IsPlain word → word_passes s [] false idle word held ≡ true
-passes s [] held plain = refl
-passes s (byte ∷ rest) held plain = let other : (byte == 45) ≡ false = plain in rw other refl
+passes s word held plain =
+    let again : Bool = s.args_override_self in
+    ap (λ (b : Bool). b || flag_word_passes s.rules again (long_of word) word held) (no_dashes word plain)
+    ∙ ap (λ (l : Option (Text × Option Text)). flag_word_passes s.rules again l word held) (long_none word plain)
+    ∙ ap (λ (f : Option Text). option_map_or (λ flags. bundle_passes s.rules again flags held) f true) (short_none word plain)
 
 no_fault : (s : Shape) (word : Text) (held : Held) → IsPlain word → word_fault s [] false idle word held ≡ []
-no_fault s [] held plain = refl
-no_fault s (byte ∷ rest) held plain = let other : (byte == 45) ≡ false = plain in rw other refl
+no_fault s word held plain =
+    let again : Bool = s.args_override_self in
+    ap (λ (b : Bool). if b then [] else flag_word_fault s.rules again (long_of word) word held) (no_dashes word plain)
+    ∙ ap (λ (l : Option (Text × Option Text)). flag_word_fault s.rules again l word held) (long_none word plain)
+    ∙ ap (λ (f : Option Text). option_map_or (λ flags. bundle_fault s.rules again flags held) f []) (short_none word plain)
 
 -- so a walk passes it if its positional does
 turn_is : (s : Shape) (held : Held) (position : ℕ) (word : Text) → IsPlain word

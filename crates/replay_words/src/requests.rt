@@ -1,14 +1,15 @@
 //! What words ask for. Clap reads them; what it is not to read, help and words that begin with `-`, is no request.
 
-ghost use Rattle.std.specs.Prelude.{◌≡◌, IfOk, None, map, string_bytes, option_map};
+ghost use Rattle.std.specs.Prelude.{◌≡◌, ◌≢◌, false, IfOk, None, map, string_bytes, option_map};
 ghost use Rattle.std.specs.List.{list_any};
 ghost use Rattle.clap.specs.Matches.{found_of, first_value};
 ghost use Rattle.clap.specs.Simple.{app_of};
+ghost use Rattle.clap.specs.Values.{kind_of};
 ghost use Rattle.replay_words.specs.CommandLines.{named_app, command_app};
 ghost use Rattle.replay_words.specs.Requests.{is_option, one_word, three_words, made_by, request_of, request_found, request_matched};
 
 use clap::error::ErrorKind;
-use clap::{Arg, ArgMatches, Command};
+use clap::{Arg, ArgMatches, Command, Error};
 use fab_base::NoMem;
 use lines::parse_number;
 use std::alloc::{AllocError, Global};
@@ -137,6 +138,16 @@ fn request_matched(matches: &ArgMatches) -> Option<Request>
     request_found(word, seed, lines)
 }
 
+/// Whether words were not read for want of memory.
+fn is_memory(error: &Error) -> bool
+    ensures { result ≡ false → kind_of error.now ≢ ErrorKind.OutOfMemory }
+{
+    match error.kind() {
+        ErrorKind::OutOfMemory => true,
+        _ => false,
+    }
+}
+
 /// What these words ask for, the program's own name left out. None where they are none of the forms.
 ///
 /// # Errors
@@ -152,7 +163,7 @@ pub fn request_of(alloc: Global, words: &[String]) -> Result<Option<Request>, No
     match line.try_get_matches_from(words) {
         Ok(matches) => Ok(request_matched(&matches)),
         Err(error) => {
-            if error.kind() == ErrorKind::OutOfMemory {
+            if is_memory(&error) {
                 return Err(NoMem::NoMemory);
             }
             Ok(None)

@@ -23,9 +23,9 @@ returns-in-Ok c =
     (sym (ap (λ (a : App). fault_of a words) app_is) ∙ c.in-Ok.ensures.kinds (ap is_simple_and_free app_is ∙ is_free_line))
     ((c.in-Ok.ensures.matches (ap is_simple app_is ∙ is_plain_line)).0 ∙ ap (λ (a : App). matches_of a words) app_is)
 
-pub returns-in-Err : goal.returns-in-Err
-returns-in-Err c =
+pub returns-else-is_memory : goal.returns-else-is_memory
+returns-else-is_memory c =
     let words : List (List ℕ) = map string_bytes c.args.words.now in
     let app_is : app_of c.in_ok-line.line ≡ command_app = c.in_ok-line.ensures in
     sym (refused words (sym (any-map string_bytes c.args.words.now) ∙ sym c.has_option.ensures ∙ c.if-has_option.false)
-    (λ taken. ?))
+    (λ taken. c.is_memory.ensures c.if-is_memory.false (c.in-Err.ensures.passes (ap (λ (a : App). takes a words) app_is ∙ taken))))
