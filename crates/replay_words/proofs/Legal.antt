@@ -1,5 +1,5 @@
 -- What words ask for is legal.
-use Rattle.std.proofs.Common.{◌≡◌, ℕ, ◌≤◌, Bool, true, false, nat_le, List, [], ◌∷◌, Option, Some, None, refl, ◌∙◌, subst, arith, codes}
+use Rattle.std.proofs.Common.{◌≡◌, ℕ, Bool, true, false, nat_le, List, [], ◌∷◌, Option, Some, None, refl, ◌∙◌, subst, arith, codes}
 use Rattle.std.specs.Prelude.{if◌then◌else◌}
 use Rattle.std.specs.Option.{ForSome}
 use Rattle.std.specs.Str.{bytes_eq}
@@ -8,7 +8,7 @@ use Rattle.lines.specs.Grammar.{◌>>=◌}
 use Rattle.lines.specs.Tokens.{number}
 use Rattle.replay_words.specs.declared.requests.Request.{Request}
 use Rattle.replay_words.specs.declared.requests.Request.TheVariants.{Run, Audit, Make}
-use Rattle.replay_words.specs.Requests.{IsLegal, one_word, made_by, three_words, request_of}
+use Rattle.replay_words.specs.Requests.{IsLegal, made_by, request_of}
 
 -- the same request
 same : (one other : Request) → IsLegal one → Some one ≡ Some other → IsLegal other

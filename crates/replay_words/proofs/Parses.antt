@@ -1,5 +1,5 @@
 -- What clap makes of words none of which begins with `-`: one to three of them fill the command line's places, and a fourth has none.
-use Rattle.std.proofs.Common.{◌≡◌, ℕ, ◌==◌, ◌&&◌, ◌||◌, Bool, true, false, List, [], ◌∷◌, Option, Some, None, refl, ap, ap₂, ◌∙◌, codes}
+use Rattle.std.proofs.Common.{◌≡◌, ℕ, ◌&&◌, ◌||◌, Bool, true, false, List, [], ◌∷◌, Option, Some, None, refl, ap, ap₂, ◌∙◌, codes}
 use Rattle.std.specs.Prelude.{is_some, option_and_then, if◌then◌else◌}
 use Rattle.std.specs.Option.{option_map_or}
 use Rattle.std.specs.Str.{bytes_eq}
@@ -8,7 +8,7 @@ use Rattle.std.specs.List.{list_any, list_all}
 use Rattle.clap.specs.Matches.{first_value}
 use Rattle.clap.specs.declared.parser.matches.Found.{Found}
 use Rattle.clap.proofs.WalkLemmas.{first_value-rows}
-use Rattle.clap.specs.Walk.{Held, Names, Row, rows_of, Rule, Step, Text, Walk, idle, value, trailing, long_or_other, short_or_plain, walk, walk_from, walked, word_met, after_step, to_positional, arg_by_index, nothing_held, settled, finished, first_of}
+use Rattle.clap.specs.Walk.{Held, rows_of, Rule, Step, Text, Walk, idle, value, trailing, long_or_other, short_or_plain, walk, walked, word_met, after_step, to_positional, arg_by_index, nothing_held, settled, finished, first_of}
 use Rattle.clap.specs.Simple.{App, Shape, built, matches_of, is_simple, entered}
 use Rattle.clap.specs.Takes.{takes, walk_passes, turn_passes, word_passes, step_passes, settle_passes, default_passes, is_valid, entered_passes, flag_word_passes, bundle_passes}
 use Rattle.clap.specs.Kinds.{Kinds, or_else}
