@@ -4,7 +4,7 @@
     bench/pages.py [FILE..]
 
 Without FILE: README.md, docs/*.md and bench/gate/README.md. It prints, and counts:
-- each sentence of more than 40 words. Tables, code blocks and headings are left out; a piece of code within a sentence is one word;
+- each sentence of more than 40 words. Tables, code blocks, headings and quotations are left out; a piece of code within a sentence is one word;
 - each word of the list below, which the pages don't use, with what they say in its place;
 - each link to a file of this repository, and each file in code with its folder, that is not there. Such a file may be given from the top, from `crates/`, or from
   the folder of any crate.
@@ -36,7 +36,7 @@ def blocks(text):
             line = ""
         bare = re.sub(r"^\s*(>\s?)*", "", line)
         is_code = fenced or (not block and line.startswith("    "))
-        is_skipped = is_code or bare.startswith(("|", "#", "<", "!["))
+        is_skipped = is_code or line.lstrip().startswith(">") or bare.startswith(("|", "#", "<", "!["))
         is_item = re.match(r"([-*]|\d+\.)\s", bare)
         if block and (not bare or is_skipped or is_item):
             yield begun, " ".join(block)

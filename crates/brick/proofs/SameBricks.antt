@@ -18,12 +18,22 @@ use Rattle.hosting.specs.Hosted.{Hosted, IsTurn, TakeTurns, StopTurns}
 use Rattle.hosting.specs.Hosting.{Hosts, HostsUntil, rounds_of}
 use Rattle.hosting.specs.Rounds as client
 use Rattle.hosting.specs.Rounds.{Heard, Took, AreStopped}
-use Rattle.brick.specs.Locals.{AreSame, AreRunning, RoseIn, Takes, Stops}
+use Rattle.fab_disk.specs.declared.disk.Disk as on_disk
+use Rattle.fab_io.specs.declared.clocks.Clock as on_clock
+use Rattle.fab_io.specs.declared.links.Link as on_link
+use Rattle.brick.specs.declared.endings.Ending.{Ending}
+use Rattle.brick.specs.Locals.{AreSame, AreRunning, KeepsHosted, RoseIn, Takes, Stops}
 use Rattle.brick.specs.Views.{Views}
 
 pub same_refl : {D L : Type 0} (bricks : List (Hosted D L)) → AreSame bricks bricks
 same_refl [] = tt
 same_refl (brick ∷ more) = (record { layout = refl; me = refl }, same_refl more)
+
+-- nothing was done with them
+pub keeps_none : {D L C : Type 0} (d : on_disk.Ghosts D) (l : on_link.Ghosts L) (c : on_clock.Ghosts C) (bricks : TimedBricks D L C) (link : L) (ending : Ending)
+    → KeepsHosted d l c bricks bricks link link ending
+keeps_none d l c bricks link ending =
+    record { same = same_refl bricks.bricks.bricks; runs_still = λ run not. run; bricks = λ sound. sound; link = λ sound. sound }
 
 same_equal : {D L : Type 0} (bricks after : List (Hosted D L)) → after ≡ bricks → AreSame bricks after
 same_equal {D} {L} bricks after is = subst (λ (b : List (Hosted D L)). AreSame bricks b) (sym is) (same_refl bricks)

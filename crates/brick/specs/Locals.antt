@@ -1,10 +1,13 @@
 -- What `brick local` and `brick nbd` do to their host, once the layout was found, and how they end.
-use Rattle.std.specs.Prelude.{◌≡◌, ◌⊎◌, ℕ, zero, suc, ◌+◌, ◌-◌, ◌<◌, ◌≤◌, false, List, [], ◌∷◌, ◌++◌, codes, ⊤, Option}
+use Rattle.std.specs.Prelude.{◌≡◌, ◌≢◌, ◌⊎◌, ℕ, zero, suc, ◌+◌, ◌-◌, ◌<◌, ◌≤◌, false, List, [], ◌∷◌, ◌++◌, codes, ⊤, Option}
 use Rattle.std.specs.Fmt.{decimal}
 use Rattle.std.specs.List.{AllByRecursion}
 use Rattle.fab_base.specs.declared.identities.BrickId.{BrickId}
 use Rattle.fab_base.specs.Layouts.{Layout}
+use Rattle.fab_disk.specs.declared.disk.Disk as on_disk
 use Rattle.fab_io.specs.Ends.{Rose}
+use Rattle.fab_io.specs.declared.clocks.Clock as on_clock
+use Rattle.fab_io.specs.declared.links.Link as on_link
 use Rattle.fab_host.specs.declared.hosts.Asked.TheVariants as calls
 use Rattle.fab_host.specs.Held.{here, IsMissing}
 use Rattle.fab_host.specs.Holdings.{Holdings, with_source, with_disk, with_link, with_session, with_clock}
@@ -13,7 +16,7 @@ use Rattle.serving.specs.Ports.{ports_of, port_of}
 use Rattle.hosting.specs.declared.faults.HostFault.{HostFault}
 use Rattle.hosting.specs.declared.faults.HostFault.TheVariants as faults
 use Rattle.hosting.specs.declared.hosted_bricks.TimedBricks.{TimedBricks}
-use Rattle.hosting.specs.Hosted.{Hosted, Begins, TakeTurns, StopTurns}
+use Rattle.hosting.specs.Hosted.{Hosted, Begins, AreSound, TakeTurns, StopTurns}
 use Rattle.hosting.specs.Faults.{fault_of}
 use Rattle.hosting.specs.Hosting.{Hosts, HostsUntil}
 use Rattle.hosting.specs.Rounds as client
@@ -157,6 +160,15 @@ abbrev pub AreSame : {D L : Type 0} → List (Hosted D L) → List (Hosted D L) 
 AreSame [] [] = Unit {0}
 AreSame (brick ∷ more) (after ∷ more_after) = IsSameBrick brick.node after.node × AreSame more more_after
 AreSame bricks bricks_after = ⊥
+
+-- What was done with the bricks and the client's link leaves the same bricks, in order. If none was halted none is, unless the disk failed; and where they, their
+-- clock and the link were sound they are.
+pub record KeepsHosted {D L C : Type 0} (d : on_disk.Ghosts D) (l : on_link.Ghosts L) (c : on_clock.Ghosts C) (before after : TimedBricks D L C)
+    (over over_after : L) (ending : Ending) : Type 0 where
+  pub same : AreSame before.bricks.bricks after.bricks.bricks
+  pub runs_still : AreRunning before.bricks.bricks → ending ≢ Disk → AreRunning after.bricks.bricks
+  pub bricks : AreSound d l c before.bricks.bricks before.clock → AreSound d l c after.bricks.bricks after.clock
+  pub link : l.sound over → l.sound over_after
 
 -- what is done with the bricks that were started so far, and with the host
 abbrev pub Deed : Type 0 → Type 0 → Type 0 → Type 0 → Type 0 → Type 1

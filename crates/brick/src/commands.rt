@@ -6,7 +6,7 @@ ghost use Rattle.fab_io.specs.Ends.{Kept};
 ghost use Rattle.hosting.specs.Hosted.{IsSound, AreSound};
 ghost use Rattle.brick.specs.Endings.{status_of, IsDone};
 ghost use Rattle.brick.specs.Hosts.{host_seen, Told, Has, KnowsStill};
-ghost use Rattle.brick.specs.Locals.{ending_by, AreSame, AreRunning, FailsOut, RunsCommands, RunsSession, HostsBySource, HostsBySession, DoesTask, HostsByClock, HasCommands, HasSession, HasTask, HasEnds};
+ghost use Rattle.brick.specs.Locals.{ending_by, AreSame, AreRunning, KeepsHosted, FailsOut, RunsCommands, RunsSession, HostsBySource, HostsBySession, DoesTask, HostsByClock, HasCommands, HasSession, HasTask, HasEnds};
 ghost use Rattle.brick.specs.Views.{views, session_of, session_view, streams};
 
 use crate::endings::Ending;
@@ -79,13 +79,9 @@ fn run_task<H: Host, K: Sink>(
     ensures hosts { DoesTask (streams H.Source.Source H.Input.Source H.Output.Sink) (views H.Disk.Disk H.Link.Link H.Clock.Clock) layout.now task
         (host_seen (H.faults host.old) (H.asked host.old) (H.holds host.old)) (host_seen (H.faults host.new) (H.asked host.new) (H.holds host.new))
         bricks result.0 link result.1 (K.told out.old) (K.told out.new) result.2 }
-    ensures same { AreSame bricks.bricks.bricks result.0.bricks.bricks }
-    ensures runs_still { AreRunning bricks.bricks.bricks → result.2 ≢ Ending.Disk → AreRunning result.0.bricks.bricks }
+    ensures keeps { KeepsHosted H.Disk.Disk H.Link.Link H.Clock.Clock bricks result.0 link result.1 result.2 }
     ensures knows { Told (H.holds host.old) (H.holds host.new) KnowsStill }
     ensures stays { H.sound host.old → H.sound host.new }
-    ensures bricks { AreSound H.Disk.Disk H.Link.Link H.Clock.Clock bricks.bricks.bricks bricks.clock
-        → AreSound H.Disk.Disk H.Link.Link H.Clock.Clock result.0.bricks.bricks result.0.clock }
-    ensures link { H.Link.sound link → H.Link.sound result.1 }
     ensures sink { Kept (K.faults out.old) (K.faults out.new) (K.sound out.old) (K.sound out.new) (FailsOut task result.2) }
     ensures done { H.sound host.old → AreSound H.Disk.Disk H.Link.Link H.Clock.Clock bricks.bricks.bricks bricks.clock → H.Link.sound link
         → K.sound out.old → Has (H.holds host.old) (HasTask task) → IsDone result.2 }
@@ -111,13 +107,9 @@ fn run_by_source<H: Host, K: Sink>(
     ensures hosts { HostsBySource (streams H.Source.Source H.Input.Source H.Output.Sink) (views H.Disk.Disk H.Link.Link H.Clock.Clock) layout.now turns
         (host_seen (H.faults host.old) (H.asked host.old) (H.holds host.old)) (host_seen (H.faults host.new) (H.asked host.new) (H.holds host.new))
         bricks result.0 link result.1 (K.told out.old) (K.told out.new) result.2 }
-    ensures same { AreSame bricks.bricks.bricks result.0.bricks.bricks }
-    ensures runs_still { AreRunning bricks.bricks.bricks → result.2 ≢ Ending.Disk → AreRunning result.0.bricks.bricks }
+    ensures keeps { KeepsHosted H.Disk.Disk H.Link.Link H.Clock.Clock bricks result.0 link result.1 result.2 }
     ensures knows { Told (H.holds host.old) (H.holds host.new) KnowsStill }
     ensures stays { H.sound host.old → H.sound host.new }
-    ensures bricks { AreSound H.Disk.Disk H.Link.Link H.Clock.Clock bricks.bricks.bricks bricks.clock
-        → AreSound H.Disk.Disk H.Link.Link H.Clock.Clock result.0.bricks.bricks result.0.clock }
-    ensures link { H.Link.sound link → H.Link.sound result.1 }
     ensures sink { Kept (K.faults out.old) (K.faults out.new) (K.sound out.old) (K.sound out.new) (status_of result.2 ≡ 6) }
     ensures done { H.sound host.old → AreSound H.Disk.Disk H.Link.Link H.Clock.Clock bricks.bricks.bricks bricks.clock → H.Link.sound link
         → K.sound out.old → Has (H.holds host.old) HasCommands → IsDone result.2 }
@@ -144,13 +136,9 @@ fn run_by_session<H: Host>(
     ensures hosts { HostsBySession (session_view H.Input.Source H.Output.Sink) (views H.Disk.Disk H.Link.Link H.Clock.Clock) layout.now port turns
         (host_seen (H.faults host.old) (H.asked host.old) (H.holds host.old)) (host_seen (H.faults host.new) (H.asked host.new) (H.holds host.new))
         bricks result.0 link result.1 result.2 }
-    ensures same { AreSame bricks.bricks.bricks result.0.bricks.bricks }
-    ensures runs_still { AreRunning bricks.bricks.bricks → result.2 ≢ Ending.Disk → AreRunning result.0.bricks.bricks }
+    ensures keeps { KeepsHosted H.Disk.Disk H.Link.Link H.Clock.Clock bricks result.0 link result.1 result.2 }
     ensures knows { Told (H.holds host.old) (H.holds host.new) KnowsStill }
     ensures stays { H.sound host.old → H.sound host.new }
-    ensures bricks { AreSound H.Disk.Disk H.Link.Link H.Clock.Clock bricks.bricks.bricks bricks.clock
-        → AreSound H.Disk.Disk H.Link.Link H.Clock.Clock result.0.bricks.bricks result.0.clock }
-    ensures link { H.Link.sound link → H.Link.sound result.1 }
     ensures done { H.sound host.old → AreSound H.Disk.Disk H.Link.Link H.Clock.Clock bricks.bricks.bricks bricks.clock → H.Link.sound link
         → Has (H.holds host.old) (HasSession port) → IsDone result.2 }
 {
@@ -179,10 +167,7 @@ fn run<D: Disk, L: Link, C: Clock, S: Source, K: Sink>(
 ) -> (TimedBricks<D, L, C>, L, Ending)
     ensures runs { RunsCommands S.told S.faults (views D.Disk L.Link C.Clock) layout.now turns bricks result.0 link result.1
         source.old source.new (K.told out.old) (K.told out.new) result.2 }
-    ensures same { AreSame bricks.bricks.bricks result.0.bricks.bricks }
-    ensures runs_still { AreRunning bricks.bricks.bricks → result.2 ≢ Ending.Disk → AreRunning result.0.bricks.bricks }
-    ensures bricks { AreSound D.Disk L.Link C.Clock bricks.bricks.bricks bricks.clock → AreSound D.Disk L.Link C.Clock result.0.bricks.bricks result.0.clock }
-    ensures link { L.sound link → L.sound result.1 }
+    ensures keeps { KeepsHosted D.Disk L.Link C.Clock bricks result.0 link result.1 result.2 }
     ensures source { S.sound source.old → S.sound source.new }
     ensures sink { Kept (K.faults out.old) (K.faults out.new) (K.sound out.old) (K.sound out.new) (status_of result.2 ≡ 6) }
     ensures done { AreSound D.Disk L.Link C.Clock bricks.bricks.bricks bricks.clock → L.sound link → S.sound source.old → K.sound out.old
@@ -207,10 +192,7 @@ fn serve<D: Disk, L: Link, C: Clock, I: Source, O: Sink>(
 ) -> (TimedBricks<D, L, C>, L, Ending)
     ensures runs { RunsSession (session_view I.Source O.Sink) (views D.Disk L.Link C.Clock) layout.now turns bricks result.0 link result.1
         (session_of source.old sink.old) (session_of source.new sink.new) result.2 }
-    ensures same { AreSame bricks.bricks.bricks result.0.bricks.bricks }
-    ensures runs_still { AreRunning bricks.bricks.bricks → result.2 ≢ Ending.Disk → AreRunning result.0.bricks.bricks }
-    ensures bricks { AreSound D.Disk L.Link C.Clock bricks.bricks.bricks bricks.clock → AreSound D.Disk L.Link C.Clock result.0.bricks.bricks result.0.clock }
-    ensures link { L.sound link → L.sound result.1 }
+    ensures keeps { KeepsHosted D.Disk L.Link C.Clock bricks result.0 link result.1 result.2 }
     ensures source { I.sound source.old → I.sound source.new }
     ensures sink { O.sound sink.old → O.sound sink.new }
     ensures done { AreSound D.Disk L.Link C.Clock bricks.bricks.bricks bricks.clock → L.sound link → I.sound source.old → O.sound sink.old

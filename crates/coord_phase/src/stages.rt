@@ -117,7 +117,8 @@ impl Operation {
         Next::Recover(turn)
     }
 
-    /// Begins a stage in the operation's view, and gives its messages. Where memory runs out nothing has changed.
+    /// Begins a stage of the operation, and gives its messages: to the members of its view, or of the view before where it looks back. Where memory runs out
+    /// nothing has changed.
     pub fn begin(&mut self, alloc: Global, stage: Stage) -> Result<Messages, NoMem>
         requires content { StoresBlocks self.old.block self.old.state.group.m self.old.state.ask.op self.old.state.content stage.phase }
         requires view { stage.stamp.view ≡ self.old.state.stamp.view }

@@ -23,7 +23,11 @@ use lines::content_of;
 use std::alloc::Global;
 
 /// Writes a text.
-fn write<K: Sink>(sink: &mut K, text: &[u8]) -> Result<(), HostFault>
+///
+/// # Errors
+///
+/// `Sink` only where the sink's count of faults rose. `NoMemory` where no memory was left.
+pub fn write<K: Sink>(sink: &mut K, text: &[u8]) -> Result<(), HostFault>
     ensures content { WriteTakes (K.told sink.old) (K.told sink.new) result text.now }
     ensures only { IfErr result AtSink }
     ensures kept { Kept (K.faults sink.old) (K.faults sink.new) (K.sound sink.old) (K.sound sink.new) (result ≡ Err HostFault.Sink) }

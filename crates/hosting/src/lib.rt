@@ -16,6 +16,6 @@ pub use clients::ClientEnd;
 pub use commands::{Access, Command, Line, parse};
 pub use faults::HostFault;
 pub use hosted_bricks::{HostedBricks, TimedBricks};
-pub use hosts::host;
+pub use hosts::{host, write};
 pub use rooms::Room;
 pub use rounds::{Bricks, HostedClient};

@@ -2,8 +2,8 @@
 
 ghost use Rattle.std.specs.Prelude.{◌≡◌, ◌⊎◌, ◌+◌, ◌<◌, ◌≤◌, ◌^◌, List, length, IsOk, IfOk, IfErr, OnOk, OnErr};
 ghost use Rattle.std.specs.Io.KnownBytes.{Consumes, Keeps, IsAtEnd};
-ghost use Rattle.fab_io.specs.Ends.{Kept, WriteTakes};
-ghost use Rattle.hosting.specs.Faults.{AtCommand, AtSink, AtSource};
+ghost use Rattle.fab_io.specs.Ends.{Kept};
+ghost use Rattle.hosting.specs.Faults.{AtCommand, AtSource};
 ghost use Rattle.hosting.specs.Rounds.{Heard, KeepsBricks, RunsRange, StopsRange, Took, told};
 ghost use Rattle.nbd_front.specs.Lives.{owed};
 ghost use Rattle.nbd_front.specs.Sessions.{Asks, ReadsNoFurther, Waits, asked_of, move_of, shown};
@@ -13,7 +13,7 @@ ghost use Rattle.nbd_hosting.specs.Steps.{ReadsClient, RunsAsked, ServesOn};
 use fab_base::NoMem;
 use fab_io::{IoFault, Link, Sink, Source};
 use front::{Range, RangeAnswer};
-use hosting::{Bricks, ClientEnd, HostFault, HostedClient, Room};
+use hosting::{Bricks, ClientEnd, HostFault, HostedClient, Room, write};
 use layout::Layout;
 use nbd_front::{Command, End, Session, Step};
 use std::alloc::Global;
@@ -39,19 +39,6 @@ fn read_piece<'r, S: Source>(
     match source.read(front) {
         Ok(count) => Ok(&front[..count]),
         Err(IoFault::Failed) => Err(HostFault::Source),
-        Err(IoFault::NoMemory) => Err(HostFault::NoMemory),
-    }
-}
-
-/// Sends bytes to the client.
-fn send<K: Sink>(sink: &mut K, bytes: &[u8]) -> Result<(), HostFault>
-    ensures content { WriteTakes (K.told sink.old) (K.told sink.new) result bytes.now }
-    ensures only { IfErr result AtSink }
-    ensures kept { Kept (K.faults sink.old) (K.faults sink.new) (K.sound sink.old) (K.sound sink.new) (result ≡ Err HostFault.Sink) }
-{
-    match sink.write(bytes) {
-        Ok(()) => Ok(()),
-        Err(IoFault::Failed) => Err(HostFault::Sink),
         Err(IoFault::NoMemory) => Err(HostFault::NoMemory),
     }
 }
@@ -183,7 +170,7 @@ fn take_step<B: Bricks, L: Link, S: Source, K: Sink>(
     match session.next()? {
         Step::Need => read_part(session, &mut client.turns, source, room),
         Step::Send(bytes) => {
-            send(sink, bytes.as_slice())?;
+            write(sink, bytes.as_slice())?;
             Ok(None)
         }
         Step::Ask => answer_command(alloc, layout, client, session),

@@ -18,7 +18,7 @@ use Rattle.protocol.specs.Jobs.{Job}
 use Rattle.protocol.specs.declared.tellings.ViewAnswer.TheVariants as answer
 use Rattle.protocol.specs.Proposals.{Proposal, Voting, Ignored, Waited, Asks, Ended, ballot_packets, voted}
 use Rattle.protocol.specs.declared.tellings.Report.{Report}
-use Rattle.protocol.specs.Nodes.{Node, NodeStep, put, ballot_resent, began_in, calls_but_read, carried_ballot, carried_for, carried_out, coordinator_in, fresh_stamp, job_call, job_reading, known_after, new_proposal, proposed_in, proposing, replied_at, replied_ballot, reporting, resent, resent_up_to, sending, ticked, with_call, with_known}
+use Rattle.protocol.specs.Nodes.{Node, NodeStep, put, ballot_resent, began_in, calls_but_read, carried_ballot, carried_for, carried_out, coordinator_in, fresh_stamp, job_call, job_reading, known_after, new_proposal, proposed_in, proposing, refusal_of, replied_at, replied_ballot, reporting, resent, resent_up_to, sending, ticked, with_call, with_known}
 use Rattle.stripe_code.specs.Codes.{coding}
 use Rattle.node.specs.Jobs.{Reading, calls_with, with_reading}
 
@@ -80,6 +80,11 @@ beside r step = record step { node = with_reading r step.node }
 pub none_reads : (r : Option Reading) (seq : ℕ) → ApartFrom r seq → job_reading (option_map (λ (x : Reading). x.job) r) seq ≡ None
 none_reads None seq apart = refl
 none_reads (Some r) seq apart = ap (λ (b : Bool). if b then Some r.job else None) apart
+
+-- why an operation does not begin
+pub refusal_beside : (layout : Layout) (r : Option Reading) (node : Node) (ask : Ask) → refusal_of layout (with_reading r node) ask ≡ refusal_of layout node ask
+unfolding refusal_of
+refusal_beside layout r node ask = refl
 
 module _ (layout : Layout) (me : BrickId) (r : Option Reading) where
   -- the brick with an operation changed

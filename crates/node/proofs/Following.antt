@@ -17,7 +17,8 @@ use Rattle.messages.specs.declared.packets.Message.{Message}
 use Rattle.messages.specs.declared.packets.Packet.{Packet}
 use Rattle.protocol.specs.declared.tellings.SyncAnswer.{SyncAnswer}
 use Rattle.protocol.specs.declared.tellings.SyncAnswer.TheVariants.{Synced, Stopped, Spent}
-use Rattle.protocol.specs.Coordinators.{Coordinator, Looks}
+use Rattle.protocol.specs.Coordinators.{Coordinator}
+use Rattle.protocol.specs.declared.phases.Phase.TheVariants.{Looks}
 use Rattle.protocol.specs.Views.{group_kept}
 use Rattle.protocol.specs.Jobs.{Attempt, Job, JobNext, Reads, Finishes, GivesUp, job_after, job_ask, most_tries, spent_answer, stopped_answer}
 use Rattle.protocol.specs.declared.tellings.Report.{Report}
@@ -258,3 +259,9 @@ followed_after me group node known busy seq v job f free = by f
 -- messages of two lists are those of the first, and then those of the second
 pub sent_both : (me : BrickId) (first last all : List (BrickId × Message)) → all ≡ first ++ last → packets_from me all ≡ packets_from me first ++ packets_from me last
 sent_both me first last all is = ap (packets_from me) is ∙ map-append (λ (m : BrickId × Message). record { from = me; to = m.0; message = m.1 }) first last
+
+-- by whichever cause a read was aborted, the next one follows so
+pub follows_by_cause : (layout : Layout) (seq : ℕ) (group : GroupId) (cause : Cause) (f : Followed) → FollowsFrom layout seq group f
+    → FollowsFrom layout seq group (by_cause cause f)
+follows_by_cause layout seq group cause (followed.Reads messages held) follows = follows
+follows_by_cause layout seq group cause (followed.Ends messages answer) follows = tt

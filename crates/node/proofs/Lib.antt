@@ -11,6 +11,7 @@ pub mod Resending
 pub mod Views
 pub mod Moments
 pub mod Moved
+pub mod MayEnd
 pub mod Hearing
 pub mod Steps
 pub mod Stills
@@ -24,8 +25,13 @@ pub mod Beside
 pub mod Following
 pub mod Reading
 pub mod Underway
+pub mod Undertaken
+pub mod ReadReplies
+pub mod TakenUp
+pub mod Turning
 pub mod Counting
 pub mod Ballots
 pub mod CountsHere
 pub mod Proposed
+pub mod Syncing
 pub mod KeptBricks

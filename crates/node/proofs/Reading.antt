@@ -21,14 +21,15 @@ use Rattle.coord_phase.specs.Messages.{packets_from}
 use Rattle.node.specs.declared.call_sources.CallSource.{CallSource}
 use Rattle.node.specs.declared.jobs.Followed.{Followed}
 use Rattle.node.specs.declared.jobs.OpenJob.{OpenJob}
+use Rattle.node.specs.declared.jobs.Prepared.{Prepared}
 use Rattle.node.specs.declared.jobs.ReadTurn.TheVariants as turn
 use Rattle.node.specs.declared.operations.Operation.{Operation}
 use Rattle.node.specs.declared.outs.Tellings.{Tellings}
 use Rattle.node.specs.Decisions.{CarriesOut, KeepsCall, NeverEnds, answers_in, known_by, left_by, left_open, or_waits, packets_in, told_in}
-use Rattle.node.specs.Jobs.{GoesOn, MakesFrom, cause_in, followed_step, job_at, job_of, reading_of, sends_first, then_told, with_reading}
+use Rattle.node.specs.Jobs.{GoesOn, MakesFrom, cause_in, ended_by, followed_step, job_at, job_of, reading_of, sends_first, then_told, with_reading}
 use Rattle.node.specs.Operations.{coordinator_of}
 use Rattle.node.specs.Outcomes.{Outcome, told_list}
-use Rattle.node.specs.Reads.{turn_step}
+use Rattle.node.specs.Reads.{IsPrepared, turn_step}
 use Rattle.node.proofs.Beside.{eq_same, put_same, put_twice}
 use Rattle.node.proofs.Following.{followed_after}
 use Rattle.node.proofs.Replied.{busy_after, does, does_answer, does_node, does_report, does_send, does_tell, waits_is}
@@ -159,3 +160,9 @@ module _ (layout : Layout) (at : CallSource) (before : OpenJob) (node : Node) (m
         told = sym told_is i ++ (followed_step me group node f).told;
       })
       ∙ ap (then_told told) (sym last_is)
+
+-- what was prepared comes after it, by whichever way it ended
+pub ended_goes : (layout : Layout) (job : OpenJob) (at : CallSource) (p : Prepared) (cause : Option Cause) → IsPrepared layout job at p
+    → GoesOn layout job.job job.view at cause (ended_by cause p.answered p.aborted)
+ended_goes layout job at p None is = is.answered
+ended_goes layout job at p (Some cause) is = is.aborted cause

@@ -82,7 +82,7 @@ abbrev pub sends_again : Operation → List (BrickId × Message)
 sends_again op = teaching (coordinator_of op).call.group (view_in (coordinator_of op)) (phase_messages (shown_of op))
 
 -- it is what the machine sends
-again_is : (layout : Layout) (op : Operation) (me : BrickId) → IsOperationOf layout op
+pub again_is : (layout : Layout) (op : Operation) (me : BrickId) → IsOperationOf layout op
     → packets_from me (sends_again op) ≡ resent (coding layout) me (Some (coordinator_of op))
 again_is layout op me block =
     let c = coordinator_of op in

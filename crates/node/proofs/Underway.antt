@@ -1,5 +1,5 @@
 -- All that a brick has under way, beside a synchronisation.
-use Rattle.std.proofs.Common.{◌≡◌, ◌≤◌, ◌<◌, ◌+◌, ℕ, Bool, true, false, cond, if◌then◌else◌, nat_eq, [], Option, Some, None, refl, sym, ◌∙◌, ap, subst, arith}
+use Rattle.std.proofs.Common.{◌≡◌, ◌≤◌, ◌<◌, ◌+◌, ℕ, Bool, true, false, cond, if◌then◌else◌, nat_eq, [], Option, Some, None, is_some, refl, sym, ◌∙◌, ap, subst, arith}
 use Rattle.std.specs.Option.{option_map}
 use Rattle.std.specs.Ordering.{nat_cmp}
 use Rattle.std.specs.BTreeMap.{get, is_at}
@@ -12,7 +12,7 @@ use Rattle.protocol.specs.Coordinators.{Coordinator, Next, Ignores, Waits, Sends
 use Rattle.protocol.specs.Jobs.{Job}
 use Rattle.protocol.specs.Proposals.{Proposal, Voting, Ignored, Waited, Asks, Ended, voted}
 use Rattle.protocol.specs.Replicas.{fresh_replica}
-use Rattle.protocol.specs.Nodes.{Node, NodeStep, put, carried_ballot, carried_for, carried_out, fresh_stamp, job_reading, known_after, replied_at, replied_ballot, with_known}
+use Rattle.protocol.specs.Nodes.{Node, NodeStep, put, carried_ballot, carried_for, carried_out, fresh_stamp, job_reading, known_after, replied_at, replied_ballot, view_in, with_known}
 use Rattle.stripe_code.specs.Codes.{coding}
 use Rattle.node.specs.declared.jobs.OpenJob.{OpenJob}
 use Rattle.node.specs.declared.open_calls.OpenCalls.{OpenCalls}
@@ -59,6 +59,16 @@ no_parts = record {
 unmapped : (o : Option Operation) → option_map coordinator_of o ≡ None → o ≡ None
 unmapped None none = refl
 unmapped (Some operation) none = absurd cc
+
+-- a call has a coordinator where its operation is open
+pub mapped_some : (o : Option Operation) → is_some (option_map coordinator_of o) ≡ is_some o
+mapped_some None = refl
+mapped_some (Some operation) = refl
+
+-- and the coordinator's view is the operation's
+pub mapped_view : (o : Option Operation) → option_map view_in (option_map coordinator_of o) ≡ option_map (λ (op : Operation). view_in (coordinator_of op)) o
+mapped_view None = refl
+mapped_view (Some operation) = refl
 
 -- what is under way goes on, and no operation gets the call of this number
 pub record KeepsFree (seq : ℕ) (before after : Node) : Type 0 where

@@ -91,7 +91,7 @@ pub record CountsRead (from : BrickId) (message : Message) (before after : Tasks
 -- synchronisation has counted it, and that was all. Or nothing is done yet: the read ends, and this comes after it.
 abbrev pub IsTaskTurn : Layout → ℕ → BrickId → Call → Reply → Tasks → TaskTurn → Tasks → Type 0
 IsTaskTurn layout now from call reply before (turn.Work t) after =
-    IsTurn layout from call reply before.work t after.work × (after.job ≡ before.job) × IsAside before.job call.seq
+    IsTurn layout from call reply before.work t after.work × (after.job ≡ before.job) × IsAside before.job call.seq × IsWorkOf layout before.work
 IsTaskTurn layout now from call reply before turn.CountedRead after =
     CountsRead from (message.Reply call reply) before after
     × ((kept : KeptParts) → step_on layout now from call reply before kept ≡ no_step (tasks_in kept after))

@@ -399,6 +399,7 @@ impl Operation {
             stamps.new.known (or_waits (coordinator_of self.old) (decided_on fresh (shown_of self.old) from message.now)) outs) }
         ensures few { IfOk result (λ outs. length outs.messages ≤ 32) }
         ensures boot { stamps.new.boot ≡ stamps.old.boot }
+        ensures group { OnOk result ((coordinator_of self.new).group ≡ (coordinator_of self.old).group) }
         ensures same { OnErr result (coordinator_of self.new ≡ coordinator_of self.old) }
         ensures block { OnErr result ((shown_of self.new).block ≡ (shown_of self.old).block) }
     {

@@ -150,10 +150,11 @@ impl Tasks {
     pub(crate) fn view_of(&self, seq: u64) -> Option<View>
         ensures { (kept : KeptParts) → result ≡ option_map view_in ((tasks_in kept self.now).calls seq) }
     {
-        if let Some(open) = &self.job
-            && open.reads(seq)
-        {
-            return Some(open.view());
+        if self.reads(seq) {
+            return match &self.job {
+                Some(open) => Some(open.view()),
+                None => unreachable!(),
+            };
         }
         self.work.calls.view_of(seq)
     }
@@ -194,7 +195,8 @@ impl Tasks {
         ensures step { (kept : KeptParts) → StepsAs self.old.work.calls.me (tasks_in kept self.new)
             (then_told told (followed_step self.old.work.calls.me group (state_in kept self.old.work) next)) result }
         ensures few { length result.messages ≡ sent_in next }
-        ensures same { (layout : layouts.Layout) → FollowsFrom layout self.old.work.calls.seq group next → AreSameTasks layout self.old self.new }
+        ensures same { (layout : layouts.Layout) → FollowsFrom layout self.old.work.calls.seq group next
+            → AreSameTasks layout (record { work = self.old.work; job = None }) self.new }
     {
         match next {
             Followed::Reads(messages, open) => {
@@ -409,10 +411,11 @@ impl Tasks {
         ensures few { IfOk result (λ messages. vec_len messages ≤ 4224) }
     {
         let mut messages = self.work.on_tick(alloc)?;
-        if let Some(open) = &self.job {
-            let mut last = open.on_tick(alloc)?;
-            messages.append(&mut last)?;
-        }
+        let Some(open) = &self.job else {
+            return Ok(messages);
+        };
+        let mut last = open.on_tick(alloc)?;
+        messages.append(&mut last)?;
         Ok(messages)
     }
 }

@@ -1,7 +1,7 @@
 -- Marks are numbered in the order in which their operations begin: so it stays where an operation begins, with marks or without, and where one changes that keeps its
 -- marks' number.
 use Rattle.std.proofs.Common.{◌≡◌, ◌≢◌, ℕ, ◌+◌, ◌<◌, ◌≤◌, ◌⊎◌, inl, inr, ⊎_elim, true, Option, Some, refl, sym, ap, ◌∙◌, arith}
-use Rattle.std.proofs.lemmas.Bool.{cases_eq, cases_lt, lt-ltb, ltb-true}
+use Rattle.std.proofs.lemmas.Bool.{cases_eq, cases_lt, lt-ltb}
 use Rattle.std.proofs.lemmas.Option.{same_Some}
 use Rattle.fab_base.specs.declared.stamps.Stamp.{Stamp}
 use Rattle.protocol.specs.Nodes.{put}
@@ -17,9 +17,6 @@ cases_marked o = ⊎_elim (λ (low : o.mark < 1). inr (omega arith)) (λ (high :
 -- numbers of marks are from 1
 pub has_marks : (o : Operation) → 1 ≤ o.mark → is_marked o ≡ true
 has_marks o from = lt-ltb 0 o.mark (omega arith)
-
-pub marks_from : (o : Operation) → is_marked o ≡ true → 1 ≤ o.mark
-marks_from o marked = let some : 0 < o.mark = ltb-true 0 o.mark marked in omega arith
 
 -- the number of an operation's marks, also once it saw a version
 pub mark_at : (operations : ℕ → Option Operation) (n : ℕ) (o : Operation) → operations n ≡ Some o → own_mark n (operations n) ≡ o.mark

@@ -35,10 +35,10 @@ use Rattle.protocol_laws.specs.Laws.{AtQuorum, IsBlocked, top_in}
 use Rattle.protocol_laws.proofs.Books.{Books, CallBooks, IsCall}
 use Rattle.protocol_laws.proofs.Logs.{IsWithin, below_above}
 use Rattle.protocol_laws.proofs.Blocking.{twice_quorum, passes_by, passes, blocked_by, blocked_never_stands}
-use Rattle.protocol_laws.proofs.Said.{Stamping, Said, IsMadeOrFirst, IsStampOf, CallSays, CountedSays, EachCounted, AreOnce, look_of, want_of, is_looked, MadeOn, base_in, bound_in, AreBlocked}
+use Rattle.protocol_laws.proofs.Said.{Stamping, Said, IsMadeOrFirst, CallSays, CountedSays, EachCounted, AreOnce, look_of, want_of, is_looked, MadeOn, base_in, bound_in, AreBlocked}
 use Rattle.protocol_laws.proofs.Counting.{each_then, each_both, each_filter, once_filter, at_seats, TellsAtMost, found_most, found_one, finds_told, told_finds, IsPieceOf, are_pieces, pieces_length, NoneStops}
-use Rattle.protocol_laws.proofs.Stampings.{not_first, above_first}
-use Rattle.protocol_laws.proofs.Decisions.{quorum_enough, ReadsAt, told_version_is, content_formed, all_read, bound_cases, needed}
+use Rattle.protocol_laws.proofs.Stampings.{above_first}
+use Rattle.protocol_laws.proofs.Decisions.{ReadsAt, told_version_is, content_formed, all_read, bound_cases, needed}
 use Rattle.protocol.proofs.Blocks.{IsContent}
 
 -- nothing is told where nothing is found
@@ -57,12 +57,6 @@ none_greater (Some a) (Some b) is =
 both_none : (a b : Option Stamp) → greater_stamp a b ≡ None → (a ≡ None) × (b ≡ None)
 both_none None b is = (refl, is)
 both_none (Some a) b is = absurd (let never : Some a ≡ None = none_greater (Some a) b is in cc)
-
--- a phase that has a bound, and does not look back, descends
-descends_in : (p : Phase) (t bound : Stamp) → looks_back p ≡ false → bound_in p t ≡ Some bound → p ≡ Descends bound
-descends_in (Descends b) t bound ahead is = ap Descends (same_Some b bound is)
-descends_in (LooksBack b) t bound ahead is = absurd (false≢true (sym ahead))
-descends_in p t bound ahead is = cc
 
 module _ (setting : Setting) (views : Views) (sound : IsSound setting) (w : World) (stamps : Stamping) (me : BrickId) (c : Coordinator)
     (books : Books setting w) (said : Said setting views w stamps) (is : IsCall w me.0 c.call.seq c)
@@ -103,50 +97,6 @@ module _ (setting : Setting) (views : Views) (sound : IsSound setting) (w : Worl
       (each_filter (ReadsAt setting views sound w stamps me c books said is counted each once many look) (finds v) counted all))
       (once_filter (finds v) counted once))
       (subst (λ (m : ℕ). m ≤ length (pieces_at v counted)) (sym (asked_m c)) enough))
-
-module _ (setting : Setting) (views : Views) (sound : IsSound setting) (w : World) (stamps : Stamping) (me : BrickId) (c : Coordinator)
-    (books : Books setting w) (said : Said setting views w stamps) (is : IsCall w me.0 c.call.seq c)
-    (counted : List Counted) (each : EachCounted (CountedSays setting views w me.0 c) counted) (once : AreOnce counted)
-    (many : quorum_of (asked_group c) ≤ length counted) (bound : Stamp) (looks : look_of c.phase c.stamp ≡ Some (Below bound))
-    (all : EachCounted (ReadsAt setting views sound w stamps me c books said is counted each once many (Below bound)) counted)
-    (ahead : looks_back c.phase ≡ false) (one : c.call.view.0 ≡ 1) where
-  -- what a reply reads
-  abbrev Reading : Counted → Type 0
-  Reading x = ReadsAt setting views sound w stamps me c books said is counted each once many (Below bound) x
-
-  -- the bound is above the first stamp
-  first_under : stamp_below first_stamp bound ≡ true
-  first_under = ⊎_elim
-      (λ (own : bound ≡ c.stamp).
-      let its_stamp : IsStampOf (w.nodes me.0) me.0 (w.nodes me.0).boot c.stamp
-      = said.stamps_say.are me.0 (w.nodes me.0).boot c.call.seq c.call.phase c.stamp (c.phase, (said.calls me.0 c.call.seq c is).begun) in
-      subst (λ (t : Stamp). stamp_below first_stamp t ≡ true) (sym own)
-      (above_first c.stamp (not_first (w.nodes me.0) me.0 (w.nodes me.0).boot c.stamp its_stamp)))
-      (λ (lower : bound_in c.phase c.stamp ≡ Some bound). (said.calls me.0 c.call.seq c is).above bound (descends_in c.phase c.stamp bound ahead lower))
-      (bound_cases c.phase c.stamp bound looks)
-
-  -- a reply tells some version, since each member holds the first
-  tells_some : (x : Counted) → Reading x → told_stamp x.reply ≡ None → ⊥
-  tells_some x reads nothing =
-      let none : reads.found ≡ None = none_told reads.found (sym (ap (option_map (λ (z : Version). z.stamp)) reads.found_is) ∙ nothing) in
-      subst (λ (z : Option Version). IsWithin z first_stamp) none
-      (reads.newest first_stamp (sym one)
-      (said.first_held (books.calls me.0 c.call.seq c is).operation.ask.group.0 (books.calls me.0 c.call.seq c is).operation.ask.stripe.0
-      (brick_at (asked_group c) x.seat))
-      first_under)
-
-  each_some : (l : List Counted) → EachCounted Reading l → greatest_found l ≡ None → 1 ≤ length l → ⊥
-  each_some [] reads nothing some = absurd (omega arith)
-  each_some (x ∷ l) reads nothing some = tells_some x reads.0 (none_greater (told_stamp x.reply) (greatest_found l) nothing)
-
-  -- so a quorum of replies finds one
-  pub something_found : greatest_found counted ≡ None → ⊥
-  something_found nothing =
-      let group : Group = asked_group c in
-      let limits : IsWithinLimits group.m (length group.members)
-      = said.limits c.call.group.0 c.call.view.0 group (asked_is setting views w stamps books said me.0 c.call.seq c is) in
-      let enough : group.m ≤ quorum_of group = quorum_enough group.m (length group.members) limits.enough_seats in
-      each_some counted all nothing (omega (arith, limits.some_block, enough, many))
 
 module _ (setting : Setting) (views : Views) (sound : IsSound setting) (w : World) (stamps : Stamping) (me : BrickId) (c : Coordinator)
     (books : Books setting w) (said : Said setting views w stamps) (is : IsCall w me.0 c.call.seq c)

@@ -297,8 +297,3 @@ tallied_on setting w next books tallied alone on calls unbegun counted aborts cl
         let from : 1 ≤ n = tallied.marked k p n cause old in
         ended_not_open w.marks k p n (Aborted cause) books.well_formed old
         (subst (λ (m : ℕ). IsOpen (life_of w.marks m)) same (open'.marked (omega (arith, same, from))))
-
--- operations that stay are closed as they were
-pub closed_same : (w next : World) → next.operations ≡ w.operations → (n : ℕ) (p : Operation) (cause : Cause) → IsOperation next n p → p.closed ≡ Some (Some cause)
-    → ((o : Operation) × IsOperation w n o × (o.closed ≡ Some (Some cause))) ⊎ Evidence next n p cause
-closed_same w next same n p cause is closed = inl (p, ap (λ (f : ℕ → Option Operation). f n) (sym same) ∙ is, closed)

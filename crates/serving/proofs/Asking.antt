@@ -4,9 +4,10 @@ use Rattle.std.specs.Prelude.{nat_le}
 use Rattle.std.proofs.lemmas.Bool.{cond_both, and_from, le-leb}
 use Rattle.fab_base.specs.declared.identities.BrickId.{BrickId}
 use Rattle.fab_base.specs.declared.identities.GroupId.{GroupId}
+use Rattle.fab_base.specs.declared.identities.ViewNo.{ViewNo}
 use Rattle.fab_base.specs.declared.member_lists.View.{View}
 use Rattle.fab_base.specs.declared.stamps.Stamp.{Stamp}
-use Rattle.fab_base.specs.Layouts.{Layout}
+use Rattle.fab_base.specs.Layouts.{Layout, Group}
 use Rattle.messages.specs.declared.calls.Call.{Call}
 use Rattle.messages.specs.declared.packets.Message.TheVariants as messages
 use Rattle.messages.specs.declared.packets.Packet.{Packet}
@@ -14,13 +15,14 @@ use Rattle.messages.specs.declared.requests.Request.{Request}
 use Rattle.messages.specs.declared.requests.Request.TheVariants as requests
 use Rattle.protocol.specs.declared.phases.Counted.{Counted}
 use Rattle.protocol.specs.declared.phases.Phase.{Phase}
-use Rattle.protocol.specs.declared.phases.Phase.TheVariants.{Looks, LooksAt, Orders, OrdersAt, Recovers, Descends, Modifies, Bases, Stores}
+use Rattle.protocol.specs.declared.phases.Phase.TheVariants.{Looks, LooksAt, Orders, OrdersAt, Recovers, Descends, LooksBack, Modifies, Bases, Stores}
 use Rattle.protocol.specs.declared.tellings.ViewAnswer.{ViewAnswer}
 use Rattle.protocol.specs.declared.tellings.ViewAnswer.TheVariants as answer
-use Rattle.protocol.specs.Coordinators.{Coordinator, has_seat, request_of, delta_at}
-use Rattle.protocol.specs.Nodes.{to_members, phase_packets, collect_packets, resent_to, resent, resent_up_to, each_taught, teaching, view_in, learn_packets, decided_view, ended_packets, ballot_resent}
+use Rattle.protocol.specs.Coordinators.{Coordinator, looks_back, asked_group, has_seat, request_of, delta_at}
+use Rattle.protocol.specs.Nodes.{to_members, phase_packets, collect_packets, resent_to, resent, resent_up_to, each_taught, teaching, view_in, learn_packets, decided_view, ended_packets, ballot_resent, synced_packets}
 use Rattle.protocol.specs.Proposals.{Proposal, ballot_request, ballot_packets}
 use Rattle.protocol.specs.Replicas.{is_changed}
+use Rattle.protocol.specs.Views.{kept_by}
 use Rattle.rs_code.proofs.StripeLaws.{length-coded_block}
 use Rattle.stripe_code.specs.Codes.{block_code, coding}
 use Rattle.serving.specs.Spellings.{has_some, request_fits, has_spelling}
@@ -43,6 +45,7 @@ module _ (layout : Layout) (few : layout.block ≤ 4096) where
   asked_in c seat (OrdersAt j) few_blocks fits = le-leb j 31 (omega (arith, fits, few_blocks))
   asked_in c seat Recovers few_blocks fits = refl
   asked_in c seat (Descends bound) few_blocks fits = refl
+  asked_in c seat (LooksBack bound) few_blocks fits = refl
   asked_in c seat (Modifies base j) few_blocks fits =
       and_from (nat_le j 15) (nat_le (length (delta_at c.group.m j seat c.content)) 4096) (le-leb j 15 (let below = fits.0 in omega (arith, below, few_blocks)))
       (le-leb (length (delta_at c.group.m j seat c.content)) 4096 (delta_short c.group.m j seat c.content fits.1))
@@ -67,10 +70,16 @@ module _ (layout : Layout) (few : layout.block ≤ 4096) where
   members_fit me call request fits seat (member ∷ members) below =
       (request_packet me member call (request seat) below.0 (fits seat), members_fit me call request fits (seat + 1) members below.1)
 
+  -- those that a phase asks are bricks of the layout
+  asked_bricks : (c : Coordinator) → CallFits layout c → AreBricks layout (asked_group c).members
+  asked_bricks c fits =
+      cond_both (looks_back c.phase) (kept_by c.prior c.group) c.group (λ (group : Group). AreBricks layout group.members)
+      (λ back. fits.view.before) (λ own. fits.view.members)
+
   -- a phase begins
   pub phase_fits : (me : BrickId) (c : Coordinator) → CallFits layout c → PacketsFit layout (phase_packets (coding layout) me c)
   phase_fits me c fits =
-      members_fit me c.call (request_of (block_code layout.block) c) (λ seat. asked c seat fits) 0 c.group.members fits.view.members
+      members_fit me c.call (request_of (block_code layout.block) c) (λ seat. asked c seat fits) 0 (asked_group c).members (asked_bricks c fits)
 
   -- what was stored may be collected
   pub collect_fits : (me : BrickId) (c : Coordinator) (stored : Option Stamp) → CallFits layout c → PacketsFit layout (collect_packets me c stored)
@@ -103,13 +112,13 @@ module _ (layout : Layout) (few : layout.block ≤ 4096) where
       cond_both (nat_lt 1 view.number.0) (each_taught group view packets) packets (PacketsFit layout)
       (λ later. each_after group view fits.some (fits.prior later) packets fit) (λ first. fit)
 
-  again : (me : BrickId) (open_call : Option Coordinator) → ((c : Coordinator) → open_call ≡ Some c → CallFits layout c)
+  pub again : (me : BrickId) (open_call : Option Coordinator) → ((c : Coordinator) → open_call ≡ Some c → CallFits layout c)
       → PacketsFit layout (resent (coding layout) me open_call)
   again me None fits = tt
   again me (Some c) fits =
       let its : CallFits layout c = fits c refl in
       taught_fits c.call.group (view_in c) its.view _
-      (again_to me c.call (request_of (block_code layout.block) c) (λ seat. asked c seat its) c.counted 0 c.group.members its.view.members)
+      (again_to me c.call (request_of (block_code layout.block) c) (λ seat. asked c seat its) c.counted 0 (asked_group c).members (asked_bricks c its))
 
   -- each open operation sends its phase again
   pub all_again : (me : BrickId) (calls : ℕ → Option Coordinator) → ((k : ℕ) (c : Coordinator) → calls k ≡ Some c → CallFits layout c) → (k : ℕ)
@@ -152,3 +161,13 @@ module _ (layout : Layout) (few : layout.block ≤ 4096) where
   end_fits me p (answer.Decided number members) fits some =
       all_taught me p.call.group (decided_view p number members) some fits.view.some layout.bricks 0 (omega arith)
   end_fits me p ended fits some = tt
+
+  -- ---- a synchronisation
+
+  -- all bricks are told that all stripes are kept in a view
+  pub all_synced : (me : BrickId) (group : GroupId) (view : ViewNo) (left brick : ℕ) → left + brick ≤ layout.bricks
+      → PacketsFit layout (synced_packets me group view left brick)
+  unfolding has_spelling
+  all_synced me group view zero brick within = tt
+  all_synced me group view (suc left) brick within =
+      (record { to = omega (arith, within); spelled = refl }, all_synced me group view left (brick + 1) (omega (arith, within)))

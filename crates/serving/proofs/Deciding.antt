@@ -8,6 +8,7 @@ use Rattle.fab_base.specs.declared.answers.Answer.TheVariants.{Data, Done}
 use Rattle.fab_base.specs.declared.asks.Op.{Op}
 use Rattle.fab_base.specs.declared.asks.Op.TheVariants.{ReadBlock, WriteBlock, ReadStripe, WriteStripe}
 use Rattle.fab_base.specs.declared.identities.BrickId.{BrickId}
+use Rattle.fab_base.specs.declared.identities.ViewNo.{ViewNo}
 use Rattle.fab_base.specs.declared.stamps.Stamp.{Stamp}
 use Rattle.fab_base.specs.Layouts.{Layout, seat_in}
 use Rattle.messages.specs.declared.calls.Call.{Call}
@@ -17,17 +18,19 @@ use Rattle.messages.specs.declared.requests.Version.{Version}
 use Rattle.quorum.specs.Quorums.{quorum_of}
 use Rattle.reg_model.specs.Registers.{block_of, read_of}
 use Rattle.protocol.specs.declared.phases.Counted.{Counted}
+use Rattle.protocol.specs.declared.phases.Dropper.{Dropper}
 use Rattle.protocol.specs.declared.phases.FullMember.{FullMember}
 use Rattle.protocol.specs.declared.phases.Mover.{Mover}
 use Rattle.protocol.specs.declared.phases.Refuser.{Refuser}
 use Rattle.protocol.specs.declared.phases.Phase.{Phase}
-use Rattle.protocol.specs.declared.phases.Phase.TheVariants.{Looks, LooksAt, Orders, OrdersAt, Recovers, Descends, Modifies, Bases, Stores}
-use Rattle.protocol.specs.Coordinators.{Coordinator, Next, Waits, Sends, Makes, Ends, call_same, told_length, answers_phase, has_seat, new_seat, answering_seat, counts_at, found_bytes, bytes_at, pieces_of, pieces_at, fast_version, fast_version_at, common_version_at, some_behind, greatest_refuser, lowest_full, greatest_found, in_phase, restoring, block_written, modifying, reordering, forgetting, most_rounds, aborted_by, lowest_mover, unless_told_moved, unless_told_full, unless_refused, once_ordered, answered_fast, answered_fast_at, read_back, modified_if, once_modified, rebuilt, answer_with, decided, with_reply, counted_at, on_reply}
+use Rattle.protocol.specs.declared.phases.Phase.TheVariants.{Looks, LooksAt, Orders, OrdersAt, Recovers, Descends, LooksBack, Modifies, Bases, Stores}
+use Rattle.protocol.specs.Coordinators.{Coordinator, Next, Waits, Sends, Makes, Ends, asked_group, call_same, told_length, answers_phase, has_seat, new_seat, answering_seat, counts_at, found_bytes, bytes_at, pieces_of, pieces_at, fast_version, fast_version_at, common_version_at, some_behind, greatest_refuser, lowest_full, greatest_found, in_phase, restoring, block_written, modifying, reordering, forgetting, most_rounds, aborted_by, lowest_mover, lowest_dropper, unless_told_moved, unless_told_gone, unless_told_full, unless_refused, once_ordered, answered_fast, answered_fast_at, lower_phase, may_look_back, read_back, modified_if, once_modified, rebuilt, answer_with, decided, with_reply, counted_at, on_reply}
 use Rattle.stripe_code.specs.Codes.{block_code}
 use Rattle.stripe_code.proofs.Changes.{length-block_delta}
 use Rattle.serving.proofs.CodeSizes.{length-decoded, length-after}
 use Rattle.serving.proofs.Everywhere.{all_append}
-use Rattle.serving.proofs.Fitting.{TellsShort, PhaseFits, CallFits, IsAnswer, NextFits}
+use Rattle.protocol.specs.Nodes.{view_in}
+use Rattle.serving.proofs.Fitting.{TellsShort, ViewFits, PhaseFits, CallFits, IsAnswer, NextFits}
 
 -- ---- replies that count
 
@@ -54,13 +57,20 @@ ordered_within block t seat (Descends bound) version answers =
 ordered_within block t seat (Bases base) version answers = let long = eqb-true (length version.block) block (and_parts _ _ answers).0 in omega (arith, long)
 ordered_within block t seat phase version answers = absurd (false≢true answers)
 
+old_within : (block : ℕ) (t : Stamp) (seat : ℕ) (phase : Phase) (version : Version)
+    → answers_phase block t seat phase (replies.Old (Some version)) ≡ true → length version.block ≤ block
+old_within block t seat (LooksBack bound) version answers = let long = eqb-true (length version.block) block (and_parts _ _ answers).0 in omega (arith, long)
+old_within block t seat phase version answers = absurd (false≢true answers)
+
 -- a reply that answers a phase tells at most a block
 answer_within : (block : ℕ) (t : Stamp) (seat : ℕ) (phase : Phase) (reply : Reply) → answers_phase block t seat phase reply ≡ true
     → length (found_bytes reply) ≤ block
 answer_within block t seat phase (replies.Found order (Some version)) answers = found_within block t seat phase order version answers
 answer_within block t seat phase (replies.OrderedRead (Some version)) answers = ordered_within block t seat phase version answers
+answer_within block t seat phase (replies.Old (Some version)) answers = old_within block t seat phase version answers
 answer_within block t seat phase (replies.Found order None) answers = omega arith
 answer_within block t seat phase (replies.OrderedRead None) answers = omega arith
+answer_within block t seat phase (replies.Old None) answers = omega arith
 answer_within block t seat phase reply answers = omega arith
 
 -- the seat at which a reply counts has answered the phase
@@ -81,10 +91,10 @@ still_answering block c reply counted (Some seat) answers =
 counting : (block : ℕ) (c : Coordinator) (from : ℕ) (call : Call) (reply : Reply) → Answers block c reply (counts_at block c from call reply)
 unfolding counts_at
 counting block c from call reply =
-    cond_both (call_same call c.call && nat_lt c.call.phase (2 ^ 32 - 1)) (new_seat c.counted (answering_seat block c reply (seat_in c.group.members from))) None
+    cond_both (call_same call c.call && nat_lt c.call.phase (2 ^ 32 - 1)) (new_seat c.counted (answering_seat block c reply (seat_in (asked_group c).members from))) None
     (Answers block c reply)
-    (λ this. still_answering block c reply c.counted (answering_seat block c reply (seat_in c.group.members from))
-    (answering block c reply (seat_in c.group.members from)))
+    (λ this. still_answering block c reply c.counted (answering_seat block c reply (seat_in (asked_group c).members from))
+    (answering block c reply (seat_in (asked_group c).members from)))
     (λ other. tt)
 
 -- the bytes that the reply of a seat tells are at most a block
@@ -95,6 +105,10 @@ bytes_within block seat (c ∷ counted) short =
     (λ own. short.0) (λ other. bytes_within block seat counted short.1)
 
 -- ---- decisions
+
+-- a new round's stamp, if there is one, is of the operation's view
+abbrev pub OfItsView : Coordinator → Option Stamp → Type 0
+OfItsView c fresh = IfSome fresh (λ t. t.view ≡ c.stamp.view)
 
 -- bytes that have room in an answer
 data_spelled : (bytes : List ℕ) → length bytes ≤ 32768 → IsAnswer (Data bytes)
@@ -137,7 +151,7 @@ module _ (layout : Layout) (few : layout.block ≤ 4096) where
         counted = tt;
       }
 
-  -- a member that serves the view no more, whose store is full, or that refuses, ends the operation; or there is another round
+  -- a member that serves the view no more, that dropped the view before, whose store is full, or that refuses, ends the operation; or there is another round
   unless_full : (full : Option FullMember) (next : Next) → NextFits layout next → NextFits layout (unless_told_full full next)
   unless_full None next fits = fits
   unless_full (Some f) next fits = refl
@@ -146,21 +160,40 @@ module _ (layout : Layout) (few : layout.block ≤ 4096) where
   unless_moved None next fits = fits
   unless_moved (Some m) next fits = refl
 
+  unless_gone : (dropper : Option Dropper) (next : Next) → NextFits layout next → NextFits layout (unless_told_gone dropper next)
+  unless_gone None next fits = fits
+  unless_gone (Some d) next fits = refl
+
   or_full : (c : Coordinator) (next : Next) → NextFits layout next
-      → NextFits layout (unless_told_moved (lowest_mover c.counted) (unless_told_full (lowest_full c.counted) next))
-  or_full c next fits = unless_moved (lowest_mover c.counted) _ (unless_full (lowest_full c.counted) next fits)
+      → NextFits layout (unless_told_moved (lowest_mover c.counted)
+      (unless_told_gone (lowest_dropper c.counted) (unless_told_full (lowest_full c.counted) next)))
+  or_full c next fits =
+      unless_moved (lowest_mover c.counted) _ (unless_gone (lowest_dropper c.counted) _ (unless_full (lowest_full c.counted) next fits))
 
   or_refused : (refuser : Option Refuser) (next : Next) → NextFits layout next → NextFits layout (unless_refused refuser next)
   or_refused None next fits = fits
   or_refused (Some r) next fits = refl
 
-  or_again : (fresh : Option Stamp) (c : Coordinator) (refuser : Option Refuser) (next : Next) → CallFits layout c → NextFits layout next
+  -- the view of an operation that has another stamp of the same view
+  again_in : (c : Coordinator) (t : Stamp) → t.view ≡ c.stamp.view → ViewFits layout (view_in c) → ViewFits layout (view_in (reordering c t))
+  again_in c t same fits =
+      subst (λ (number : ViewNo). ViewFits layout (record { number = number; members = c.group.members; prior = c.prior })) (sym same) fits
+
+  or_again : (fresh : Option Stamp) (c : Coordinator) (refuser : Option Refuser) (next : Next) → OfItsView c fresh → CallFits layout c → NextFits layout next
       → NextFits layout (once_ordered fresh c refuser next)
-  or_again fresh c None next asks fits = fits
-  or_again None c (Some r) next asks fits = refl
-  or_again (Some t) c (Some r) next asks fits =
+  or_again fresh c None next own asks fits = fits
+  or_again None c (Some r) next own asks fits = refl
+  or_again (Some t) c (Some r) next own asks fits =
       cond_both (nat_lt c.round most_rounds) (Sends (reordering c t)) (aborted_by r) (NextFits layout)
-      (λ left. record { group = asks.group; view = asks.view; has = asks.has; given = asks.given; content = asks.content; phase = asks.phase; counted = tt })
+      (λ left. record {
+        group = asks.group;
+        view = again_in c t own asks.view;
+        has = asks.has;
+        given = asks.given;
+        content = asks.content;
+        phase = asks.phase;
+        counted = tt;
+      })
       (λ last. refl)
 
   -- a read is answered at once, or recovers
@@ -176,13 +209,21 @@ module _ (layout : Layout) (few : layout.block ≤ 4096) where
   fast_fits_at c j (Some v) fits =
       let short = bytes_within layout.block j c.counted fits.counted in data_spelled (bytes_at j c.counted) (omega (arith, short, few))
 
-  -- a version is read back, or looked for below
+  -- looking for a version below one asks for no data block
+  lower_fits : (m : ℕ) (content : List ℕ) (phase : Phase) (v : Stamp) → PhaseFits m layout.block content (lower_phase phase v)
+  lower_fits m content (LooksBack bound) v = tt
+  lower_fits m content phase v = tt
+
+  -- a version is read back, or looked for below, or in the view before
   read_fits : (c : Coordinator) (v : Option Stamp) → CallFits layout c → NextFits layout (read_back layout.block (block_code layout.block) c v)
-  read_fits c None fits = forgotten c fits
+  read_fits c None fits =
+      cond_both (may_look_back c) (Sends (in_phase c (LooksBack None))) (Waits (forgetting c)) (NextFits layout)
+      (λ back. phase_begun c (LooksBack None) fits tt) (λ waits. forgotten c fits)
   read_fits c (Some v) fits =
-      cond_both (nat_lt (length (pieces_at v c.counted)) c.group.m) (Sends (in_phase c (Descends v)))
+      cond_both (nat_lt (length (pieces_at v c.counted)) c.group.m) (Sends (in_phase c (lower_phase c.phase v)))
       (Makes (restoring layout.block c v ((block_code layout.block).decode c.group.m (pieces_at v c.counted)))) (NextFits layout)
-      (λ too_few. phase_begun c (Descends v) fits tt) (λ enough. restored c v (pieces_at v c.counted) fits)
+      (λ too_few. phase_begun c (lower_phase c.phase v) fits (lower_fits c.group.m c.content c.phase v))
+      (λ enough. restored c v (pieces_at v c.counted) fits)
 
   rebuilt_fits : (c : Coordinator) (base : Stamp) → CallFits layout c → NextFits layout (rebuilt layout.block (block_code layout.block) c base)
   rebuilt_fits c base fits =
@@ -211,32 +252,34 @@ module _ (layout : Layout) (few : layout.block ≤ 4096) where
   answered_fits (WriteStripe bytes) content short = refl
 
   -- what a quorum of replies decides
-  decided_in : (fresh : Option Stamp) (c : Coordinator) (phase : Phase) → CallFits layout (record c { phase = phase })
+  decided_in : (fresh : Option Stamp) (c : Coordinator) (phase : Phase) → OfItsView c fresh → CallFits layout (record c { phase = phase })
       → NextFits layout (decided layout.block (block_code layout.block) fresh (record c { phase = phase }))
   unfolding decided
-  decided_in fresh c Looks fits =
+  decided_in fresh c Looks own fits =
       or_full c _ (fast_fits (record c { phase = Looks }) (fast_version c.counted) fits)
-  decided_in fresh c (LooksAt j) fits =
+  decided_in fresh c (LooksAt j) own fits =
       or_full c _ (fast_fits_at (record c { phase = LooksAt j }) j (fast_version_at j c.counted) fits)
-  decided_in fresh c Orders fits =
+  decided_in fresh c Orders own fits =
       let it : Coordinator = record c { phase = Orders } in
-      or_full c _ (or_again fresh it (greatest_refuser c.counted) _ fits (phase_begun it Stores fits tt))
-  decided_in fresh c (OrdersAt j) fits =
+      or_full c _ (or_again fresh it (greatest_refuser c.counted) _ own fits (phase_begun it Stores fits tt))
+  decided_in fresh c (OrdersAt j) own fits =
       let it : Coordinator = record c { phase = OrdersAt j } in
       or_full c _
-      (or_again fresh it (greatest_refuser c.counted) _ fits (modified_fits it j (common_version_at j c.counted) fits fits.phase))
-  decided_in fresh c Recovers fits =
+      (or_again fresh it (greatest_refuser c.counted) _ own fits (modified_fits it j (common_version_at j c.counted) fits fits.phase))
+  decided_in fresh c Recovers own fits =
       let it : Coordinator = record c { phase = Recovers } in
-      or_full c _ (or_again fresh it (greatest_refuser c.counted) _ fits (read_fits it (greatest_found c.counted) fits))
-  decided_in fresh c (Descends bound) fits =
+      or_full c _ (or_again fresh it (greatest_refuser c.counted) _ own fits (read_fits it (greatest_found c.counted) fits))
+  decided_in fresh c (Descends bound) own fits =
       or_full c _
       (or_refused (greatest_refuser c.counted) _ (read_fits (record c { phase = Descends bound }) (greatest_found c.counted) fits))
-  decided_in fresh c (Modifies base j) fits =
+  decided_in fresh c (LooksBack bound) own fits =
+      or_full c _ (read_fits (record c { phase = LooksBack bound }) (greatest_found c.counted) fits)
+  decided_in fresh c (Modifies base j) own fits =
       or_full c _
       (or_refused (greatest_refuser c.counted) _ (once_modified_fits (record c { phase = Modifies base j }) base fits))
-  decided_in fresh c (Bases base) fits =
+  decided_in fresh c (Bases base) own fits =
       or_full c _ (or_refused (greatest_refuser c.counted) _ (rebuilt_fits (record c { phase = Bases base }) base fits))
-  decided_in fresh c Stores fits =
+  decided_in fresh c Stores own fits =
       or_full c _ (or_refused (greatest_refuser c.counted) _ (answered_fits c.ask.op c.content fits.content))
 
   -- one more reply counts
@@ -254,18 +297,18 @@ module _ (layout : Layout) (few : layout.block ≤ 4096) where
             (answer_within layout.block c.stamp seat c.phase reply answers, tt);
       }
 
-  counted_fits : (fresh : Option Stamp) (c : Coordinator) (from : BrickId) (reply : Reply) (seat : Option ℕ) → CallFits layout c
+  counted_fits : (fresh : Option Stamp) (c : Coordinator) (from : BrickId) (reply : Reply) (seat : Option ℕ) → OfItsView c fresh → CallFits layout c
       → Answers layout.block c reply seat → NextFits layout (counted_at layout.block (block_code layout.block) fresh c from reply seat)
-  counted_fits fresh c from reply None fits answers = tt
-  counted_fits fresh c from reply (Some seat) fits answers =
+  counted_fits fresh c from reply None own fits answers = tt
+  counted_fits fresh c from reply (Some seat) own fits answers =
       let it : Coordinator = with_reply c seat from reply in
       let now : CallFits layout it = reply_counted c seat from reply fits answers in
-      cond_both (nat_lt (length it.counted) (quorum_of it.group)) (Waits it) (decided layout.block (block_code layout.block) fresh it) (NextFits layout)
-      (λ waits. now) (λ full. decided_in fresh it it.phase now)
+      cond_both (nat_lt (length it.counted) (quorum_of (asked_group it))) (Waits it) (decided layout.block (block_code layout.block) fresh it) (NextFits layout)
+      (λ waits. now) (λ full. decided_in fresh it it.phase own now)
 
   -- what a coordinator does with a reply
-  pub replied_fits : (fresh : Option Stamp) (c : Coordinator) (from : BrickId) (call : Call) (reply : Reply) → CallFits layout c
+  pub replied_fits : (fresh : Option Stamp) (c : Coordinator) (from : BrickId) (call : Call) (reply : Reply) → OfItsView c fresh → CallFits layout c
       → NextFits layout (on_reply layout.block (block_code layout.block) fresh c from call reply)
   unfolding on_reply
-  replied_fits fresh c from call reply fits =
-      counted_fits fresh c from reply (counts_at layout.block c from.0 call reply) fits (counting layout.block c from.0 call reply)
+  replied_fits fresh c from call reply own fits =
+      counted_fits fresh c from reply (counts_at layout.block c from.0 call reply) own fits (counting layout.block c from.0 call reply)

@@ -1,5 +1,5 @@
--- What of a brick has the sizes of its layout: the blocks of its logs, the lists of members that it keeps, and what its open operations and its proposal know
--- and ask. So has what it sends.
+-- What of a brick has the sizes of its layout: the blocks of its logs, the lists of members that it keeps, and what its open operations, its proposal and its
+-- synchronisation know and ask. So has what it sends.
 use Rattle.std.proofs.Common.{◌≡◌, ℕ, ◌*◌, ◌<◌, ◌≤◌, true, List, length, Option, Some, nat_lt}
 use Rattle.std.specs.List.{AllByRecursion}
 use Rattle.std.specs.Option.{IfSome}
@@ -19,6 +19,7 @@ use Rattle.protocol.specs.declared.tellings.ViewAnswer.{ViewAnswer}
 use Rattle.protocol.specs.declared.tellings.ViewAnswer.TheVariants as answer
 use Rattle.protocol.specs.Ballots.{Voted}
 use Rattle.protocol.specs.Coordinators.{Coordinator, Next, Ignores, Waits, Sends, Makes, Ends, found_bytes}
+use Rattle.protocol.specs.Jobs.{Job}
 use Rattle.protocol.specs.Nodes.{Node, NodeStep, has_block, has_length, view_in}
 use Rattle.protocol.specs.Proposals.{Proposal, Voting, Ignored, Waited, Asks, Ended, told_choice}
 use Rattle.protocol.specs.Replicas.{Reaction}
@@ -44,10 +45,11 @@ TellsShort block c = length (found_bytes c.reply) ≤ block
 abbrev pub NamesSome : Option (Ballot × List BrickId) → Type 0
 NamesSome told = IfSome told (λ choice. has_some choice.1 ≡ true)
 
--- a view has members, which are bricks of the layout; and if it is a later one than view 1, the view before it had some
+-- a view has members, and if it is a later one than view 1, so had the view before it; all of them are bricks of the layout
 pub record ViewFits (layout : Layout) (view : View) : Type 0 where
   pub members : AreBricks layout view.members
   pub some : has_some view.members ≡ true
+  pub before : AreBricks layout view.prior
   pub prior : nat_lt 1 view.number.0 ≡ true → has_some view.prior ≡ true
 
 -- a group within the limits of the layout, whatever bricks of it keep it
@@ -136,6 +138,7 @@ pub record NodeFits (layout : Layout) (node : Node) : Type 0 where
   pub logs : (g e s : ℕ) → AreShort layout.block (node.replicas g e s).log
   pub calls : (k : ℕ) (c : Coordinator) → node.calls k ≡ Some c → CallFits layout c
   pub proposal : (p : Proposal) → node.proposal ≡ Some p → ProposalFits layout p
+  pub job : (j : Job) → node.job ≡ Some j → ViewFits layout j.view
 
 -- and its step
 pub record StepFits (layout : Layout) (step : NodeStep) : Type 0 where

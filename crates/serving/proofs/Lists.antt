@@ -43,6 +43,7 @@ view_fits layout m view some is =
     record {
       members = of_bricks layout m view.members lists.0;
       some = names_some m layout.bricks view.members some lists.0;
+      before = of_bricks layout m view.prior lists.1;
       prior = λ later. names_some m layout.bricks view.prior some lists.1;
     }
 
@@ -52,5 +53,6 @@ first_fits layout group is =
     record {
       members = is.below;
       some = long_enough group.m group.members is.limits.some_block is.limits.enough_seats;
+      before = tt;
       prior = λ later. (let never : 1 < 1 = ltb-true 1 1 later in absurd (omega (arith, never)));
     }

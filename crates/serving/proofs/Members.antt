@@ -12,7 +12,7 @@ use Rattle.messages.specs.declared.requests.Look.TheVariants.{Below, At}
 use Rattle.messages.specs.declared.requests.Request.{Request}
 use Rattle.messages.specs.declared.requests.Request.TheVariants as requests
 use Rattle.messages.specs.declared.requests.Version.{Version}
-use Rattle.protocol.specs.Replicas.{Replica, Reaction, handle, newest_of, told_version, looked_up, stays, unless_full, promised, stored, modified_on, modified_block, is_held, top_of, below, is_wanted, is_changed}
+use Rattle.protocol.specs.Replicas.{Replica, Reaction, handle, newest_of, told_version, under, looked_up, stays, unless_full, promised, stored, modified_on, modified_block, is_held, top_of, below, is_wanted, is_changed}
 use Rattle.stripe_code.specs.Codes.{block_code}
 use Rattle.stripe_code.proofs.Changes.{length-modified_block}
 use Rattle.serving.specs.Spellings.{has_short_block, reply_fits}
@@ -43,6 +43,15 @@ module _ (block : ℕ) (few : block ≤ 4096) where
   told_short wanted None short = refl
   told_short true (Some version) short = le-leb (length version.block) 4096 (omega (arith, short, few))
   told_short false (Some version) short = refl
+
+  short_spelled : (found : Option Version) → IfSome found (IsShort block) → has_short_block found ≡ true
+  short_spelled None short = refl
+  short_spelled (Some version) short = le-leb (length version.block) 4096 (omega (arith, short, few))
+
+  -- the newest version of a log, below a bound if there is one, is told whole
+  pub old_short : (bound : Option Stamp) (log : List Version) → AreShort block log → has_short_block (newest_of (under bound log)) ≡ true
+  old_short None log short = short_spelled (newest_of log) (newest_short log short)
+  old_short (Some bound) log short = short_spelled (newest_of (below bound log)) (looked_short (Below bound) log short)
 
   -- a part that stays, or is changed unless the store is full
   stays_fits : (replica : Replica) (reply : Reply) → AreShort block replica.log → reply_fits reply ≡ true → ReactionFits block (stays replica reply)

@@ -1,4 +1,4 @@
--- A brick that the image of a disk shows, that has no operation open, and whose proposal is of its layout, is a brick of the layout.
+-- A brick that the image of a disk shows, that has no operation open, and whose proposal and synchronisation are of its layout, is a brick of the layout.
 use Rattle.std.proofs.Common.{◌≡◌, ℕ, ◌≤◌, Bool, true, false, List, [], ◌∷◌, length, map, take, replicate, Option, Some, None, sym, subst, ap, ⊎_elim, arith, length-take}
 use Rattle.std.specs.Prelude.{◌==◌, if◌then◌else◌, unwrap_or}
 use Rattle.std.specs.Option.{IfSome, option_map, option_and_then}
@@ -23,12 +23,13 @@ use Rattle.protocol.specs.Views.{Learnt, members_of, first_learnt, is_view, may_
 use Rattle.protocol.specs.declared.phases.Counted.{Counted}
 use Rattle.protocol.specs.Coordinators.{Coordinator}
 use Rattle.protocol.specs.Proposals.{Proposal, answers_ballot}
+use Rattle.protocol.specs.Jobs.{Job}
 use Rattle.protocol.specs.Nodes.{Node, no_calls}
 use Rattle.protocol.specs.Replicas.{Replica}
 use Rattle.replica.specs.Parts.{as_version, part_in, learnt_or, may_be_accepted, IsPartsOf, ListsStand}
 use Rattle.view_synod.specs.Proposers.{may_be_asked}
 use Rattle.serving.specs.Spellings.{has_some}
-use Rattle.serving.specs.Views.{IsProposalOf}
+use Rattle.serving.specs.Views.{IsViewOf, IsProposalOf, IsJobOf}
 use Rattle.serving.proofs.Everywhere.{all_append, all_map}
 use Rattle.serving.proofs.Fitting.{IsShort, AreShort, NamesSome, TellsSome, ViewFits, ProposalFits, NodeFits}
 use Rattle.serving.proofs.Lists.{names_some, view_fits, first_fits}
@@ -124,14 +125,19 @@ asked_names : (m bricks : ℕ) (asks : Option (List BrickId)) → 1 ≤ m → ma
 asked_names m bricks None some may = tt
 asked_names m bricks (Some members) some may = names_some m bricks members some may
 
+-- a view of a group of the layout
+view_of_fits : (layout : Layout) (group : Group) (view : View) → IsGroup layout.block layout.bricks group → IsViewOf layout group view → ViewFits layout view
+view_of_fits layout group view is its =
+    ⊎_elim (λ (first : view ≡ first_view group.members). subst (ViewFits layout) (sym first) (first_fits layout group is))
+    (λ (later : is_view group.m layout.bricks view ≡ true). view_fits layout group.m view is.limits.some_block later) its
+
 proposal_fits : (layout : Layout) → IsLayout layout → (p : Proposal) → IsProposalOf layout p → ProposalFits layout p
 proposal_fits layout is p its =
     let group_is : IsGroup layout.block layout.bricks its.group = is.each p.call.group.0 its.group its.at in
     let some : 1 ≤ p.m = its.under_way.limits.some_block in
     record {
       m = some;
-      view = ⊎_elim (λ (first : p.view ≡ first_view its.group.members). subst (ViewFits layout) (sym first) (first_fits layout its.group group_is))
-          (λ (later : is_view its.group.m layout.bricks p.view ≡ true). view_fits layout its.group.m p.view group_is.limits.some_block later) its.view;
+      view = view_of_fits layout its.group p.view group_is its.view;
       own = names_some p.m layout.bricks p.own some its.under_way.own;
       asks = asked_names p.m layout.bricks p.asks some its.under_way.asked;
       counted = told_names p.m layout.bricks p.asks some p.counted its.under_way.answers;
@@ -141,8 +147,8 @@ proposal_fits layout is p its =
 
 pub shown_fits : (layout : Layout) → IsLayout layout → (shape : Shape) → shape.block ≡ layout.block → (st : StateOf Kept) (image : List ℕ) (node : Node)
     → StandsFor shape st image → IsPartsOf layout st node → ListsStand layout st → node.calls ≡ no_calls
-    → ((p : Proposal) → node.proposal ≡ Some p → IsProposalOf layout p) → NodeFits layout node
-shown_fits layout is shape size st image node stands parts lists idle proposing =
+    → ((p : Proposal) → node.proposal ≡ Some p → IsProposalOf layout p) → ((job : Job) → node.job ≡ Some job → IsJobOf layout job) → NodeFits layout node
+shown_fits layout is shape size st image node stands parts lists idle proposing syncing =
     record {
       views = λ g group at.
           subst (λ (l : Learnt). ViewFits layout l.view) (sym (parts.learnt g))
@@ -155,6 +161,9 @@ shown_fits layout is shape size st image node stands parts lists idle proposing 
           (subst (λ (n : ℕ). AreShort n (part_in n st g e s).log) size (logs_short shape st image stands g e s));
       calls = λ k c at. let none : node.calls k ≡ None = ap (λ (calls : ℕ → Option Coordinator). calls k) idle in cc;
       proposal = λ p at. proposal_fits layout is p (proposing p at);
+      job = λ job at.
+          let its : IsJobOf layout job = syncing job at in
+          view_of_fits layout its.group job.view (is.each job.group.0 its.group its.at) its.view;
     }
   where
     kept_lists : (g : ℕ) (group : Group) → group_of layout g ≡ Some group

@@ -198,9 +198,9 @@ module _ (layout : Layout) (is : IsLayout layout) (me : BrickId) where
 
 -- one that begins to serve, as the image of a disk shows it
 pub sends_all : {D : Type 0} (node : Running D) → IsLayout node.layout → SendsAll node
-sends_all node is image shows idle proposing turns read =
+sends_all node is image shows idle proposing syncing turns read =
     all_sent node.layout is node.me turns (begun (state_of node))
     (record {
-      node = shown_fits node.layout is (shape_at node.layout node.me) refl shows.st image (state_of node) shows.stands shows.parts shows.lists idle proposing;
+      node = shown_fits node.layout is (shape_at node.layout node.me) refl shows.st image (state_of node) shows.stands shows.parts shows.lists idle proposing syncing;
       clients = λ seq client none. cc;
     }) read

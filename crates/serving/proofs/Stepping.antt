@@ -1,5 +1,5 @@
 -- A step of a brick of the layout leaves one, and sends and answers what has a spelling, whatever message came from a brick, and whatever was asked.
-use Rattle.std.proofs.Common.{◌≡◌, ℕ, ◌+◌, ◌*◌, ◌<◌, ◌≤◌, Bool, true, false, List, length, Option, Some, None, refl, replicate, subst, arith}
+use Rattle.std.proofs.Common.{◌≡◌, ℕ, ◌+◌, ◌*◌, ◌<◌, ◌≤◌, Bool, true, false, List, ◌++◌, length, Option, Some, None, refl, replicate, subst, arith}
 use Rattle.std.specs.Prelude.{not, is_some, nat_eq, nat_lt, ◌-◌, ◌&&◌, ◌||◌, if◌then◌else◌, max}
 use Rattle.std.specs.Option.{IfSome, option_map}
 use Rattle.std.proofs.lemmas.Bool.{cond_both, eqb-true, eqb-false, ltb-true, and_parts, or_parts, not-false, false≢true}
@@ -11,8 +11,10 @@ use Rattle.fab_base.specs.declared.asks.Op.TheVariants.{ReadBlock, WriteBlock, R
 use Rattle.fab_base.specs.declared.answers.Refusal.{Refusal}
 use Rattle.fab_base.specs.declared.identities.BrickId.{BrickId}
 use Rattle.fab_base.specs.declared.identities.GroupId.{GroupId}
+use Rattle.fab_base.specs.declared.identities.ViewNo.{ViewNo}
 use Rattle.fab_base.specs.declared.member_lists.View.{View}
 use Rattle.fab_base.specs.declared.stamps.Ballot.{Ballot}
+use Rattle.fab_base.specs.declared.stamps.Stamp.{Stamp}
 use Rattle.fab_base.specs.Layouts.{Layout, Group, group_of}
 use Rattle.messages.specs.declared.calls.Call.{Call}
 use Rattle.messages.specs.declared.clients.ClientAnswer.TheVariants.{Refused}
@@ -20,19 +22,20 @@ use Rattle.messages.specs.declared.packets.Message.{Message}
 use Rattle.messages.specs.declared.packets.Message.TheVariants as messages
 use Rattle.messages.specs.declared.packets.Packet.{Packet}
 use Rattle.messages.specs.declared.replies.Reply.{Reply}
-use Rattle.messages.specs.declared.replies.Reply.TheVariants.{Moved}
+use Rattle.messages.specs.declared.replies.Reply.TheVariants.{Moved, Old, Retired}
 use Rattle.messages.specs.declared.requests.Request.{Request}
 use Rattle.messages.specs.declared.requests.Request.TheVariants as requests
 use Rattle.layout.specs.Limits.{IsLayout, IsGroup}
 use Rattle.protocol.specs.Settings.{are_bytes}
 use Rattle.quorum.specs.Memberships.{is_membership}
 use Rattle.synod_laws.specs.Synods.{Kept, last_of}
-use Rattle.protocol.specs.Views.{Learnt, kept_by, is_later, learns, first_kept, view_told}
+use Rattle.protocol.specs.Views.{Learnt, kept_by, is_later, learns, is_unsynced, notes_synced, first_kept, view_told}
 use Rattle.protocol.specs.Ballots.{Voted, moved_to}
 use Rattle.protocol.specs.Coordinators.{Coordinator, Next, Ignores, Waits, Sends, Makes, Ends, on_reply}
-use Rattle.protocol.specs.Nodes.{Node, NodeStep, put, no_step, view_at, has_accepted, has_block, has_length, refusal_in, refusal_of, first_phase, fresh_stamp, given_content, new_coordinator, began, invoked, replica_at, full_at, reply_packets, reacted, requested_at, is_now, has_successor, fits, seat_now, is_void, moved_at, served_unless, vote_at, voted_on, requested_as, requested_in, requested, with_learnt, node_taught, may_teach, node_learnt, known_after, with_call, with_known, with_round, carried_out, with_proposal, carried_ballot, replied_ballot, replied_at, counts_here, view_counted, then_taught, replied, lists_fit, heard, received, ticked, ballot_resent, resent_up_to, most_open, is_spent}
+use Rattle.protocol.specs.Jobs.{Job, JobNext, Reads, Finishes, GivesUp, job_ask, job_after, abort_cause}
+use Rattle.protocol.specs.Nodes.{Node, NodeStep, put, no_step, view_at, has_accepted, has_block, has_length, refusal_in, refusal_of, first_phase, has_later_time, new_stamp, fresh_stamp, given_content, coordinator_in, new_coordinator, began, invoked, replica_at, full_at, reply_packets, reacted, requested_at, is_now, has_successor, fits, seat_now, is_void, moved_at, served_unless, vote_at, voted_on, old_reply, requested_as, requested_in, requested, with_learnt, node_taught, may_teach, node_learnt, node_synced, known_after, with_call, with_known, with_round, carried_out, with_proposal, carried_ballot, replied_ballot, with_job, read_begun_by, read_begun_in, job_goes, read_closed, carried_read, job_reading, carried_for, replied_at, counts_here, view_counted, then_taught, replied, lists_fit, heard, received, ticked, ballot_resent, resent, calls_but_read, job_call, resent_up_to, most_open, is_spent}
 use Rattle.protocol.specs.Proposals.{Proposal, Voting, Ignored, Waited, Asks, Ended, voted}
-use Rattle.protocol.specs.Replicas.{Replica, Reaction, fresh_replica, handle}
+use Rattle.protocol.specs.Replicas.{Replica, Reaction, fresh_replica, handle, newest_of, under}
 use Rattle.protocol.proofs.Served.{parts_each}
 use Rattle.protocol.proofs.Tables.{put_each}
 use Rattle.stripe_code.specs.Codes.{block_code, coding}
@@ -40,9 +43,9 @@ use Rattle.serving.specs.Spellings.{has_some, reply_fits, answer_fits, has_spell
 use Rattle.serving.proofs.Everywhere.{all_append}
 use Rattle.serving.proofs.Fitting.{AreShort, NamesSome, ViewFits, GroupFits, PhaseFits, CallFits, ProposalFits, VotingFits, PacketFits, PacketsFit, NextFits, ReactionFits, VoteFits, NodeFits, StepFits}
 use Rattle.serving.proofs.Lists.{names_some, view_fits}
-use Rattle.serving.proofs.Members.{StoresBlock, handled_fits}
-use Rattle.serving.proofs.Asking.{phase_fits, collect_fits, all_again, ballot_fits, ballot_again, end_fits}
-use Rattle.serving.proofs.Deciding.{replied_fits}
+use Rattle.serving.proofs.Members.{StoresBlock, handled_fits, old_short}
+use Rattle.serving.proofs.Asking.{phase_fits, collect_fits, again, all_again, ballot_fits, ballot_again, end_fits, all_synced}
+use Rattle.serving.proofs.Deciding.{OfItsView, replied_fits}
 use Rattle.serving.proofs.Voting.{voted_fits, moved_fits, vote_fits}
 
 -- a test that did not refuse
@@ -114,7 +117,7 @@ module _ (layout : Layout) (is : IsLayout layout) (me : BrickId) where
   opens : (node : Node) (known busy k : ℕ) (call : Option Coordinator) → NodeFits layout node → ((c : Coordinator) → call ≡ Some c → CallFits layout c)
       → NodeFits layout (with_call node known busy k call)
   opens node known busy k call fits own =
-      record { views = fits.views; accepted = fits.accepted; logs = fits.logs; calls = with_open node k call fits own; proposal = fits.proposal }
+      record { views = fits.views; accepted = fits.accepted; logs = fits.logs; calls = with_open node k call fits own; proposal = fits.proposal; job = fits.job }
 
   this_open : (d : Coordinator) → CallFits layout d → (c : Coordinator) → Some d ≡ Some c → CallFits layout c
   this_open d fits c same = subst (CallFits layout) (same_Some d c same) fits
@@ -123,7 +126,7 @@ module _ (layout : Layout) (is : IsLayout layout) (me : BrickId) where
   proposes : (node : Node) (proposal : Option Proposal) → NodeFits layout node → ((p : Proposal) → proposal ≡ Some p → ProposalFits layout p)
       → NodeFits layout (with_proposal node proposal)
   proposes node proposal fits own =
-      record { views = fits.views; accepted = fits.accepted; logs = fits.logs; calls = fits.calls; proposal = own }
+      record { views = fits.views; accepted = fits.accepted; logs = fits.logs; calls = fits.calls; proposal = own; job = fits.job }
 
   this_proposal : (q : Proposal) → ProposalFits layout q → (p : Proposal) → Some q ≡ Some p → ProposalFits layout p
   this_proposal q fits p same = subst (ProposalFits layout) (same_Some q p same) fits
@@ -131,12 +134,12 @@ module _ (layout : Layout) (is : IsLayout layout) (me : BrickId) where
   -- it knows a time
   knows : (node : Node) (known : ℕ) → NodeFits layout node → NodeFits layout (with_known node known)
   knows node known fits =
-      record { views = fits.views; accepted = fits.accepted; logs = fits.logs; calls = fits.calls; proposal = fits.proposal }
+      record { views = fits.views; accepted = fits.accepted; logs = fits.logs; calls = fits.calls; proposal = fits.proposal; job = fits.job }
 
   -- and a round
   rounds : (node : Node) (reply : Reply) → NodeFits layout node → NodeFits layout (with_round node reply)
   rounds node reply fits =
-      record { views = fits.views; accepted = fits.accepted; logs = fits.logs; calls = fits.calls; proposal = fits.proposal }
+      record { views = fits.views; accepted = fits.accepted; logs = fits.logs; calls = fits.calls; proposal = fits.proposal; job = fits.job }
 
   -- ---- an operation begins
 
@@ -180,6 +183,7 @@ module _ (layout : Layout) (is : IsLayout layout) (me : BrickId) where
           logs = fits.logs;
           calls = with_open node c.call.seq (Some c) fits (this_open c call);
           proposal = fits.proposal;
+          job = fits.job;
         };
         packets = phase_fits layout is.few_bytes me c call;
         answers = tt;
@@ -208,6 +212,7 @@ module _ (layout : Layout) (is : IsLayout layout) (me : BrickId) where
           logs = parts_each (λ g e s part. AreShort layout.block part.log) node call reaction reacts.log fits.logs;
           calls = fits.calls;
           proposal = fits.proposal;
+          job = fits.job;
         };
         packets = replies_fit from call reaction.reply below reacts.reply;
         answers = tt;
@@ -255,6 +260,7 @@ module _ (layout : Layout) (is : IsLayout layout) (me : BrickId) where
           logs = fits.logs;
           calls = fits.calls;
           proposal = fits.proposal;
+          job = fits.job;
         };
         packets = replies_fit from call (Some vote.reply) below votes.reply;
         answers = tt;
@@ -267,6 +273,19 @@ module _ (layout : Layout) (is : IsLayout layout) (me : BrickId) where
       voted_fits_at from node call (vote_at node call ballot asks) below fits
       (vote_fits layout call.view.0 (node.learnt call.group.0) (node.ballots call.group.0) ballot asks some (fits.views call.group.0 group at)
       (fits.accepted call.group.0 group at) asks_some)
+
+  -- it tells what it keeps in a view that it serves no more
+  old_fits : (node : Node) (call : Call) (bound : Option Stamp) → NodeFits layout node
+      → IfSome (old_reply node call bound) (λ reply. reply_fits reply ≡ true)
+  old_fits node call bound fits =
+      cond_both (nat_lt call.view.0 (first_kept (node.learnt call.group.0))) (Some Retired)
+      (if is_some (moved_at node call) then Some (Old (newest_of (under bound (replica_at node call).log))) else None)
+      (λ (r : Option Reply). IfSome r (λ reply. reply_fits reply ≡ true))
+      (λ dropped. refl)
+      (λ kept.
+      cond_both (is_some (moved_at node call)) (Some (Old (newest_of (under bound (replica_at node call).log)))) None
+      (λ (r : Option Reply). IfSome r (λ reply. reply_fits reply ≡ true))
+      (λ moved. old_short layout.block is.few_bytes bound (replica_at node call).log (fits.logs call.group.0 call.view.0 call.stripe.0)) (λ serves. tt))
 
   -- what a brick does with a request that is not void: it may serve it, in the view that these members keep
   serves : (from : BrickId) (node : Node) (call : Call) (request : Request) (group : Group) (members : List BrickId) → from.0 < layout.bricks
@@ -293,7 +312,8 @@ module _ (layout : Layout) (is : IsLayout layout) (me : BrickId) where
       serves from node call (requests.Modify t base j delta) group members below fits at means
   as_meant from node call (requests.Collect t) group members below fits at means =
       requested_fits_at group.m from node call (requests.Collect t) (seat_now me node call (kept_by members group)) below fits tt
-  as_meant from node call (requests.OldRead bound) group members below fits at means = still node fits
+  as_meant from node call (requests.OldRead bound) group members below fits at means =
+      record { node = fits; packets = replies_fit from call (old_reply node call bound) below (old_fits node call bound fits); answers = tt }
   as_meant from node call (requests.Prepare ballot) group members below fits at means =
       ballot_voted from node call ballot None group below fits at means.view tt
   as_meant from node call (requests.Accept ballot asked) group members below fits at means =
@@ -340,6 +360,7 @@ module _ (layout : Layout) (is : IsLayout layout) (me : BrickId) where
             (λ h other. fits.logs h);
         calls = fits.calls;
         proposal = fits.proposal;
+        job = fits.job;
       }
 
   taught_node : (g : ℕ) (node : Node) (view : View) → NodeFits layout node → ViewFits layout view → NodeFits layout (node_taught layout.block g node view)
@@ -363,6 +384,22 @@ module _ (layout : Layout) (is : IsLayout layout) (me : BrickId) where
   named_fits node group view fits =
       cond_both (may_teach layout (Some view) (group_of layout group.0)) (node_taught layout.block group.0 node view) node (NodeFits layout)
       (λ may. taught_node group.0 node view fits (may_fit group.0 view (group_of layout group.0) refl may)) (λ void. fits)
+
+  -- all stripes are kept in a view
+  noted_fits : (learnt : Learnt) (number : ℕ) → ViewFits layout learnt.view → ViewFits layout (notes_synced learnt number).view
+  unfolding notes_synced
+  noted_fits learnt number fits =
+      cond_both (is_unsynced learnt number) (record learnt { synced = true }) learnt (λ (l : Learnt). ViewFits layout l.view) (λ new. fits) (λ not. fits)
+
+  synced_fits : (node : Node) (group : GroupId) (number : ViewNo) → NodeFits layout node → NodeFits layout (node_synced layout node group number)
+  unfolding node_synced
+  synced_fits node group number fits =
+      cond_both (is_some (group_of layout group.0) && is_unsynced (node.learnt group.0) number.0)
+      (with_learnt layout.block group.0 node (notes_synced (node.learnt group.0) number.0)) node (NodeFits layout)
+      (λ new.
+      learnt_fits group.0 node (notes_synced (node.learnt group.0) number.0) fits
+      (λ kept at. noted_fits (node.learnt group.0) number.0 (fits.views group.0 kept at)))
+      (λ not. fits)
 
   -- a step, once the brick was taught a view too
   then_fits : (g : ℕ) (view : Option View) (step : NodeStep) → IfSome view (ViewFits layout) → StepFits layout step
@@ -397,6 +434,94 @@ module _ (layout : Layout) (is : IsLayout layout) (me : BrickId) where
         answers = (next, tt);
       }
 
+  -- ---- a synchronisation goes on
+
+  -- the synchronisation changes
+  syncs : (node : Node) (job : Option Job) → NodeFits layout node → ((j : Job) → job ≡ Some j → ViewFits layout j.view) → NodeFits layout (with_job node job)
+  syncs node job fits own =
+      record { views = fits.views; accepted = fits.accepted; logs = fits.logs; calls = fits.calls; proposal = fits.proposal; job = own }
+
+  this_job : (j : Job) → ViewFits layout j.view → (i : Job) → Some j ≡ Some i → ViewFits layout i.view
+  this_job j fits i same = subst (λ (x : Job). ViewFits layout x.view) (same_Some j i same) fits
+
+  -- it has ended
+  ends_sync : (node : Node) → NodeFits layout node → NodeFits layout (with_job node None)
+  ends_sync node fits = syncs node None fits (λ j none. cc)
+
+  -- a read of it begins
+  read_fits : (now : ℕ) (node : Node) (job : Job) (group : Option Group) → group_of layout job.group.0 ≡ group → NodeFits layout node
+      → ViewFits layout job.view → StepFits layout (read_begun_in (coding layout) me now node job (option_map (kept_by job.view.members) group))
+  read_fits now node job None at fits its = still node fits
+  read_fits now node job (Some group) at fits its =
+      let c : Coordinator = coordinator_in (kept_by job.view.members group) job.view me now node (job_ask job) in
+      let call : CallFits layout c = record {
+        group = kept_fits job.group.0 group job.view.members at;
+        view = its;
+        has = refl;
+        given = refl;
+        content = omega arith;
+        phase = tt;
+        counted = tt;
+      } in
+      cond_both (is_spent node) _ (read_begun_by (coding layout) me node job c) (StepFits layout)
+      (λ spent. record { node = ends_sync node fits; packets = tt; answers = tt })
+      (λ free. record {
+        node = record {
+          views = fits.views;
+          accepted = fits.accepted;
+          logs = fits.logs;
+          calls = with_open node c.call.seq (Some c) fits (this_open c call);
+          proposal = fits.proposal;
+          job = this_job (record job { seq = c.call.seq }) its;
+        };
+        packets = phase_fits layout is.few_bytes me c call;
+        answers = tt;
+      })
+
+  goes_fits : (now : ℕ) (node : Node) (job : Job) (next : JobNext) → NodeFits layout node → ViewFits layout job.view
+      → StepFits layout (job_goes (coding layout) me now node job next)
+  goes_fits now node job (Reads attempt) fits its =
+      read_fits now node (record job { attempt = attempt }) (group_of layout job.group.0) refl fits its
+  goes_fits now node job Finishes fits its =
+      record {
+        node = ends_sync node fits;
+        packets = all_synced layout is.few_bytes me job.group job.view.number layout.bricks 0 (omega arith);
+        answers = tt;
+      }
+  goes_fits now node job (GivesUp cause) fits its = record { node = ends_sync node fits; packets = tt; answers = tt }
+
+  -- what its read decided
+  read_carried : (now : ℕ) (node : Node) (known : ℕ) (job : Job) (c : Coordinator) (next : Next) → NodeFits layout node → ViewFits layout job.view
+      → CallFits layout c → NextFits layout next → StepFits layout (carried_read (coding layout) me now node known job c next)
+  read_carried now node known job c (Ends answer seen stored) fits its call next =
+      let closed : NodeStep = read_closed me node known c answer seen stored in
+      let next_does : JobNext = job_after c.group.stripes job.attempt (abort_cause answer) in
+      let goes : StepFits layout (job_goes (coding layout) me now closed.node job next_does)
+      = goes_fits now closed.node job next_does (opens node known node.busy c.call.seq None fits (λ d none. cc)) its in
+      record {
+        node = goes.node;
+        packets = all_append (PacketFits layout) closed.packets (job_goes (coding layout) me now closed.node job next_does).packets
+            (collect_fits layout is.few_bytes me c stored call) goes.packets;
+        answers = goes.answers;
+      }
+  read_carried now node known job c next fits its call next_fits = carried_fits node known c next fits call next_fits
+
+  carried_on : (now : ℕ) (node : Node) (known : ℕ) (c : Coordinator) (next : Next) (job : Option Job) → NodeFits layout node
+      → ((j : Job) → job ≡ Some j → ViewFits layout j.view) → CallFits layout c → NextFits layout next
+      → StepFits layout (carried_for (coding layout) me now node known c next job)
+  carried_on now node known c next None fits its call next_fits = carried_fits node known c next fits call next_fits
+  carried_on now node known c next (Some job) fits its call next_fits = read_carried now node known job c next fits (its job refl) call next_fits
+
+  -- the synchronisation whose read a call is
+  job_at : (job : Option Job) (seq : ℕ) → ((j : Job) → job ≡ Some j → ViewFits layout j.view) → (j : Job) → job_reading job seq ≡ Some j
+      → ViewFits layout j.view
+  job_at None seq fits j at = cc
+  job_at (Some job) seq fits j at =
+      cond_both (nat_eq job.seq seq) (Some job) None (λ (z : Option Job). z ≡ Some j → ViewFits layout j.view) (λ own same. fits j same)
+      (λ other none. absurd (let never : None ≡ Some j = none in cc)) at
+
+  -- ---- a reply to a proposal or an operation
+
   -- a reply to the proposal
   ballot_carried : (node : Node) (p : Proposal) (voting : Voting) → NodeFits layout node → ProposalFits layout p → VotingFits layout voting
       → StepFits layout (carried_ballot layout me node p voting)
@@ -414,6 +539,11 @@ module _ (layout : Layout) (is : IsLayout layout) (me : BrickId) where
   ballot_replied from node call reply (Some p) fits its =
       ballot_carried node p (voted layout.bricks p from call reply) fits (its p refl) (voted_fits layout p from call reply (its p refl))
 
+  -- a new round's stamp is of the operation's view
+  fresh_own : (c : Coordinator) (now boot known : ℕ) → OfItsView c (fresh_stamp me c.stamp.view now boot known)
+  fresh_own c now boot known =
+      cond_both (has_later_time known) (Some (new_stamp me c.stamp.view now boot known)) None (OfItsView c) (λ later. refl) (λ last. tt)
+
   replied_fits_at : (now : ℕ) (from : BrickId) (node : Node) (call : Call) (reply : Reply) (its : Option Coordinator) → NodeFits layout node
       → ((c : Coordinator) → its ≡ Some c → CallFits layout c) → StepFits layout (replied_at (coding layout) me now from node call reply its)
   replied_fits_at now from node call reply None fits call_fits =
@@ -421,9 +551,10 @@ module _ (layout : Layout) (is : IsLayout layout) (me : BrickId) where
       ballot_replied from known call reply node.proposal (knows node (known_after node.known reply) fits) fits.proposal
   replied_fits_at now from node call reply (Some c) fits call_fits =
       let known : ℕ = known_after node.known reply in
-      let fresh = fresh_stamp me c.call.view now node.boot known in
-      carried_fits node known c (on_reply layout.block (block_code layout.block) fresh c from call reply) fits (call_fits c refl)
-      (replied_fits layout is.few_bytes fresh c from call reply (call_fits c refl))
+      let fresh : Option Stamp = fresh_stamp me c.stamp.view now node.boot known in
+      carried_on now node known c (on_reply layout.block (block_code layout.block) fresh c from call reply) (job_reading node.job c.call.seq) fits
+      (job_at node.job c.call.seq fits.job) (call_fits c refl)
+      (replied_fits layout is.few_bytes fresh c from call reply (fresh_own c now node.boot known) (call_fits c refl))
 
   -- the lists that it tells of a view may keep the group, where it is not left out
   told_fits : (g : ℕ) (view : Option View) → (not (is_some view) || may_teach layout view (group_of layout g)) ≡ true → IfSome view (ViewFits layout)
@@ -457,14 +588,32 @@ module _ (layout : Layout) (is : IsLayout layout) (me : BrickId) where
   received_as now node from to (messages.Reply call reply) below fits = heard_fits now from node call reply fits
   received_as now node from to (messages.Learn group view) below fits =
       still (node_learnt layout node group view) (named_fits node group view fits)
+  received_as now node from to (messages.Synced group number) below fits =
+      still (node_synced layout node group number) (synced_fits node group number fits)
   received_as now node from to message below fits = still node fits
 
   pub received_fits : (now : ℕ) (node : Node) (packet : Packet) → packet.from.0 < layout.bricks → NodeFits layout node
       → StepFits layout (received (coding layout) me now node packet)
   received_fits now node packet below fits = received_as now node packet.from packet.to packet.message below fits
 
+  -- the operations but for the read of the synchronisation, and that one
+  but_fits : (calls : ℕ → Option Coordinator) (job : Option Job) → ((k : ℕ) (c : Coordinator) → calls k ≡ Some c → CallFits layout c)
+      → (k : ℕ) (c : Coordinator) → calls_but_read calls job k ≡ Some c → CallFits layout c
+  but_fits calls None fits = fits
+  but_fits calls (Some job) fits =
+      put_each (λ j x. (c : Coordinator) → x ≡ Some c → CallFits layout c) calls job.seq None (λ c none. cc) (λ j other. fits j)
+
+  read_of_job : (calls : ℕ → Option Coordinator) (job : Option Job) → ((k : ℕ) (c : Coordinator) → calls k ≡ Some c → CallFits layout c)
+      → (c : Coordinator) → job_call calls job ≡ Some c → CallFits layout c
+  read_of_job calls None fits c none = cc
+  read_of_job calls (Some job) fits c at = fits job.seq c at
+
   pub ticked_fits : (node : Node) → NodeFits layout node → PacketsFit layout (ticked (coding layout) me node)
   unfolding ticked
   ticked_fits node fits =
-      all_append (PacketFits layout) (resent_up_to (coding layout) me node.calls node.seq) (ballot_resent me node.proposal)
-      (all_again layout is.few_bytes me node.calls fits.calls node.seq) (ballot_again layout is.few_bytes me node.proposal fits.proposal)
+      let others : ℕ → Option Coordinator = calls_but_read node.calls node.job in
+      let own : Option Coordinator = job_call node.calls node.job in
+      all_append (PacketFits layout) (resent_up_to (coding layout) me others node.seq) (ballot_resent me node.proposal ++ resent (coding layout) me own)
+      (all_again layout is.few_bytes me others (but_fits node.calls node.job fits.calls) node.seq)
+      (all_append (PacketFits layout) (ballot_resent me node.proposal) (resent (coding layout) me own)
+      (ballot_again layout is.few_bytes me node.proposal fits.proposal) (again layout is.few_bytes me own (read_of_job node.calls node.job fits.calls)))

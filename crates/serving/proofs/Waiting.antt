@@ -1,14 +1,16 @@
 -- No client waits for a call that was not made yet.
 use Rattle.std.proofs.Common.{◌≡◌, ℕ, ◌+◌, ◌<◌, ◌≤◌, Bool, true, false, if◌then◌else◌, nat_eq, nat_le, List, [], ◌∷◌, Option, Some, None, Result, Ok, Err, option_map, refl, sym, ap, ◌∙◌, subst, inl, inr, arith, cond}
+use Rattle.std.specs.Prelude.{is_some, ◌&&◌}
 use Rattle.std.proofs.lemmas.Bool.{cond_both}
 use Rattle.std.proofs.lemmas.Bool.Decides.{nat_tests}
 use Rattle.fab_base.specs.declared.asks.Ask.{Ask}
 use Rattle.fab_base.specs.declared.answers.Refusal.{Refusal}
 use Rattle.fab_base.specs.declared.identities.BrickId.{BrickId}
 use Rattle.fab_base.specs.declared.identities.GroupId.{GroupId}
+use Rattle.fab_base.specs.declared.identities.ViewNo.{ViewNo}
 use Rattle.fab_base.specs.declared.member_lists.View.{View}
 use Rattle.fab_base.specs.Layouts.{Layout, Group, group_of}
-use Rattle.protocol.specs.Views.{kept_by, is_later, learns}
+use Rattle.protocol.specs.Views.{kept_by, group_kept, is_later, learns, is_unsynced, notes_synced}
 use Rattle.messages.specs.declared.calls.Call.{Call}
 use Rattle.messages.specs.declared.packets.Message.{Message}
 use Rattle.messages.specs.declared.packets.Message.TheVariants as message
@@ -16,7 +18,8 @@ use Rattle.messages.specs.declared.requests.Request.{Request}
 use Rattle.messages.specs.declared.replies.Reply.{Reply}
 use Rattle.protocol.specs.declared.tellings.Answered.{Answered}
 use Rattle.protocol.specs.Coordinators.{Coordinator, Next, Ignores, Waits, Sends, Makes, Ends, on_reply}
-use Rattle.protocol.specs.Nodes.{Node, NodeStep, put, group_at, requested, with_learnt, node_taught, node_taught_by, may_teach, node_learnt, known_after, fresh_stamp, with_known, with_round, carried_out, carried_ballot, replied_ballot, replied_at, view_counted, replied, lists_fit, heard, received, began, invoked, refusal_in, refusal_of, ticked}
+use Rattle.protocol.specs.Jobs.{Job, JobNext, Reads, Finishes, GivesUp, job_ask, job_after, abort_cause}
+use Rattle.protocol.specs.Nodes.{Node, NodeStep, put, group_at, requested, with_learnt, node_taught, node_taught_by, may_teach, node_learnt, node_synced, known_after, is_spent, fresh_stamp, coordinator_in, with_known, with_round, carried_out, carried_ballot, replied_ballot, read_begun_by, read_begun_in, job_goes, read_closed, carried_read, job_reading, carried_for, replied_at, view_counted, replied, lists_fit, heard, received, began, invoked, refusal_in, refusal_of, ticked}
 use Rattle.protocol.specs.Proposals.{Proposal, Voting, Ignored, Waited, Asks, Ended, voted}
 use Rattle.protocol.proofs.Served.{request_each}
 use Rattle.protocol.specs.Settings.{Setting}
@@ -54,7 +57,15 @@ node_learnt-seq layout node group view =
     cond_both (may_teach layout (Some view) (group_of layout group.0)) (node_taught layout.block group.0 node view) node (λ (n : Node). n.seq ≡ node.seq)
     (λ may. node_taught-seq layout.block group.0 node view) (λ void. refl)
 
--- nor a reply
+-- nor the news that all stripes are kept in a view
+node_synced-seq : (layout : Layout) (node : Node) (group : GroupId) (number : ViewNo) → (node_synced layout node group number).seq ≡ node.seq
+unfolding node_synced
+node_synced-seq layout node group number =
+    cond_both (is_some (group_of layout group.0) && is_unsynced (node.learnt group.0) number.0)
+    (with_learnt layout.block group.0 node (notes_synced (node.learnt group.0) number.0)) node (λ (n : Node). n.seq ≡ node.seq)
+    (λ new. refl) (λ not. refl)
+
+-- nor a reply, but where it ends a read of a synchronisation: then there may be another
 carried_out-seq : (setting : Setting) (me : BrickId) (node : Node) (known : ℕ) (c : Coordinator) (next : Next)
     → (carried_out setting me node known c next).node.seq ≡ node.seq
 carried_out-seq setting me node known c Ignores = refl
@@ -75,35 +86,75 @@ replied_ballot-seq : (layout : Layout) (me from : BrickId) (node : Node) (call :
 replied_ballot-seq layout me from node call reply None = refl
 replied_ballot-seq layout me from node call reply (Some p) = carried_ballot-seq layout me node p (voted layout.bricks p from call reply)
 
+-- the number of a brick's last call does not fall
+abbrev Counts : Node → NodeStep → Type 0
+Counts node step = node.seq ≤ step.node.seq
+
+as_before : (node later : Node) → later.seq ≡ node.seq → node.seq ≤ later.seq
+as_before node later same = omega (arith, same)
+
+read_begun-seq : (setting : Setting) (me : BrickId) (now : ℕ) (node : Node) (job : Job) (group : Option Group)
+    → Counts node (read_begun_in setting me now node job group)
+read_begun-seq setting me now node job None = omega arith
+read_begun-seq setting me now node job (Some group) =
+    cond_both (is_spent node) _ (read_begun_by setting me node job (coordinator_in group job.view me now node (job_ask job))) (Counts node)
+    (λ spent. omega arith) (λ free. omega arith)
+
+job_goes-seq : (setting : Setting) (me : BrickId) (now : ℕ) (node : Node) (job : Job) (next : JobNext) → Counts node (job_goes setting me now node job next)
+job_goes-seq setting me now node job (Reads attempt) =
+    read_begun-seq setting me now node (record job { attempt = attempt }) (group_kept setting.layout job.view.members job.group.0)
+job_goes-seq setting me now node job Finishes = omega arith
+job_goes-seq setting me now node job (GivesUp cause) = omega arith
+
+carried_read-seq : (setting : Setting) (me : BrickId) (now : ℕ) (node : Node) (known : ℕ) (job : Job) (c : Coordinator) (next : Next)
+    → Counts node (carried_read setting me now node known job c next)
+carried_read-seq setting me now node known job c (Ends answer seen stored) =
+    job_goes-seq setting me now (read_closed me node known c answer seen stored).node job (job_after c.group.stripes job.attempt (abort_cause answer))
+carried_read-seq setting me now node known job c next =
+    as_before node (carried_out setting me node known c next).node (carried_out-seq setting me node known c next)
+
+carried_for-seq : (setting : Setting) (me : BrickId) (now : ℕ) (node : Node) (known : ℕ) (c : Coordinator) (next : Next) (job : Option Job)
+    → Counts node (carried_for setting me now node known c next job)
+carried_for-seq setting me now node known c next None =
+    as_before node (carried_out setting me node known c next).node (carried_out-seq setting me node known c next)
+carried_for-seq setting me now node known c next (Some job) = carried_read-seq setting me now node known job c next
+
 replied_at-seq : (setting : Setting) (me : BrickId) (now : ℕ) (from : BrickId) (node : Node) (call : Call) (reply : Reply) (found : Option Coordinator)
-    → (replied_at setting me now from node call reply found).node.seq ≡ node.seq
+    → Counts node (replied_at setting me now from node call reply found)
 replied_at-seq setting me now from node call reply None =
-    replied_ballot-seq setting.layout me from (with_known node (known_after node.known reply)) call reply node.proposal
+    let known : Node = with_known node (known_after node.known reply) in
+    as_before node (replied_ballot setting.layout me from known call reply node.proposal).node
+    (replied_ballot-seq setting.layout me from known call reply node.proposal)
 replied_at-seq setting me now from node call reply (Some c) =
-    carried_out-seq setting me node (known_after node.known reply) c
-    (on_reply setting.layout.block setting.code (fresh_stamp me c.call.view now node.boot (known_after node.known reply)) c from call reply)
+    let known : ℕ = known_after node.known reply in
+    carried_for-seq setting me now node known c
+    (on_reply setting.layout.block setting.code (fresh_stamp me c.stamp.view now node.boot known) c from call reply) (job_reading node.job c.call.seq)
 
 heard-seq : (setting : Setting) (me : BrickId) (now : ℕ) (from : BrickId) (node : Node) (call : Call) (reply : Reply)
-    → (heard setting me now from node call reply).node.seq ≡ node.seq
+    → Counts node (heard setting me now from node call reply)
 unfolding replied
 heard-seq setting me now from node call reply =
     let step : NodeStep = replied_at setting me now from (with_round node reply) call reply (node.calls call.seq) in
-    cond_both (lists_fit setting.layout call reply) (replied setting me now from node call reply) _ (λ (s : NodeStep). s.node.seq ≡ node.seq)
+    cond_both (lists_fit setting.layout call reply) (replied setting me now from node call reply) _ (Counts node)
     (λ may.
-    taught_by-seq setting.layout.block call.group.0 step.node (view_counted setting.layout from node call reply)
-    ∙ replied_at-seq setting me now from (with_round node reply) call reply (node.calls call.seq))
-    (λ void. refl)
+    let more = replied_at-seq setting me now from (with_round node reply) call reply (node.calls call.seq) in
+    let same = taught_by-seq setting.layout.block call.group.0 step.node (view_counted setting.layout from node call reply) in
+    omega (arith, more, same))
+    (λ void. omega arith)
 
--- nor any message
+-- nor does it at any message
 received-seq : (setting : Setting) (me : BrickId) (now : ℕ) (node : Node) (from to : BrickId) (said : Message)
-    → (received setting me now node (record { from = from; to = to; message = said })).node.seq ≡ node.seq
+    → Counts node (received setting me now node (record { from = from; to = to; message = said }))
 unfolding received
-received-seq setting me now node from to (message.Request call request) = requested-seq setting me from node call request
+received-seq setting me now node from to (message.Request call request) =
+    as_before node (requested setting me from node call request).node (requested-seq setting me from node call request)
 received-seq setting me now node from to (message.Reply call reply) = heard-seq setting me now from node call reply
-received-seq setting me now node from to (message.Learn group view) = node_learnt-seq setting.layout node group view
-received-seq setting me now node from to (message.Synced group view) = refl
-received-seq setting me now node from to (message.Client ask) = refl
-received-seq setting me now node from to (message.ClientReply id answer) = refl
+received-seq setting me now node from to (message.Learn group view) =
+    as_before node (node_learnt setting.layout node group view) (node_learnt-seq setting.layout node group view)
+received-seq setting me now node from to (message.Synced group number) =
+    as_before node (node_synced setting.layout node group number) (node_synced-seq setting.layout node group number)
+received-seq setting me now node from to (message.Client ask) = omega arith
+received-seq setting me now node from to (message.ClientReply id answer) = omega arith
 
 -- an invocation makes it make one call at most
 began-seq : (setting : Setting) (me : BrickId) (now : ℕ) (node : Node) (ask : Ask) (group : Option Group)
@@ -166,7 +217,7 @@ served-keeps setting me serving Malformed now none = none
 served-keeps setting me serving Dropped now none = none
 served-keeps setting me serving (Handed packet) now none = λ k above.
     still_waiting-none (received setting me now serving.node packet).answers serving.waiting k
-    (none k (let same = received-seq setting me now serving.node packet.from packet.to packet.message in omega (arith, same)))
+    (none k (let more = received-seq setting me now serving.node packet.from packet.to packet.message in omega (arith, more)))
 served-keeps setting me serving (Asked client ask) now none =
     asked-keeps setting me serving now client ask (refusal_of setting.layout serving.node ask) none
 

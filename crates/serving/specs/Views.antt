@@ -3,6 +3,7 @@ use Rattle.std.specs.Prelude.{◌≡◌, ◌⊎◌, ℕ, true, List, Some}
 use Rattle.fab_base.specs.declared.member_lists.View.{View}
 use Rattle.fab_base.specs.Layouts.{Layout, Group, group_of, first_view}
 use Rattle.node.specs.Running.{Running, state_of, ImageShows}
+use Rattle.protocol.specs.Jobs.{Job}
 use Rattle.protocol.specs.Nodes.{no_calls}
 use Rattle.protocol.specs.Proposals.{Proposal}
 use Rattle.protocol.specs.Views.{is_view}
@@ -34,10 +35,17 @@ pub record IsProposalOf (layout : Layout) (p : Proposal) : Type 0 where
   pub view : IsViewOf layout group p.view
   pub under_way : IsUnderWay layout.bricks p
 
--- Of a brick that the image of a disk shows, that has no operation open, and whose proposal, if it has one, is of its layout, as one that was just started:
--- whatever comes in turns, each message that they send can be sent.
+-- a synchronisation of a brick of the layout, of a view whose lists of members may keep the group that it is about
+pub record IsJobOf (layout : Layout) (job : Job) : Type 0 where
+  pub group : Group
+  pub at : group_of layout job.group.0 ≡ Some group
+  pub view : IsViewOf layout group job.view
+
+-- Of a brick that the image of a disk shows, that has no operation open, and whose proposal and synchronisation, if it has them, are of its layout, as one that
+-- was just started: whatever comes in turns, each message that they send can be sent.
 abbrev pub SendsAll : {D : Type 0} → Running D → Type 0
 SendsAll node =
     (image : List ℕ) → ImageShows node.layout node.me (state_of node) image → (state_of node).calls ≡ no_calls
     → ((p : Proposal) → (state_of node).proposal ≡ Some p → IsProposalOf node.layout p)
+    → ((job : Job) → (state_of node).job ≡ Some job → IsJobOf node.layout job)
     → AllCanBeSent (coding node.layout) node.me (begun (state_of node))

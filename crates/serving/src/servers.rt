@@ -42,8 +42,8 @@ impl Server {
     pub fn new<D: Disk>(alloc: Global, node: &Node<D>) -> Server
         ensures server { IsServerOf result node.now }
         ensures begins { serving_of result node.now ≡ begun (state_of node.now) }
-        // Where an image of a disk shows the brick, no operation of it is open, and its proposal is of its layout, each message of the turns
-        // that follow can be sent.
+        // Where an image of a disk shows the brick, no operation of it is open, and its proposal and its synchronisation are of its layout, each
+        // message of the turns that follow can be sent.
         ensures spelled { SendsAll node.now }
     {
         Server {

@@ -8,6 +8,7 @@ ghost use Rattle.stripe_code.specs.Codes.{coding};
 ghost use Rattle.node.specs.Running.{state_of, IsSameBrick};
 ghost use Rattle.node.specs.States.{BeginsAs};
 ghost use Rattle.serving.specs.Clients.{waiting_in};
+ghost use Rattle.serving.specs.Faults.{KeepsDisk};
 ghost use Rattle.serving.specs.Ports.{ports_of};
 ghost use Rattle.serving.specs.Servings.{HasNoClient, served, waited, asked_by, stepped};
 ghost use Rattle.serving.specs.Servers.{KeepsAllButClients};
@@ -47,8 +48,7 @@ impl Server {
         ensures server { IsServerOf self.new node.new }
         ensures runs { result ≢ Err ServeFault.Disk → node.new.brick.halted ≡ false }
         ensures waiting { Stays (L.waiting link.old) (L.waiting link.new) }
-        ensures disk { Kept (D.faults node.old.brick.disk) (D.faults node.new.brick.disk) (D.sound node.old.brick.disk)
-            (D.sound node.new.brick.disk) (result ≡ Err ServeFault.Disk) }
+        ensures disk { KeepsDisk D.Disk node.old node.new (result ≡ Err ServeFault.Disk) }
         ensures link { Kept (L.faults link.old) (L.faults link.new) (L.sound link.old) (L.sound link.new) (result ≡ Err ServeFault.Link) }
     {
         match incoming {
@@ -105,8 +105,7 @@ impl Server {
         ensures server { IsServerOf self.new node.new }
         ensures runs { result ≢ Err ServeFault.Disk → node.new.brick.halted ≡ false }
         ensures waiting { Stays (L.waiting link.old) (L.waiting link.new) }
-        ensures disk { Kept (D.faults node.old.brick.disk) (D.faults node.new.brick.disk) (D.sound node.old.brick.disk)
-            (D.sound node.new.brick.disk) (result ≡ Err ServeFault.Disk) }
+        ensures disk { KeepsDisk D.Disk node.old node.new (result ≡ Err ServeFault.Disk) }
         ensures link { Kept (L.faults link.old) (L.faults link.new) (L.sound link.old) (L.sound link.new) (result ≡ Err ServeFault.Link) }
     {
         match node.on_message(now, packet) {

@@ -4,6 +4,7 @@ ghost use Rattle.std.specs.Prelude.{◌≡◌, ◌≢◌, ◌⊎◌, ◌≤◌, 
 ghost use Rattle.fab_io.specs.Ends.{Kept};
 ghost use Rattle.stripe_code.specs.Codes.{coding};
 ghost use Rattle.node.specs.Running.{state_of, IsSameBrick, LeavesBrick};
+ghost use Rattle.serving.specs.Faults.{KeepsDisk};
 ghost use Rattle.serving.specs.Serves.{outside, TakesTurn, IsServed};
 ghost use Rattle.serving.specs.Servings.{HasNoClient, begun};
 ghost use Rattle.serving.specs.Views.{serving_of, IsServerOf, SendsAll};
@@ -44,8 +45,7 @@ impl Server {
         ensures server { IsServerOf self.new node.new }
         ensures fresh { HasNoClient (serving_of self.new node.new) }
         ensures runs { result ≢ Err ServeFault.Disk → node.new.brick.halted ≡ false }
-        ensures disk { Kept (D.faults node.old.brick.disk) (D.faults node.new.brick.disk) (D.sound node.old.brick.disk)
-            (D.sound node.new.brick.disk) (result ≡ Err ServeFault.Disk) }
+        ensures disk { KeepsDisk D.Disk node.old node.new (result ≡ Err ServeFault.Disk) }
         ensures link { Kept (L.faults link.old) (L.faults link.new) (L.sound link.old) (L.sound link.new) (result ≡ Err ServeFault.Link) }
         ensures clock { Kept (C.faults clock.old) (C.faults clock.new) (C.sound clock.old) (C.sound clock.new) (result ≡ Err ServeFault.Clock) }
     {
@@ -63,8 +63,8 @@ impl Server {
 /// port it came from; a message from another port, and a client's answer, are dropped. A client's invocation may come from any port, and is
 /// answered there: at once where the brick refuses it, else when its operation ends. Each message that the brick sends goes to the port of
 /// its receiver as one datagram. One without a spelling, or for a port past 65,535, would not be sent: a brick that an image of a disk shows,
-/// that has no operation open when it is called, and whose proposal, if it has one, is of its layout, has none, whatever comes. What the
-/// brick reports of its proposal is told to nobody.
+/// that has no operation open when it is called, and whose proposal and synchronisation, if it has them, are of its layout, has none, whatever
+/// comes. What the brick reports of these two is told to nobody.
 ///
 /// # Errors
 ///
@@ -81,8 +81,8 @@ pub fn serve<D: Disk, L: Link, C: Clock>(
 ) -> Result<u64, ServeFault>
     ensures served { node.old.brick.halted ≡ false → IsServed (coding node.old.layout) node.old.me (state_of node.old) (state_of node.new)
         (outside (L.waiting link.old) (L.sent link.old) (C.coming clock.old)) (outside (L.waiting link.new) (L.sent link.new) (C.coming clock.new)) turns result }
-    // Where an image of a disk shows the brick, no operation of it is open, and its proposal is of its layout, each message can be sent, whatever
-    // datagrams come.
+    // Where an image of a disk shows the brick, no operation of it is open, and its proposal and synchronisation are of its layout, each message
+    // can be sent, whatever datagrams come.
     ensures spelled { node.old.brick.halted ≡ false → SendsAll node.old }
     ensures same { IsSameBrick node.old node.new }
     // A brick that is not halted is not, unless its disk failed.
@@ -92,8 +92,7 @@ pub fn serve<D: Disk, L: Link, C: Clock>(
         → LeavesBrick node.new.layout node.new.me (state_of node.new) (D.may_leave node.new.brick.disk) }
     ensures halted { node.old.brick.halted ≡ true → (result ≡ Err ServeFault.Halted) × (node.new ≡ node.old) × (link.new ≡ link.old) × (clock.new ≡ clock.old) }
     ensures only_halted { result ≡ Err ServeFault.Halted → node.old.brick.halted ≡ true }
-    ensures disk { Kept (D.faults node.old.brick.disk) (D.faults node.new.brick.disk) (D.sound node.old.brick.disk)
-        (D.sound node.new.brick.disk) (result ≡ Err ServeFault.Disk) }
+    ensures disk { KeepsDisk D.Disk node.old node.new (result ≡ Err ServeFault.Disk) }
     ensures link { Kept (L.faults link.old) (L.faults link.new) (L.sound link.old) (L.sound link.new) (result ≡ Err ServeFault.Link) }
     ensures clock { Kept (C.faults clock.old) (C.faults clock.new) (C.sound clock.old) (C.sound clock.new) (result ≡ Err ServeFault.Clock) }
     // Over sound things a brick that is not halted reaches its turns, or finds no memory.
@@ -122,8 +121,7 @@ fn serve_turns<D: Disk, L: Link, C: Clock>(
     ensures spelled { SendsAll node.old }
     ensures same { IsSameBrick node.old node.new }
     ensures runs { result ≢ Err ServeFault.Disk → node.new.brick.halted ≡ false }
-    ensures disk { Kept (D.faults node.old.brick.disk) (D.faults node.new.brick.disk) (D.sound node.old.brick.disk)
-        (D.sound node.new.brick.disk) (result ≡ Err ServeFault.Disk) }
+    ensures disk { KeepsDisk D.Disk node.old node.new (result ≡ Err ServeFault.Disk) }
     ensures link { Kept (L.faults link.old) (L.faults link.new) (L.sound link.old) (L.sound link.new) (result ≡ Err ServeFault.Link) }
     ensures clock { Kept (C.faults clock.old) (C.faults clock.new) (C.sound clock.old) (C.sound clock.new) (result ≡ Err ServeFault.Clock) }
 {
@@ -149,8 +147,7 @@ fn take_turns<D: Disk, L: Link, C: Clock>(
         (outside (L.waiting link.old) (L.sent link.old) (C.coming clock.old)) (outside (L.waiting link.new) (L.sent link.new) (C.coming clock.new)) turns result }
     ensures same { IsSameBrick node.old node.new }
     ensures runs { result ≢ Err ServeFault.Disk → node.new.brick.halted ≡ false }
-    ensures disk { Kept (D.faults node.old.brick.disk) (D.faults node.new.brick.disk) (D.sound node.old.brick.disk)
-        (D.sound node.new.brick.disk) (result ≡ Err ServeFault.Disk) }
+    ensures disk { KeepsDisk D.Disk node.old node.new (result ≡ Err ServeFault.Disk) }
     ensures link { Kept (L.faults link.old) (L.faults link.new) (L.sound link.old) (L.sound link.new) (result ≡ Err ServeFault.Link) }
     ensures clock { Kept (C.faults clock.old) (C.faults clock.new) (C.sound clock.old) (C.sound clock.new) (result ≡ Err ServeFault.Clock) }
 {

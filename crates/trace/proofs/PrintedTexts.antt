@@ -290,6 +290,7 @@ speaks-empty (line.Tick b) = speaks-none
 speaks-empty (line.Crash b) = speaks-none
 speaks-empty (line.Start b fault) = speaks-none
 speaks-empty (line.Propose b g members) = speaks-none
+speaks-empty (line.Sync b g) = speaks-none
 speaks-empty (line.Calm n bricks) = speaks-idle
 
 speaks-events_of : (setting : Setting) (w : World) (l : Line) (events : List Event) → Speaks (line_text setting w l events)

@@ -11,7 +11,8 @@ use fab_io::{Sink, Source};
 use lines::{LineReader, content_of};
 use replay::{Halt, RunResult, write};
 use std::alloc::Global;
-use trace_runs::{Drawing, Journal, Text, histories_of};
+use trace_pictures::Drawing;
+use trace_runs::{Journal, Text, histories_of};
 use world::World;
 
 /// The most lines that are drawn.

@@ -111,7 +111,7 @@ fn key_of(coordinator: BrickId, call: &Call) -> CallKey {
 }
 
 /// The place of the operation, or of the message, of a number.
-pub(crate) fn place_of(number: u64) -> usize {
+pub fn place_of(number: u64) -> usize {
     (number as usize).wrapping_sub(1)
 }
 

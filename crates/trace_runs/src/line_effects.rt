@@ -93,7 +93,7 @@ pub struct LineEffects {
 }
 
 /// Whether a brick is up.
-pub(crate) fn is_up(world: &World, brick: BrickId) -> bool {
+pub fn is_up(world: &World, brick: BrickId) -> bool {
     world.log_of(brick, GroupId(0), StripeNo(0)).is_some()
 }
 

@@ -59,7 +59,7 @@ fn set(registers: &mut Vec<u8>, from: usize, bytes: &[u8]) {
 }
 
 /// Changes a stripe's registers as an operation does. A block has so many bytes.
-pub(crate) fn change(op: Option<&Op>, block: usize, registers: &mut Vec<u8>) {
+pub fn change(op: Option<&Op>, block: usize, registers: &mut Vec<u8>) {
     match op {
         Some(Op::WriteBlock(j, bytes)) => {
             let from = usize::from(*j).saturating_mul(block);

@@ -40,7 +40,7 @@ fn reply_word(reply: &Reply) -> &'static str {
 }
 
 /// A message's word.
-pub(crate) fn word_of(message: &Message) -> &'static str {
+pub fn word_of(message: &Message) -> &'static str {
     match message {
         Message::Request(_, request) => request_word(request),
         Message::Reply(_, reply) => reply_word(reply),
@@ -77,7 +77,7 @@ fn request_kind(request: &Request) -> &'static str {
 }
 
 /// The kind that a message is drawn as.
-pub(crate) fn kind_of(message: &Message) -> &'static str {
+pub fn kind_of(message: &Message) -> &'static str {
     match message {
         Message::Request(_, request) => request_kind(request),
         Message::Reply(_, reply) if is_refusal(reply) => "refusal",

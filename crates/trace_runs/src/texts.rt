@@ -116,7 +116,7 @@ impl Text {
     }
 
     /// Adds the first characters of a label, at most so many, with `?` for what is no printable ASCII or has a meaning in SVG.
-    pub(crate) fn put_label(&mut self, label: &[u8], most: usize) {
+    pub fn put_label(&mut self, label: &[u8], most: usize) {
         let shown = label.len().min(most);
         for byte in &label[..shown] {
             if self.text.push(shown_as(*byte)).is_err() {
@@ -126,23 +126,23 @@ impl Text {
     }
 
     /// Adds all pieces of another text.
-    pub(crate) fn put_text(&mut self, other: &Text) {
+    pub fn put_text(&mut self, other: &Text) {
         self.put(other.pieces());
         self.has_gap = self.has_gap || other.has_gap;
     }
 
     /// Notes that a piece is missing.
-    pub(crate) fn note_gap(&mut self) {
+    pub fn note_gap(&mut self) {
         self.has_gap = true;
     }
 
     /// Takes all pieces away. A gap stays noted.
-    pub(crate) fn clear(&mut self) {
+    pub fn clear(&mut self) {
         self.text.clear();
     }
 
     /// The pieces, but those that found no memory.
-    pub(crate) fn pieces(&self) -> &str {
+    pub fn pieces(&self) -> &str {
         self.text.as_str()
     }
 

@@ -2,7 +2,7 @@
 //! the view before alone (Saito et al., "FAB: Building Distributed Enterprise Disk Arrays from Commodity Components", ASPLOS 2004, section 5). Then the view
 //! before is needed no more.
 //!
-//! A job says which stripe is read next, and how all of it ends. The reads are its brick's. No program runs it yet.
+//! A job says which stripe is read next, and how all of it ends. The reads are its brick's.
 #![tactic(auto)]
 
 pub mod answers;

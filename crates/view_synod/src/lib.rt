@@ -2,7 +2,7 @@
 //! the view, as FAB changes views (Saito et al., "FAB: Building Distributed Enterprise Disk Arrays from Commodity Components", ASPLOS 2004, section 5).
 //!
 //! A brick that wants a successor proposes a list of members under a ballot. It has a quorum of the members promise to the ballot, and then accept a list under
-//! it: its own, or the one that some member accepted last. No program runs it yet.
+//! it: its own, or the one that some member accepted last.
 #![tactic(auto)]
 
 pub mod acceptors;

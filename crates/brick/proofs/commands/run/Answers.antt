@@ -11,11 +11,16 @@ use Rattle.brick.proofs.commands.run.Goals as goal
 pub returns-in-Ok-clause-runs : goal.returns-in-Ok-clause-runs
 returns-in-Ok-clause-runs g c = inl (refl, (rw c.in-Ok.is at c.host-bricks.ensures.hosts))
 
-pub returns-in-Ok-clause-same : goal.returns-in-Ok-clause-same
-returns-in-Ok-clause-same g c = same_hosts (views g.D.Disk g.L.Link g.C.Clock) _ _ _ _ _ _ _ _ _ _ (rw c.in-Ok.is at c.host-bricks.ensures.hosts)
-
-pub returns-in-Ok-clause-runs_still : goal.returns-in-Ok-clause-runs_still
-returns-in-Ok-clause-runs_still g c = λ run not. run_hosts (views g.D.Disk g.L.Link g.C.Clock) _ _ _ _ _ _ _ _ _ _ run (rw c.in-Ok.is at c.host-bricks.ensures.hosts)
+pub returns-in-Ok-clause-keeps : goal.returns-in-Ok-clause-keeps
+returns-in-Ok-clause-keeps g c =
+    let v = views g.D.Disk g.L.Link g.C.Clock in
+    let ran = c.host-bricks.ensures in
+    record {
+      same = same_hosts v _ _ _ _ _ _ _ _ _ _ (rw c.in-Ok.is at ran.hosts);
+      runs_still = λ run not. run_hosts v _ _ _ _ _ _ _ _ _ _ run (rw c.in-Ok.is at ran.hosts);
+      bricks = ran.bricks.stays;
+      link = ran.link.stays;
+    }
 
 pub returns-in-Ok-clause-sink : goal.returns-in-Ok-clause-sink
 returns-in-Ok-clause-sink g c = Kept-narrower (λ e. absurd (omega arith)) c.host-bricks.ensures.sink
@@ -32,11 +37,13 @@ returns-in-Err g c =
         rose_by (views g.D.Disk g.L.Link g.C.Clock) c.in-Err.fault _ _ _ _ _ _
             (λ e run. rose_until (views g.D.Disk g.L.Link g.C.Clock) _ _ _ _ _ _ _ _ _ _ c.in-Err.fault e run stopped) (λ e. ran.link.rose (c.in-Err.is ∙ ap (λ z. Err z) e)) (λ e. ran.source.rose (c.in-Err.is ∙ ap (λ z. Err z) e)),
       );
-      same = same_until (views g.D.Disk g.L.Link g.C.Clock) _ _ _ _ _ _ _ _ _ _ c.in-Err.fault stopped;
-      runs_still = λ run not. run_until (views g.D.Disk g.L.Link g.C.Clock) _ _ _ _ _ _ _ _ _ _ run c.in-Err.fault
-          (λ e. not (c.ending_by.ensures ∙ ap ending_by e)) stopped;
-      bricks = ran.bricks.stays;
-      link = ran.link.stays;
+      keeps = record {
+        same = same_until (views g.D.Disk g.L.Link g.C.Clock) _ _ _ _ _ _ _ _ _ _ c.in-Err.fault stopped;
+        runs_still = λ run not. run_until (views g.D.Disk g.L.Link g.C.Clock) _ _ _ _ _ _ _ _ _ _ run c.in-Err.fault
+            (λ e. not (c.ending_by.ensures ∙ ap ending_by e)) stopped;
+        bricks = ran.bricks.stays;
+        link = ran.link.stays;
+      };
       source = ran.source.stays;
       sink = Kept-narrower (λ e. c.in-Err.is ∙ ap (λ z. Err z) (six_is_sink c.in-Err.fault (ap status_of (sym c.ending_by.ensures) ∙ e))) ran.sink;
       done = λ bricks link source sink. subst IsDone (sym c.ending_by.ensures)

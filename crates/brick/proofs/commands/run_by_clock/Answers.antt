@@ -134,15 +134,15 @@ returns g c =
           regains = regains_told _ _ _ c.keep_clock-2.ensures.holds;
         },
       );
-      same = ran.ensures.same;
-      runs_still = ran.ensures.runs_still;
+      same = ran.ensures.keeps.same;
+      runs_still = ran.ensures.keeps.runs_still;
       knows = clock_borrowed _ ran.result.0.clock _ _ _ _ clock_lent
           (link_borrowed _ 0 ran.result.1 _ _ _ _ link_lent ran.ensures.knows (regains_told _ _ _ c.keep_link.ensures.holds))
           (regains_told _ _ _ c.keep_clock-2.ensures.holds);
       stays = λ s sound.
-          let bricks = ran.ensures.bricks (sound, clock.gives s) in
+          let bricks = ran.ensures.keeps.bricks (sound, clock.gives s) in
           let standing = clock.kept.stays s in (
-            c.keep_clock-2.ensures.sound bricks.1 (c.keep_link.ensures.sound (ran.ensures.link (link.gives standing)) (ran.ensures.stays (link.kept.stays standing))),
+            c.keep_clock-2.ensures.sound bricks.1 (c.keep_link.ensures.sound (ran.ensures.keeps.link (link.gives standing)) (ran.ensures.stays (link.kept.stays standing))),
             bricks.0,
           );
       sink = ran.ensures.sink;

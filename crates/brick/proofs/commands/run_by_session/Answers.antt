@@ -7,7 +7,7 @@ use Rattle.brick.specs.Views.{session_of}
 use Rattle.brick.proofs.Knowing.{session_borrowed, session_known, knows_same}
 use Rattle.brick.proofs.Lending.{lends_told, regains_told}
 use Rattle.brick.proofs.Refusing.{err_knows, refused_by, refused_done}
-use Rattle.brick.proofs.SameBricks.{same_refl}
+use Rattle.brick.proofs.SameBricks.{keeps_none}
 use Rattle.brick.proofs.commands.run_by_session.Goals as goal
 
 pub keep_session-requires : goal.keep_session-requires
@@ -27,12 +27,9 @@ returns-in-Err g c =
         refl,
         refl,
       );
-      same = same_refl c.args.bricks.bricks.bricks;
-      runs_still = λ run not. run;
+      keeps = keeps_none _ _ _ c.args.bricks c.args.link c.refusal.result;
       knows = err_knows _ _ _ _ fault said.lends;
       stays = said.kept.stays;
-      bricks = λ sound. sound;
-      link = λ sound. sound;
       done = λ s sound link has. subst IsDone (sym c.refusal.ensures)
           (refused_done (host.holds c.args.host.now) fault has (λ e. said.kept.only s (ap (λ z. Err z) e)) (λ h p q. p q));
     }
@@ -60,12 +57,9 @@ returns g c =
           regains = regains_told _ _ _ c.keep_session.ensures.holds;
         },
       );
-      same = ran.ensures.same;
-      runs_still = ran.ensures.runs_still;
+      keeps = ran.ensures.keeps;
       knows = session_borrowed _ c.args.port back _ _ _ _ (lends_told _ _ _ _ _ _ c.in-Ok.ensures.lends) (knows_same _)
           (regains_told _ _ _ c.keep_session.ensures.holds);
       stays = λ s. c.keep_session.ensures.sound (ran.ensures.source (gives s).0) (ran.ensures.sink (gives s).1) (c.in-Ok.ensures.kept.stays s);
-      bricks = ran.ensures.bricks;
-      link = ran.ensures.link;
       done = λ s sound link has. ran.ensures.done sound link (gives s).0 (gives s).1;
     }

@@ -8,7 +8,7 @@ use Rattle.brick.specs.Locals.{standard_input}
 use Rattle.brick.proofs.Knowing.{source_borrowed, source_known, knows_same}
 use Rattle.brick.proofs.Lending.{lends_told, regains_told}
 use Rattle.brick.proofs.Refusing.{err_knows, refused_by, refused_done, refused_not_sink}
-use Rattle.brick.proofs.SameBricks.{same_refl}
+use Rattle.brick.proofs.SameBricks.{keeps_none}
 use Rattle.brick.proofs.commands.run_by_source.Goals as goal
 
 pub keep_source-requires : goal.keep_source-requires
@@ -29,12 +29,9 @@ returns-in-Err g c =
         refl,
         refl,
       );
-      same = same_refl c.args.bricks.bricks.bricks;
-      runs_still = λ run not. run;
+      keeps = keeps_none _ _ _ c.args.bricks c.args.link c.refusal.result;
       knows = err_knows _ _ _ _ fault said.lends;
       stays = said.kept.stays;
-      bricks = λ sound. sound;
-      link = λ sound. sound;
       sink = Kept-narrower (λ e. absurd (refused_not_sink fault (ap status_of (sym c.refusal.ensures) ∙ e))) (Kept-refl _ _);
       done = λ s sound link sink has. subst IsDone (sym c.refusal.ensures)
           (refused_done (host.holds c.args.host.now) fault has (λ e. said.kept.only s (ap (λ z. Err z) e)) (λ h p q. p q));
@@ -61,13 +58,10 @@ returns g c =
           regains = regains_told _ _ _ c.keep_source.ensures.holds;
         },
       );
-      same = ran.ensures.same;
-      runs_still = ran.ensures.runs_still;
+      keeps = ran.ensures.keeps;
       knows = source_borrowed _ standard_input ran.new.source _ _ _ _ (lends_told _ _ _ _ _ _ c.in-Ok.ensures.lends) (knows_same _)
           (regains_told _ _ _ c.keep_source.ensures.holds);
       stays = λ s. c.keep_source.ensures.sound (ran.ensures.source (c.in-Ok.ensures.gives s)) (c.in-Ok.ensures.kept.stays s);
-      bricks = ran.ensures.bricks;
-      link = ran.ensures.link;
       sink = ran.ensures.sink;
       done = λ s sound link sink has. ran.ensures.done sound link (c.in-Ok.ensures.gives s) sink;
     }

@@ -19,12 +19,9 @@ returns-in-Commands g c =
       hosts = subst (λ (t : Task). DoesTask (streams g.H.Source.Source g.H.Input.Source g.H.Output.Sink) (views g.H.Disk.Disk g.H.Link.Link g.H.Clock.Clock)
           c.args.layout.now t before after c.args.bricks ran.result.0 c.args.link ran.result.1 (g.K.Sink.told c.args.out.now) (g.K.Sink.told ran.new.out)
           ran.result.2) (sym c.in-Commands.is) ran.ensures.hosts;
-      same = ran.ensures.same;
-      runs_still = ran.ensures.runs_still;
+      keeps = ran.ensures.keeps;
       knows = ran.ensures.knows;
       stays = ran.ensures.stays;
-      bricks = ran.ensures.bricks;
-      link = ran.ensures.link;
       sink = Kept-narrower (λ e. subst (λ (t : Task). FailsOut t ran.result.2) c.in-Commands.is e) ran.ensures.sink;
       done = λ s sound link sink has. ran.ensures.done s sound link sink
           (has_as {P = HasTask (Commands c.in-Commands.turns)} {Q = HasCommands} (host.holds c.args.host.now)
@@ -41,12 +38,9 @@ returns-in-Session g c =
     record {
       hosts = subst (λ (t : Task). DoesTask (streams g.H.Source.Source g.H.Input.Source g.H.Output.Sink) (views g.H.Disk.Disk g.H.Link.Link g.H.Clock.Clock)
           c.args.layout.now t before after c.args.bricks ran.result.0 c.args.link ran.result.1 out out ran.result.2) (sym c.in-Session.is) (ran.ensures.hosts, refl);
-      same = ran.ensures.same;
-      runs_still = ran.ensures.runs_still;
+      keeps = ran.ensures.keeps;
       knows = ran.ensures.knows;
       stays = ran.ensures.stays;
-      bricks = ran.ensures.bricks;
-      link = ran.ensures.link;
       sink = Kept-narrower (λ e. absurd (subst (λ (t : Task). FailsOut t ran.result.2) c.in-Session.is e)) (Kept-refl _ _);
       done = λ s sound link sink has. ran.ensures.done s sound link
           (has_as {P = HasTask (Session c.in-Session.port c.in-Session.turns)} {Q = HasSession c.in-Session.port} (host.holds c.args.host.now)

@@ -10,11 +10,16 @@ use Rattle.brick.proofs.commands.serve.Goals as goal
 pub returns-in-Ok-clause-runs : goal.returns-in-Ok-clause-runs
 returns-in-Ok-clause-runs g c = inl (c.in-Ok.end, refl, (rw c.in-Ok.is at c.serve_session-bricks.ensures.serves))
 
-pub returns-in-Ok-clause-same : goal.returns-in-Ok-clause-same
-returns-in-Ok-clause-same g c = same_session (views g.D.Disk g.L.Link g.C.Clock) _ _ _ _ c.in-Ok.end (rw c.in-Ok.is at c.serve_session-bricks.ensures.serves)
-
-pub returns-in-Ok-clause-runs_still : goal.returns-in-Ok-clause-runs_still
-returns-in-Ok-clause-runs_still g c = λ run not. run_session (views g.D.Disk g.L.Link g.C.Clock) _ _ _ _ c.in-Ok.end run (rw c.in-Ok.is at c.serve_session-bricks.ensures.serves)
+pub returns-in-Ok-clause-keeps : goal.returns-in-Ok-clause-keeps
+returns-in-Ok-clause-keeps g c =
+    let v = views g.D.Disk g.L.Link g.C.Clock in
+    let ran = c.serve_session-bricks.ensures in
+    record {
+      same = same_session v _ _ _ _ c.in-Ok.end (rw c.in-Ok.is at ran.serves);
+      runs_still = λ run not. run_session v _ _ _ _ c.in-Ok.end run (rw c.in-Ok.is at ran.serves);
+      bricks = ran.bricks.stays;
+      link = ran.link.stays;
+    }
 
 pub returns-in-Err : goal.returns-in-Err
 returns-in-Err g c =
@@ -31,10 +36,12 @@ returns-in-Err g c =
             (λ e. ran.source.rose (c.in-Err.is ∙ ap (λ z. Err z) e)),
         λ e. ran.sink.rose (c.in-Err.is ∙ ap (λ z. Err z) e),
       );
-      same = same_session_until v _ _ _ _ fault stopped;
-      runs_still = λ run not. run_session_until v _ _ _ _ fault run (λ e. not (c.ending_by.ensures ∙ ap ending_by e)) stopped;
-      bricks = ran.bricks.stays;
-      link = ran.link.stays;
+      keeps = record {
+        same = same_session_until v _ _ _ _ fault stopped;
+        runs_still = λ run not. run_session_until v _ _ _ _ fault run (λ e. not (c.ending_by.ensures ∙ ap ending_by e)) stopped;
+        bricks = ran.bricks.stays;
+        link = ran.link.stays;
+      };
       source = ran.source.stays;
       sink = ran.sink.stays;
       done = λ bricks link source sink. subst IsDone (sym c.ending_by.ensures)

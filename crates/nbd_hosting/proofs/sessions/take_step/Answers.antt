@@ -25,21 +25,21 @@ returns-in_err-next-clause-serves g c =
     q.0 q.1 q.2
     (ServesOn-idle g.B.Bricks.takes g.B.Bricks.stops c.args.layout.now now c.args.session.now c.next.new.self client.turns client.end.sent NoMemory tt)
 
-pub returns-in_err-send-in-Send-clause-serves : goal.returns-in_err-send-in-Send-clause-serves
-returns-in_err-send-in-Send-clause-serves g c =
-    let q = err_from_is_err_and c.from_residual-in_err-send-in-Send.result c.from_residual-in_err-send-in-Send.ensures.1 in
+pub returns-in_err-write-in-Send-clause-serves : goal.returns-in_err-write-in-Send-clause-serves
+returns-in_err-write-in-Send-clause-serves g c =
+    let q = err_from_is_err_and c.from_residual-in_err-write-in-Send.result c.from_residual-in_err-write-in-Send.ensures.1 in
     let client = c.args.client.now in
     let now = outside (g.S.Source.told c.args.source.now) (told (g.L.Link.waiting client.end.link) (g.L.Link.sent client.end.link)) client.bricks
     (g.K.Sink.told c.args.sink.now) in
-    let met = c.in_err-send-in-Send.field-0.0 in
-    at_exit c.from_residual-in_err-send-in-Send.result met
-    (ServesOn g.B.Bricks.takes g.B.Bricks.stops c.args.layout.now now (record now { sink = g.K.Sink.told c.send.new.sink }) c.args.session.now c.next.new.self
+    let met = c.in_err-write-in-Send.field-0.0 in
+    at_exit c.from_residual-in_err-write-in-Send.result met
+    (ServesOn g.B.Bricks.takes g.B.Bricks.stops c.args.layout.now now (record now { sink = g.K.Sink.told c.write.new.sink }) c.args.session.now c.next.new.self
     client.turns client.turns client.end.sent client.end.sent)
     q.0 q.1 q.2
     (ServesOn-unsent g.B.Bricks.takes g.B.Bricks.stops c.args.layout.now now c.args.session.now c.next.new.self client.turns client.end.sent
-    (g.K.Sink.told c.send.new.sink) c.in-Send.bytes met (sym c.in-Send.is ∙ c.in_ok-next.ensures.step) c.in_ok-next.ensures.after
-    (subst (AppendsFront (g.K.Sink.told c.args.sink.now) (g.K.Sink.told c.send.new.sink)) c.as_slice.ensures.value c.in_err-send-in-Send.ensures.content)
-    c.in_err-send-in-Send.ensures.only)
+    (g.K.Sink.told c.write.new.sink) c.in-Send.bytes met (sym c.in-Send.is ∙ c.in_ok-next.ensures.step) c.in_ok-next.ensures.after
+    (subst (AppendsFront (g.K.Sink.told c.args.sink.now) (g.K.Sink.told c.write.new.sink)) c.as_slice.ensures.value c.in_err-write-in-Send.ensures.content)
+    c.in_err-write-in-Send.ensures.only)
 
 pub answer_command-requires-clause-asks : goal.answer_command-requires-clause-asks
 answer_command-requires-clause-asks g c =
@@ -59,14 +59,14 @@ returns-in-Need-clause-serves g c =
     c.read_part.new.session client.turns c.read_part.new.turns client.end.sent c.read_part.result (sym c.in-Need.is ∙ c.in_ok-next.ensures.step)
     c.in_ok-next.ensures.after c.read_part.ensures.reads c.read_part.ensures.within
 
-pub returns-in_ok-send-in-Send-clause-serves : goal.returns-in_ok-send-in-Send-clause-serves
-returns-in_ok-send-in-Send-clause-serves g c =
+pub returns-in_ok-write-in-Send-clause-serves : goal.returns-in_ok-write-in-Send-clause-serves
+returns-in_ok-write-in-Send-clause-serves g c =
     let client = c.args.client.now in
     let now = outside (g.S.Source.told c.args.source.now) (told (g.L.Link.waiting client.end.link) (g.L.Link.sent client.end.link)) client.bricks
     (g.K.Sink.told c.args.sink.now) in
     ServesOn-sent g.B.Bricks.takes g.B.Bricks.stops c.args.layout.now now c.args.session.now c.next.new.self client.turns client.end.sent
-    (g.K.Sink.told c.send.new.sink) c.in-Send.bytes (sym c.in-Send.is ∙ c.in_ok-next.ensures.step) c.in_ok-next.ensures.after c.in_ok-next.ensures.within
-    (subst (Appends (g.K.Sink.told c.args.sink.now) (g.K.Sink.told c.send.new.sink)) c.as_slice.ensures.value c.in_ok-send-in-Send.ensures.content)
+    (g.K.Sink.told c.write.new.sink) c.in-Send.bytes (sym c.in-Send.is ∙ c.in_ok-next.ensures.step) c.in_ok-next.ensures.after c.in_ok-next.ensures.within
+    (subst (Appends (g.K.Sink.told c.args.sink.now) (g.K.Sink.told c.write.new.sink)) c.as_slice.ensures.value c.in_ok-write-in-Send.ensures.content)
 
 pub returns-in-Ask-clause-serves : goal.returns-in-Ask-clause-serves
 returns-in-Ask-clause-serves g c =

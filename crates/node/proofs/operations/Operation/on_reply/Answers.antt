@@ -91,3 +91,18 @@ returns-in-End-clause-few c =
     let sent = ap (λ (outs : Outcome). length outs.messages) c.end.ensures in
     let few = few_collects c.call-call.result (stored_in (shown_of after).news (coordinator_of after).stamp) (coordinator_of after).group.members in
     omega (arith, c.room_to_collect.ensures.few, same)
+
+pub returns-in-Wait-clause-group : goal.returns-in-Wait-clause-group
+returns-in-Wait-clause-group c =
+    (answers_as c.args.fresh (shown_of c.args.self.now) c.args.from c.args.message.now _ Wait (shown_of c.take_reply.new.self) c.in-Wait.is
+    c.in_ok-take_reply.ensures.answers).stays.group
+
+pub returns-in-Send-clause-group : goal.returns-in-Send-clause-group
+returns-in-Send-clause-group c =
+    (answers_as c.args.fresh (shown_of c.args.self.now) c.args.from c.args.message.now _ (Send c.in-Send.messages) (shown_of c.take_reply.new.self) c.in-Send.is
+    c.in_ok-take_reply.ensures.answers).stays.group
+
+pub returns-in-End-clause-group : goal.returns-in-End-clause-group
+returns-in-End-clause-group c =
+    (answers_as c.args.fresh (shown_of c.args.self.now) c.args.from c.args.message.now _ (End c.in-End.answer) (shown_of c.take_reply.new.self) c.in-End.is
+    c.in_ok-take_reply.ensures.answers).stays.group

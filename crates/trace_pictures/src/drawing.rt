@@ -4,17 +4,16 @@ use crate::figures::{
     draw_all_names, draw_bars, draw_delivery, draw_happening, draw_learnt, draw_lines, draw_mark,
     draw_power, draw_sent, draw_stub, draw_title, line_of, put_bar, top_of, width_of,
 };
-use crate::journals::{Journal, Operation, number_at, place_of};
-use crate::line_effects::{DeliveryOutcome, LineEffects, packet_at};
-use crate::operation_texts::{answer_of, change, op_of};
 use crate::pictures::Picture;
-use crate::stripe_histories::StripeHistory;
-use crate::texts::Text;
 use fab_base::{BrickId, GroupId, NoMem};
 use layout::{Group, Layout};
 use messages::{Call, Message, Packet, Request};
 use reg_model::{Happening, Mark};
 use std::alloc::Global;
+use trace_runs::{
+    DeliveryOutcome, Journal, LineEffects, Operation, StripeHistory, Text, answer_of, change,
+    number_at, op_of, packet_at, place_of,
+};
 use world::World;
 
 /// A run that is drawn, a line of its schedule after another. Where a row finds no memory to be noted, the picture is never whole.

@@ -1,14 +1,10 @@
 //! What a picture of a run is made of, each drawn at its place: time runs down, a row for each step, and each brick has a line.
 
-use crate::journals::number_at;
-use crate::line_effects::{LearntView, is_up};
-use crate::operation_texts::{put_answer, put_op};
-use crate::packets::{kind_of, word_of};
 use crate::pictures::{Picture, TRACK};
-use crate::texts::Text;
 use fab_base::{Answer, BrickId};
 use messages::Packet;
 use reg_model::Mark;
+use trace_runs::{LearntView, Text, is_up, kind_of, number_at, put_answer, put_op, word_of};
 use world::World;
 
 /// How far the numbers of the schedule's lines stand from the left.

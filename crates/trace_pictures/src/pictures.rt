@@ -1,7 +1,7 @@
 //! A picture in SVG 1.1. All places are in pixels, from the upper left corner.
 
-use crate::texts::Text;
 use std::alloc::Global;
+use trace_runs::Text;
 
 /// How wide so many characters are drawn.
 fn width_of_characters(count: usize) -> u64 {

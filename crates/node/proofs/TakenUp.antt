@@ -1,0 +1,72 @@
+-- What a synchronisation does next is taken up by its brick.
+use Rattle.std.proofs.Common.{◌≡◌, ◌≤◌, ◌<◌, ◌+◌, ◌++◌, ℕ, Bool, true, false, cond, if◌then◌else◌, nat_eq, is_some, List, [], ◌∷◌, Option, Some, None, refl, sym, ◌∙◌, ap, subst, arith}
+use Rattle.std.specs.Option.{option_map}
+use Rattle.std.specs.Ordering.{nat_cmp}
+use Rattle.std.specs.BTreeMap.{BTreeMap, get}
+use Rattle.std.proofs.lemmas.List.{append-nil, append_assoc}
+use Rattle.fab_base.specs.declared.identities.BrickId.{BrickId}
+use Rattle.fab_base.specs.declared.identities.GroupId.{GroupId}
+use Rattle.fab_base.specs.declared.member_lists.View.{View}
+use Rattle.fab_base.specs.Layouts.{Layout}
+use Rattle.messages.specs.declared.packets.Message.{Message}
+use Rattle.protocol.specs.declared.tellings.Told.{Told}
+use Rattle.protocol.specs.declared.tellings.Told.TheVariants.{Began}
+use Rattle.protocol.specs.declared.tellings.Report.{Report}
+use Rattle.protocol.specs.Jobs.{begun_job, synced_answer}
+use Rattle.protocol.specs.Views.{Learnt}
+use Rattle.protocol.specs.Nodes.{Node, read_begun, reporting, synced_at}
+use Rattle.stripe_code.specs.Codes.{coding}
+use Rattle.coord_phase.specs.Messages.{packets_from}
+use Rattle.node.specs.declared.jobs.Followed.{Followed}
+use Rattle.node.specs.declared.jobs.Followed.TheVariants as followed
+use Rattle.node.specs.declared.jobs.OpenJob.{OpenJob}
+use Rattle.node.specs.declared.open_calls.OpenCalls.{OpenCalls}
+use Rattle.node.specs.declared.open_work.OpenWork.{OpenWork}
+use Rattle.node.specs.declared.operations.Operation.{Operation}
+use Rattle.node.specs.declared.outs.Tellings.{Tellings}
+use Rattle.node.specs.declared.tasks.Tasks.{Tasks}
+use Rattle.node.specs.Jobs.{IsOpenJobOf, begins_sync}
+use Rattle.node.specs.Operations.{coordinator_of}
+use Rattle.node.specs.Outcomes.{Outcome, told_list}
+use Rattle.node.specs.States.{AreSameCalls, KeptParts, StepsAs, parts_with, state_in, state_with}
+use Rattle.node.specs.Tasks.{AreSameTasks, AreTasksOf, IsJobAt, read_seq, tasks_in}
+use Rattle.node.proofs.Hearing.{none_of}
+
+-- what is told before, and the call that begins
+pub told_begun : (told : Tellings) (call : Told) → told.begun ≡ None
+    → told_list (record { version = told.version; ended = told.ended; begun = Some call }) ≡ told_list told ++ (call ∷ [])
+told_begun told call none = by told.version told.ended ∙ ap (λ (b : Option Told). told_list (record { version = told.version; ended = told.ended; begun = b }) ++ (call ∷ [])) (sym none)
+  where
+    by : (version ended : Option Told) → told_list (record { version = version; ended = ended; begun = Some call })
+        ≡ told_list (record { version = version; ended = ended; begun = None }) ++ (call ∷ [])
+    by None None = refl
+    by None (Some e) = refl
+    by (Some v) None = refl
+    by (Some v) (Some e) = refl
+
+-- no operation has the call of a new read, which is one of the brick
+pub read_is_at : (layout : Layout) (before after : OpenCalls) (held : OpenJob) → after.operations ≡ before.operations → after.seq ≡ read_seq held
+    → IsOpenJobOf layout held → read_seq held ≡ before.seq + 1 → IsJobAt layout after held
+read_is_at layout before after held same last open_is next =
+    record {
+      open_is = open_is;
+      made = omega (arith, last);
+      apart = none_of (get nat_cmp after.operations (read_seq held))
+          (ap (λ (operations : BTreeMap ℕ Operation). is_some (get nat_cmp operations (read_seq held))) same
+          ∙ before.fresh (read_seq held) (omega (arith, next)));
+    }
+
+-- a synchronisation begins, where this is learnt
+pub synced_so : (layout : Layout) (me : BrickId) (now : ℕ) (node : Node) (group : GroupId) (view : View) (synced : Bool)
+    → node.learnt group.0 ≡ record { view = view; synced = synced }
+    → synced_at (coding layout) me now node group ≡ begins_sync layout me now node (begun_job group view) synced
+unfolding synced_at
+synced_so layout me now node group view synced learns =
+    ap (λ (learnt : Learnt). if learnt.synced then reporting node [] (Report.Sync group (synced_answer learnt.view.number))
+    else read_begun (coding layout) me now node (begun_job group learnt.view)) learns
+    ∙ either synced
+  where
+    either : (b : Bool) → (if b then reporting node [] (Report.Sync group (synced_answer view.number))
+        else read_begun (coding layout) me now node (begun_job group view)) ≡ begins_sync layout me now node (begun_job group view) b
+    either true = refl
+    either false = refl

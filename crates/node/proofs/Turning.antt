@@ -1,0 +1,164 @@
+-- What a reply that counts, and tells a later view, comes to beside a synchronisation.
+use Rattle.std.proofs.Common.{◌≡◌, ◌≤◌, ℕ, Bool, true, false, cond, nat_eq, Option, Some, None, is_some, refl, sym, ◌∙◌, ap, subst, arith}
+use Rattle.std.specs.Option.{option_map}
+use Rattle.std.specs.Ordering.{nat_cmp}
+use Rattle.std.specs.BTreeMap.{get, is_at}
+use Rattle.fab_base.specs.declared.identities.BrickId.{BrickId}
+use Rattle.fab_base.specs.Layouts.{Layout}
+use Rattle.messages.specs.declared.calls.Call.{Call}
+use Rattle.messages.specs.declared.packets.Message.{Message}
+use Rattle.messages.specs.declared.replies.Reply.{Reply}
+use Rattle.protocol.specs.Coordinators.{Coordinator}
+use Rattle.protocol.specs.Nodes.{Node, NodeStep, replied_at}
+use Rattle.stripe_code.specs.Codes.{coding}
+use Rattle.coord_phase.specs.Operations as phased
+use Rattle.coord_phase.specs.Operations.{with_state, without_last}
+use Rattle.node.specs.declared.jobs.OpenJob.{OpenJob}
+use Rattle.node.specs.declared.open_calls.OpenCalls.{OpenCalls}
+use Rattle.node.specs.declared.open_work.OpenWork.{OpenWork}
+use Rattle.node.specs.declared.open_work.Turn.{Turn}
+use Rattle.node.specs.declared.open_work.Turn.TheVariants as turn
+use Rattle.node.specs.declared.operations.Operation.{Operation}
+use Rattle.node.specs.declared.tasks.Tasks.{Tasks}
+use Rattle.node.specs.Jobs.{IsJobOf, Reading, calls_with, job_at, reading_in, reading_of, with_reading}
+use Rattle.node.specs.Moves as moves
+use Rattle.node.specs.Moves.{HasCounted, IsTurn}
+use Rattle.node.specs.Operations.{shown_of, coordinator_of}
+use Rattle.node.specs.Outcomes.{Outcome}
+use Rattle.node.specs.Reads.{HasCountedRead}
+use Rattle.node.specs.States.{KeptParts, StepsAs, IsSameWork, IsWorkOf, state_in, state_with}
+use Rattle.node.specs.Tasks.{AreSameTasks, AreTasksOf, CountsRead, IsAside, IsJobAt, IsJobIn, read_seq, step_on, tasks_in}
+use Rattle.node.proofs.Beside.{ApartFrom, beside, calls_apart, replied_beside}
+use Rattle.node.proofs.Counting.{taken_back}
+use Rattle.node.proofs.Tables.{is_at_number}
+use Rattle.node.proofs.Underway.{KeepsFree, apart_so, at_call, job_kept, no_parts, replied_free, same_free, steps_beside}
+
+-- ---- an operation or the proposal
+
+-- another read than the one of this call
+aside_of : (job : Option OpenJob) (seq : ℕ) → IsAside job seq → (held : OpenJob) → job ≡ Some held → nat_eq (read_seq held) seq ≡ false
+aside_of None seq aside held is = absurd cc
+aside_of (Some other) seq aside held is =
+    let same : other ≡ held = cc in
+    subst (λ (x : OpenJob). nat_eq (read_seq x) seq ≡ false) same aside
+
+module _ (layout : Layout) (now : ℕ) (from : BrickId) (call : Call) (told : Reply) (before : Tasks) (aside : IsAside before.job call.seq)
+    (work_is : IsWorkOf layout before.work) where
+  -- each operation has its call
+  at_of : (kept : KeptParts) (c : Coordinator) → (state_in kept before.work).calls call.seq ≡ Some c → c.call.seq ≡ call.seq
+  unfolding state_with
+  at_of kept c is = at_call layout before.work.calls call.seq work_is.calls c is
+
+  idle : (kept : KeptParts) → (state_in kept before.work).job ≡ None
+  unfolding state_with
+  idle kept = refl
+
+  -- the machine's step is that beside the synchronisation
+  pub turn_beside : (kept : KeptParts) → step_on layout now from call told before kept
+      ≡ beside (reading_in before.job) (moves.step_on layout now from call told before.work kept)
+  turn_beside kept =
+      let me = before.work.calls.me in
+      let r = reading_in before.job in
+      let node = state_in kept before.work in
+      let apart = apart_so before.job call.seq aside in
+      ap (replied_at (coding layout) me now from (with_reading r node) call told) (calls_apart r node.calls call.seq apart)
+      ∙ replied_beside layout me r now from node call told (node.calls call.seq) (idle kept) apart (at_of kept)
+
+  -- a step of the work is one of all that is under way
+  pub turn_steps : (kept : KeptParts) (after : OpenWork) (job : Option OpenJob) (outs : Outcome) → job ≡ before.job
+      → StepsAs before.work.calls.me (state_in kept after) (moves.step_on layout now from call told before.work kept) outs
+      → StepsAs before.work.calls.me (tasks_in kept (record { work = after; job = job })) (step_on layout now from call told before kept) outs
+  turn_steps kept after job outs same steps =
+      let me = before.work.calls.me in
+      subst (λ (j : Option OpenJob). StepsAs me (with_reading (reading_in j) (state_in kept after)) (step_on layout now from call told before kept) outs) (sym same)
+      (subst (λ (step : NodeStep). StepsAs me (with_reading (reading_in before.job) (state_in kept after)) step outs) (sym (turn_beside kept))
+      (steps_beside me (reading_in before.job) (state_in kept after) (moves.step_on layout now from call told before.work kept) outs steps))
+
+  -- and leaves the read its call
+  pub turn_free : (after : OpenWork) (outs : Outcome)
+      → StepsAs before.work.calls.me (state_in no_parts after) (moves.step_on layout now from call told before.work no_parts) outs
+      → (held : OpenJob) → before.job ≡ Some held → KeepsFree (read_seq held) (state_in no_parts before.work) (state_in no_parts after)
+  turn_free after outs steps held is =
+      let node = state_in no_parts before.work in
+      subst (λ (n : Node). KeepsFree (read_seq held) node n) (sym steps.state_is)
+      (replied_free layout before.work.calls.me now from node call told (node.calls call.seq) (read_seq held) (idle no_parts)
+      (aside_of before.job call.seq aside held is) (at_of no_parts))
+
+-- all that is under way is of the same brick, where the work is, and its operations leave the read its call
+pub turn_same : (layout : Layout) (before mid : Tasks) (after : OpenWork) → AreSameTasks layout before mid → mid.job ≡ before.job → IsSameWork layout mid.work after
+    → ((held : OpenJob) → before.job ≡ Some held → KeepsFree (read_seq held) (state_in no_parts before.work) (state_in no_parts after))
+    → AreSameTasks layout before (record { work = after; job = mid.job })
+turn_same layout before mid after first job last free =
+    record {
+      me = last.me ∙ first.me;
+      boot = last.boot ∙ first.boot;
+      of = λ of.
+          let mid_is = first.of of in
+          record {
+            work_is = last.of mid_is.work_is;
+            job_is = subst (λ (j : Option OpenJob). IsJobIn layout after.calls j) (sym job) (job_kept layout before.work after before.job free of.job_is);
+          };
+    }
+
+-- a read that is another call's stays so, where an operation counted the reply
+pub counted_keeps : (layout : Layout) (from : BrickId) (message : Message) (seq : ℕ) (before after : OpenCalls) (job : Option OpenJob)
+    → HasCounted seq from message before after → IsAside job seq → IsJobIn layout before job → IsJobIn layout after job
+counted_keeps layout from message seq before after None has aside is = tt
+counted_keeps layout from message seq before after (Some held) has aside is =
+    record {
+      open_is = is.open_is;
+      made = subst (λ (n : ℕ). read_seq held ≤ n) (sym has.seq_is) is.made;
+      apart = has.others (read_seq held)
+          ∙ ap (λ (b : Bool). cond b (Some has.now) (get nat_cmp before.operations (read_seq held))) (is_at_number seq (read_seq held) ∙ aside)
+          ∙ is.apart;
+    }
+
+-- so it does whatever the reply comes to
+pub turn_keeps : (layout : Layout) (from : BrickId) (call : Call) (told : Reply) (before after : OpenWork) (turned : Turn) (job : Option OpenJob)
+    → IsTurn layout from call told before turned after → IsAside job call.seq → IsJobIn layout before.calls job → IsJobIn layout after.calls job
+turn_keeps layout from call told before after turn.Counted job turn_is aside is =
+    counted_keeps layout from (Message.Reply call told) call.seq before.calls after.calls job turn_is.0 aside is
+turn_keeps layout from call told before after (turn.Ends answer) job turn_is aside is =
+    subst (λ (w : OpenWork). IsJobIn layout w.calls job) (sym turn_is.0) is
+turn_keeps layout from call told before after (turn.Goes heard) job turn_is aside is =
+    subst (λ (w : OpenWork). IsJobIn layout w.calls job) (sym turn_is.0) is
+
+-- ---- the read
+
+-- a read that takes the last reply back is of the brick still
+pub taken_is : (layout : Layout) (calls : OpenCalls) (held taken : OpenJob)
+    → shown_of taken.read ≡ with_state (shown_of held.read) (without_last (shown_of held.read).state) → taken.job ≡ held.job → taken.view ≡ held.view
+    → IsJobAt layout calls held → IsJobAt layout calls taken
+taken_is layout calls held taken read job view is =
+    let group = ap (λ (op : phased.Operation). op.state.group) read in
+    let seq = ap (λ (op : phased.Operation). op.state.call.seq) read in
+    record {
+      open_is = record {
+        job_is = subst (λ (g : _). IsJobOf layout taken.job taken.view g) (sym group)
+            (subst (λ (v : _). IsJobOf layout taken.job v (coordinator_of held.read).group) (sym view)
+            (subst (λ (j : _). IsJobOf layout j held.view (coordinator_of held.read).group) (sym job) is.open_is.job_is));
+        is_operation = ap (λ (op : phased.Operation). op.block) read ∙ is.open_is.is_operation;
+      };
+      made = subst (λ (n : ℕ). n ≤ calls.seq) (sym seq) is.made;
+      apart = ap (λ (n : ℕ). get nat_cmp calls.operations n) seq ∙ is.apart;
+    }
+
+-- what it counted before, it counts no more
+pub reading_back : (from : BrickId) (message : Message) (was held taken : OpenJob) → HasCountedRead from message was held
+    → shown_of taken.read ≡ with_state (shown_of held.read) (without_last (shown_of held.read).state) → taken.job ≡ held.job → taken.view ≡ held.view
+    → reading_of taken ≡ reading_of was
+reading_back from message was held taken has read job view =
+    let back : coordinator_of taken.read ≡ coordinator_of was.read =
+    ap (λ (op : phased.Operation). op.state) read ∙ ap without_last has.now_is ∙ taken_back was.read from message has.counted in
+    (λ i. record { job = job_at ((job ∙ has.job_is) i) ((view ∙ has.view_is) i) (back i).call.seq; read = back i })
+
+-- so the brick is as it was
+pub read_back : (from : BrickId) (message : Message) (before mid : Tasks) (held taken : OpenJob) → CountsRead from message before mid → mid.job ≡ Some held
+    → shown_of taken.read ≡ with_state (shown_of held.read) (without_last (shown_of held.read).state) → taken.job ≡ held.job → taken.view ≡ held.view
+    → (kept : KeptParts) → tasks_in kept (record { work = mid.work; job = Some taken }) ≡ tasks_in kept before
+read_back from message before mid held taken counts is read job view kept =
+    let same : counts.now ≡ held = (let both : Some counts.now ≡ Some held = sym counts.job_after ∙ is in cc) in
+    let has = subst (λ (x : OpenJob). HasCountedRead from message counts.was x) same counts.counted in
+    let back = reading_back from message counts.was held taken has read job view in
+    (λ i. with_reading (Some (back i)) (state_in kept (counts.work_is i)))
+    ∙ ap (λ (j : Option OpenJob). with_reading (reading_in j) (state_in kept before.work)) (sym counts.job_before)

@@ -1,0 +1,32 @@
+-- What is still to be done is the machine's, beside the synchronisation or of it.
+use Rattle.std.proofs.Common.{◌≡◌, ℕ, Option, sym, ◌∙◌, ap, subst}
+use Rattle.node.specs.declared.tasks.TaskTurn.{TaskTurn}
+use Rattle.node.specs.declared.tasks.Tasks.{Tasks}
+use Rattle.node.specs.Jobs.{FollowsFrom}
+use Rattle.node.specs.Tasks.{IsTaskTurn}
+use Rattle.node.proofs.Turning.{turn_free, turn_same, turn_steps}
+use Rattle.node.proofs.Underway.{no_parts}
+use Rattle.node.proofs.tasks.Tasks.finish.Goals as goal
+
+pub returns-in-Work-clause-step : goal.returns-in-Work-clause-step
+returns-in-Work-clause-step c = λ layout now from call reply before seq is kept.
+    let mid = c.args.self.now in
+    let turn_is = subst (λ (turn : TaskTurn). IsTaskTurn layout now from call reply before turn mid) c.in-Work.is is in
+    turn_steps layout now from call reply before turn_is.2 turn_is.3 kept c.finish.new.self mid.job c.finish.result turn_is.1
+    (c.finish.ensures.step layout now from call reply before.work seq turn_is.0 kept)
+
+pub returns-in-Work-clause-same : goal.returns-in-Work-clause-same
+returns-in-Work-clause-same c = λ layout now from call reply before seq is first.
+    let mid = c.args.self.now in
+    let turn_is = subst (λ (turn : TaskTurn). IsTaskTurn layout now from call reply before turn mid) c.in-Work.is is in
+    turn_same layout before mid c.finish.new.self first turn_is.1 (c.finish.ensures.same layout from call reply before.work turn_is.0)
+    (turn_free layout now from call reply before turn_is.2 turn_is.3 c.finish.new.self c.finish.result
+    (c.finish.ensures.step layout now from call reply before.work seq turn_is.0 no_parts))
+
+pub returns-in-Follows-clause-same : goal.returns-in-Follows-clause-same
+returns-in-Follows-clause-same c = λ layout now from call reply before seq is first.
+    let mid = c.args.self.now in
+    let turn_is = subst (λ (turn : TaskTurn). IsTaskTurn layout now from call reply before turn mid) c.in-Follows.is is in
+    let last = c.take_up.ensures.same layout
+    (subst (λ (t : Tasks). FollowsFrom layout t.work.calls.seq c.in-Follows.group c.in-Follows.next) (sym turn_is.0) turn_is.2) in
+    record { me = last.me ∙ first.me; boot = last.boot ∙ first.boot; of = λ of. last.of (record { work_is = (first.of of).work_is; job_is = tt }) }
