@@ -2,7 +2,7 @@
 use Rattle.std.proofs.Common.{◌≡◌, ℕ, ◌⊎◌, Result, Err, inl, inr, refl, sym, ap, ◌∙◌, subst}
 use Rattle.std.specs.Io.KnownBytes.{Appends}
 use Rattle.fab_io.specs.Ends.{AppendsFront}
-use Rattle.replay.proofs.Statuses.{of_write}
+use Rattle.replay.proofs.Statuses.{of_write, of_sound}
 use Rattle.replay.proofs.programs.refuse_words.Goals as goal
 
 pub returns-in-Ok-clause-refuses : goal.returns-in-Ok-clause-refuses
@@ -15,3 +15,8 @@ returns-in-Err-clause-refuses g c =
       subst (λ (s : ℕ). (s ≡ 6) ⊎ (s ≡ 7)) (sym c.status_of.ensures) status,
       subst (AppendsFront _ _) c.as_slice.ensures c.in-Err.ensures.content,
     )
+
+pub returns-in-Err-clause-decided : goal.returns-in-Err-clause-decided
+returns-in-Err-clause-decided g c = λ sound.
+    subst (λ (s : ℕ). (s ≡ 2) ⊎ (s ≡ 7)) (sym c.status_of.ensures)
+    (of_sound c.in-Err.halt (λ e. c.write.ensures.cause (c.in-Err.is ∙ ap (λ h. Err h) e)) (λ e. c.write.ensures.kept.never sound (c.in-Err.is ∙ ap (λ h. Err h) e)))
