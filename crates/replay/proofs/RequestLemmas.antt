@@ -84,3 +84,14 @@ decided_memory (Some Run) (Some bytes) = inr refl
 decided_memory (Some Audit) None = tt
 decided_memory (Some Audit) (Some bytes) = inr refl
 decided_memory (Some (Make seed lines)) source = inr refl
+
+-- the same of what was asked, where that is this request
+pub as_asked : (asked request : Option Request) (source source_after : Option (List ℕ)) (came : ℕ) (untouched : Type 0) (sink sink_after : Option (List ℕ))
+    (status : ℕ) → asked ≡ request → AnswersTo request source source_after came untouched sink sink_after status
+    → AnswersTo asked source source_after came untouched sink sink_after status
+as_asked asked request source source_after came untouched sink sink_after status is answers =
+    subst (λ (r : Option Request). AnswersTo r source source_after came untouched sink sink_after status) (sym is) answers
+
+pub decided_as_asked : (asked request : Option Request) (source : Option (List ℕ)) (status : ℕ) → asked ≡ request → IsDecidedFor request source status
+    → IsDecidedFor asked source status
+decided_as_asked asked request source status is decided = subst (λ (r : Option Request). IsDecidedFor r source status) (sym is) decided

@@ -6,13 +6,13 @@ use Rattle.replay.specs.DrawnRuns.{HasDrawn}
 use Rattle.replay.proofs.DrawnSteps.{drawn_none, drawn_one_more}
 use Rattle.replay.proofs.makes.run_made.Goals as goal
 
-pub loop-_count-init : goal.loop-_count-init
-loop-_count-init c =
+pub loop-count-init : goal.loop-count-init
+loop-count-init c =
     subst (λ (random : Lcg). HasDrawn c.args.world.now c.args.world.now (seeded c.args.seed) random 0) (sym c.new-maker.ensures)
     (drawn_none c.args.world.now (seeded c.args.seed))
 
-pub loop-_count-preserved : goal.loop-_count-preserved
-loop-_count-preserved c = drawn_one_more _ _ _ _ _ _ c.loop-_count._count c.loop-_count.invariant c.in_ok-run_next.ensures
+pub loop-count-preserved : goal.loop-count-preserved
+loop-count-preserved c = drawn_one_more _ _ _ _ _ _ c.loop-count._count c.loop-count.invariant c.in_ok-run_next.ensures
 
 pub returns : goal.returns
-returns c = (c.loop-_count.maker, c.loop-_count.invariant)
+returns c = (c.loop-count.maker, c.loop-count.invariant)

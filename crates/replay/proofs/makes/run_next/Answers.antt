@@ -8,4 +8,4 @@ use Rattle.replay.proofs.makes.run_next.Goals as goal
 pub returns-in-Ok : goal.returns-in-Ok
 returns-in-Ok c =
     runs_drawn c.args.world.now c.run_line.new.self c.args.maker.now c.draw_line.new.self _ c.in_ok-line.line
-    (c.len.ensures ∙ ap (λ (l : List Packet). length l) c.sent.ensures) c.in_ok-line.ensures.drawn c.in_ok-line.ensures.spelt c.in-Ok.ensures.ok
+    (c.len-sent.ensures ∙ ap (λ (l : List Packet). length l) c.sent.ensures) c.in_ok-line.ensures.drawn c.in_ok-line.ensures.spelt c.in-Ok.ensures.ok
