@@ -32,18 +32,6 @@ use Rattle.node.specs.States.{AreSameCalls, KeptParts, StepsAs, parts_with, stat
 use Rattle.node.specs.Tasks.{AreSameTasks, AreTasksOf, IsJobAt, read_seq, tasks_in}
 use Rattle.node.proofs.Hearing.{none_of}
 
--- what is told before, and the call that begins
-pub told_begun : (told : Tellings) (call : Told) → told.begun ≡ None
-    → told_list (record { version = told.version; ended = told.ended; begun = Some call }) ≡ told_list told ++ (call ∷ [])
-told_begun told call none = by told.version told.ended ∙ ap (λ (b : Option Told). told_list (record { version = told.version; ended = told.ended; begun = b }) ++ (call ∷ [])) (sym none)
-  where
-    by : (version ended : Option Told) → told_list (record { version = version; ended = ended; begun = Some call })
-        ≡ told_list (record { version = version; ended = ended; begun = None }) ++ (call ∷ [])
-    by None None = refl
-    by None (Some e) = refl
-    by (Some v) None = refl
-    by (Some v) (Some e) = refl
-
 -- no operation has the call of a new read, which is one of the brick
 pub read_is_at : (layout : Layout) (before after : OpenCalls) (held : OpenJob) → after.operations ≡ before.operations → after.seq ≡ read_seq held
     → IsOpenJobOf layout held → read_seq held ≡ before.seq + 1 → IsJobAt layout after held

@@ -69,22 +69,3 @@ begins_beside me r state step begun begins =
 -- the read's call is one that the brick made
 pub made_before : (layout : Layout) (calls : OpenCalls) (job : Option OpenJob) (held : OpenJob) → job ≡ Some held → IsJobIn layout calls job → read_seq held ≤ calls.seq
 made_before layout calls job held e is = let at : IsJobAt layout calls held = subst (IsJobIn layout calls) e is in at.made
-
--- an operation is there where the machine sees one
-pub shown_there : (calls : OpenCalls) (seq : ℕ)
-    → is_some (get nat_cmp calls.operations seq) ≡ is_some (option_map coordinator_of (get nat_cmp calls.operations seq))
-shown_there calls seq = by (get nat_cmp calls.operations seq)
-  where
-    by : (o : Option Operation) → is_some o ≡ is_some (option_map coordinator_of o)
-    by None = refl
-    by (Some operation) = refl
-
--- its view is the one that the machine sees
-pub view_there : (calls : OpenCalls) (seq : ℕ)
-    → option_map (λ (op : Operation). view_in (coordinator_of op)) (get nat_cmp calls.operations seq)
-    ≡ option_map view_in (option_map coordinator_of (get nat_cmp calls.operations seq))
-view_there calls seq = by (get nat_cmp calls.operations seq)
-  where
-    by : (o : Option Operation) → option_map (λ (op : Operation). view_in (coordinator_of op)) o ≡ option_map view_in (option_map coordinator_of o)
-    by None = refl
-    by (Some operation) = refl

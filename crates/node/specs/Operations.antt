@@ -17,7 +17,7 @@ use Rattle.node.specs.Kinds.{shown_in}
 
 -- what its coordinator shows of an operation
 abbrev pub shown_of : Operation → phased.Operation
-shown_of op = shown_in op.kind
+shown_of op = shown_in op.kind.value
 
 -- the machine's coordinator of an operation
 abbrev pub coordinator_of : Operation → Coordinator

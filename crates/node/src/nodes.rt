@@ -199,8 +199,8 @@ impl<D: Disk> Node<D> {
     }
 
     /// Begins to synchronise the view that the brick has learnt of a group, at this time of its clock: it reads each stripe in that, and tells all bricks in the
-    /// end. If all stripes are known to be kept in the view already, it ends at once: that is reported, and nothing is sent. So it ends where no later time or no
-    /// further call is left for the first read.
+    /// end. It ends at once if all stripes are known to be kept in the view already, or if no later time or no further call is left for the first read: the end is
+    /// reported, and nothing is sent.
     ///
     /// # Errors
     ///
@@ -523,7 +523,7 @@ impl<D: Disk> Node<D> {
         self.tasks.is_open(seq)
     }
 
-    /// The view of the open operation of the call of a number, or of the synchronisation's read.
+    /// The view of the open operation of the call of a number, or of the synchronisation's read. None exactly where the call is that of neither.
     pub fn view_of(&self, seq: u64) -> Option<View>
         ensures { result ≡ option_map view_in ((state_of self.now).calls seq) }
     {

@@ -76,7 +76,7 @@ impl OpenCalls {
     ghost use Rattle.node.specs.Moves.{counts_in, EndsIfOpen, WaitsOn, HasCounted};
     ghost use Rattle.node.specs.declared.open_calls.OpenCalls.{OpenCalls};
 
-    /// No operation is open, and none was since the store was opened for the so-manieth time.
+    /// No operation is open, and none was since this opening of the store.
     pub(crate) fn new(alloc: Global, me: BrickId, boot: u32) -> OpenCalls
         ensures me { result.me ≡ me }
         ensures boot { result.stamps.boot ≡ boot }

@@ -44,7 +44,7 @@ impl OpenWork {
     ghost use Rattle.node.specs.States.{KeptParts, state_in, fresh_node, IsWorkOf, IsSameWork, StepsAs};
     ghost use Rattle.node.specs.Moves.{counts_at, step_on, IsTurn, OpenIfEnds, IsMoved};
 
-    /// Nothing is under way, and nothing was since the store was opened for the so-manieth time.
+    /// Nothing is under way, and nothing was since this opening of the store.
     pub(crate) fn new(alloc: Global, me: BrickId, boot: u32) -> OpenWork
         ensures me { result.calls.me ≡ me }
         ensures boot { result.calls.stamps.boot ≡ boot }

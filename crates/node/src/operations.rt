@@ -58,12 +58,13 @@ pub enum Kind {
     Recovery(Recovery),
 }
 
-/// An open operation at its coordinator, and the members of the view before its own.
+/// An open operation at its coordinator, and the members of the view before its own. The coordinator is large and operations are moved often, so it lies on the
+/// heap.
 #[derive(Drop)]
 pub struct Operation {
-    kind: Kind,
+    kind: Box<Kind>,
     prior: Members,
-    ghost before: { prior ≡ (shown_in kind).state.prior },
+    ghost before: { prior ≡ (shown_in kind.value).state.prior },
 }
 
 impl Operation {
@@ -90,7 +91,7 @@ impl Operation {
     fn shown(&self) -> &coord_phase::Operation
         ensures { result.now ≡ shown_of self.now }
     {
-        match &self.kind {
+        match &*self.kind {
             Kind::Stripe(op) => op.operation(),
             Kind::Block(op) => op.operation(),
             Kind::Recovery(op) => op.operation(),
@@ -158,12 +159,12 @@ impl Operation {
         match &ask.op {
             Op::ReadBlock(_) | Op::WriteBlock(_, _) => {
                 let (op, next) = BlockOp::start(alloc, layout, view, call, ask, stamp)?;
-                let kind = Kind::Block(op);
+                let kind = Box::new(alloc, Kind::Block(op))?;
                 Ok((Operation { kind, prior }, next))
             }
             Op::ReadStripe | Op::WriteStripe(_) => {
                 let (op, next) = StripeOp::start(alloc, layout, view, call, ask, stamp)?;
-                let kind = Kind::Stripe(op);
+                let kind = Box::new(alloc, Kind::Stripe(op))?;
                 Ok((Operation { kind, prior }, next))
             }
         }
@@ -218,7 +219,7 @@ impl Operation {
     pub fn counts(&self, from: BrickId, message: &Message) -> bool
         ensures { result ≡ counts (shown_of self.now) from message.now }
     {
-        match &self.kind {
+        match &*self.kind {
             Kind::Stripe(op) => op.counts(from, message),
             Kind::Block(op) => op.counts(from, message),
             Kind::Recovery(op) => op.counts(from, message),
@@ -268,7 +269,7 @@ impl Operation {
             (without_last (shown_of self.new).state)) }
         ensures same { OnErr result (shown_of self.new ≡ shown_of self.old) }
     {
-        match &mut self.kind {
+        match &mut *self.kind {
             Kind::Stripe(op) => op.on_reply(from, message, fresh),
             Kind::Block(op) => op.on_reply(from, message, fresh),
             Kind::Recovery(op) => op.on_reply(from, message, fresh),
@@ -279,7 +280,7 @@ impl Operation {
     pub(crate) fn take_back(&mut self)
         ensures { shown_of self.new ≡ with_state (shown_of self.old) (without_last (shown_of self.old).state) }
     {
-        match &mut self.kind {
+        match &mut *self.kind {
             Kind::Stripe(op) => op.take_back(),
             Kind::Block(op) => op.take_back(),
             Kind::Recovery(op) => op.take_back(),
@@ -319,9 +320,9 @@ impl Operation {
     /// The operation becomes this recovery, which the members of the same view keep.
     fn become_recovery(&mut self, recovery: Recovery)
         requires { recovery.state.prior ≡ (coordinator_of self.old).prior }
-        ensures { self.new.kind ≡ kind.Recovery recovery }
+        ensures { self.new.kind.value ≡ kind.Recovery recovery }
     {
-        self.kind = Kind::Recovery(recovery);
+        *self.kind = Kind::Recovery(recovery);
     }
 
     /// What is sent and told as a phase begins: the version, where the operation makes it. The stamp of a new round is known from now on.

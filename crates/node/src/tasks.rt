@@ -53,7 +53,7 @@ impl Tasks {
     ghost use Rattle.node.specs.Jobs.{FollowsFrom, IsKeptBy, followed_step, then_told, sent_in};
     ghost use Rattle.node.specs.Tasks.{tasks_in, counts_at, step_on, AreTasksOf, AreSameTasks, IsAside, IsTaskTurn, MayFinish, ReadsAt};
 
-    /// Nothing is under way, and nothing was since the store was opened for the so-manieth time.
+    /// Nothing is under way, and nothing was since this opening of the store.
     pub(crate) fn new(alloc: Global, me: BrickId, boot: u32) -> Tasks
         ensures me { result.work.calls.me ≡ me }
         ensures boot { result.work.calls.stamps.boot ≡ boot }
