@@ -13,8 +13,12 @@
 //!
 //! The line `often WRITES` writes a stripe so often over bricks with little room, by `replay`, each write alone, and has each brick drop what is
 //! older: all must be done.
+//!
+//! The line `drawn SEEDS` makes the schedules of so many seeds, spells their lines, and runs that text: it must have the counts and happenings that a made run
+//! sums up, and an audit must find what it prints sound.
 #![tactic(auto)]
 
+mod drawn;
 mod labels;
 mod stops;
 mod writes;
@@ -61,6 +65,9 @@ impl Fault {
     }
 }
 
+/// How many lines each schedule has that is drawn.
+const DRAWN_LINES: u64 = 2_000;
+
 /// What is done with an input.
 #[derive(Clone, Copy, PartialEq, Eq)]
 enum Kind {
@@ -78,6 +85,8 @@ enum Kind {
     Stops,
     /// It is a number of writes, which `replay` runs.
     Often,
+    /// It is a number of seeds, whose schedules are made and run.
+    Drawn,
 }
 
 impl Kind {
@@ -90,6 +99,7 @@ impl Kind {
             "svg" => Kind::Svg,
             "stops" => Kind::Stops,
             "often" => Kind::Often,
+            "drawn" => Kind::Drawn,
             _ => Kind::Run,
         }
     }
@@ -101,14 +111,14 @@ impl Kind {
             Kind::Fronts => Some("fronts"),
             Kind::Trace => Some("trace"),
             Kind::Stops => Some("stops"),
-            Kind::Svg | Kind::Often => None,
+            Kind::Svg | Kind::Often | Kind::Drawn => None,
         }
     }
 
     /// The word of the program where the line gives none.
     fn word(self) -> &'static str {
         match self {
-            Kind::Run | Kind::Faults | Kind::Fronts | Kind::Often => "run",
+            Kind::Run | Kind::Faults | Kind::Fronts | Kind::Often | Kind::Drawn => "run",
             Kind::Trace | Kind::Stops => "text",
             Kind::Svg => "svg",
         }
@@ -124,6 +134,7 @@ impl Kind {
             Kind::Svg => " drawn",
             Kind::Stops => " stopped",
             Kind::Often => " writes over little room",
+            Kind::Drawn => " schedules drawn",
         }
     }
 }
@@ -212,6 +223,7 @@ impl<'a> Case<'a> {
         let words = words_of(rt.alloc(), &mut tokens, kind.word())?;
         let input = match kind {
             Kind::Often => writes::over_little_room(rt.alloc(), name.parse().unwrap_or(0))?,
+            Kind::Drawn => Vec::new(rt.alloc()),
             _ => file(rt, name, Some("in"))?,
         };
         let output = file(rt, name, kind.suffix())?;
@@ -302,6 +314,19 @@ impl<'a> Case<'a> {
         Ok(Finding::Output)
     }
 
+    /// Looks at whether the schedules of so many seeds are made as they are run.
+    fn look_at_drawn(&self, alloc: Global) -> Result<Finding, AllocError> {
+        let seeds: u64 = self.name.parse().unwrap_or(0);
+        for seed in 0..seeds {
+            match drawn::agrees(alloc, seed, DRAWN_LINES) {
+                Ok(true) => (),
+                Ok(false) => return Ok(Finding::Output),
+                Err(_) => return Err(AllocError),
+            }
+        }
+        Ok(Finding::Fine)
+    }
+
     /// Looks at the labels of a picture.
     fn look_at_labels(&self, alloc: Global) -> Result<Finding, AllocError> {
         let ending = self.run(alloc, None)?;
@@ -357,6 +382,7 @@ impl<'a> Case<'a> {
             Kind::Svg => return self.look_at_labels(alloc),
             Kind::Stops => return self.look_at_stops(alloc),
             Kind::Often => return self.look_at_writes(alloc),
+            Kind::Drawn => return self.look_at_drawn(alloc),
             Kind::Run | Kind::Faults | Kind::Trace => (),
         }
         let mut found = self.look_at_run(alloc)?;

@@ -24,15 +24,10 @@ use Rattle.replay.specs.declared.audits.Audited.{Audited}
 use Rattle.replay.specs.declared.audits.Audited.TheVariants.{NoLayout, LongLayout, NoEnd, Examined}
 use Rattle.replay.specs.Inputs.{Input, Parted, TooLong, Endless, most_layout_bytes, input_of, IsInput}
 use Rattle.replay.specs.Readings.{ReadsPart, BehindSoFar}
-use Rattle.replay.specs.Replays.{is_word, status_of, MayGoOn, LeavesOpen}
+use Rattle.replay.specs.Replays.{status_of, MayGoOn, LeavesOpen}
 use Rattle.replay.specs.AuditFindings.{AuditsWith, Audits, FindsAlone}
 use Rattle.replay.specs.Audits.{FindsTold, EndsAudited, FindsLeft, FindsBehind, FindsIn, AuditPrints, AuditGoesOn, IsAuditDecided}
 use Rattle.replay.proofs.Inputs.{input_of-parts, at_end}
-use Rattle.replay.proofs.Statuses.{one_word}
-
--- no word is both
-pub run_or_audit : (words : List (List ℕ)) → is_word (codes "run") words ≡ true → is_word (codes "audit") words ≡ true → ⊥
-run_or_audit words run audit = let lengths = one_word (codes "run") (codes "audit") words run audit in omega (arith, lengths)
 
 -- what is found of the lines behind a layout's text is found alone
 with_alone : (layout : Result Layout LayoutFault) (lines : List (List ℕ)) (one other : Audited) → AuditsWith layout lines one

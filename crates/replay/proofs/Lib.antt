@@ -13,3 +13,7 @@ pub mod Linearity
 pub mod Statuses
 pub mod Steppings
 pub mod Auditing
+pub mod HappeningLists
+pub mod DrawnSteps
+pub mod Makings
+pub mod RequestLemmas

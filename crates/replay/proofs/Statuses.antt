@@ -34,3 +34,9 @@ pub of_write : (halt : Halt) → (halt ≡ Source → ⊥) → (status_of (Err h
 of_write Source other = absurd (other refl)
 of_write Sink other = inl refl
 of_write Memory other = inr refl
+
+-- the same, where neither end failed
+pub of_sound : (halt : Halt) → (halt ≡ Source → ⊥) → (halt ≡ Sink → ⊥) → (status_of (Err halt) ≡ 2) ⊎ (status_of (Err halt) ≡ 7)
+of_sound Source no_source no_sink = absurd (no_source refl)
+of_sound Sink no_source no_sink = absurd (no_sink refl)
+of_sound Memory no_source no_sink = inr refl

@@ -24,11 +24,7 @@ use Rattle.replay.specs.declared.audits.Audited.TheVariants.{NoLayout, LongLayou
 use Rattle.replay.specs.Inputs.{input_of}
 use Rattle.replay.specs.Outputs.{bad_layout, bad_line, too_many_lines}
 use Rattle.replay.specs.AuditFindings.{AuditsWith, FindsAlone}
-use Rattle.replay.specs.Replays.{is_word, status_of, ReadsAsNeeded, FailedSource}
-
--- the words are the one word `audit`
-abbrev pub asks_audit : List (List ℕ) → Bool
-asks_audit words = is_word (codes "audit") words
+use Rattle.replay.specs.Replays.{status_of, ReadsAsNeeded, FailedSource}
 
 -- what is printed of a text behind a layout
 abbrev pub text_of_verdict : AuditResult → List ℕ

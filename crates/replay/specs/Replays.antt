@@ -45,10 +45,6 @@ is_word text [] = false
 is_word text (word ∷ []) = bytes_eq word text
 is_word text (word ∷ (more ∷ words)) = false
 
--- the words are the one word `run`
-abbrev pub asks_run : List (List ℕ) → Bool
-asks_run words = is_word (codes "run") words
-
 -- the exit status of an end
 abbrev pub status_of : Result RunResult Halt → ℕ
 status_of (Ok Whole) = 0

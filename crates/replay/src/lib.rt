@@ -7,6 +7,7 @@
 mod audits;
 mod endings;
 mod heads;
+mod makes;
 mod programs;
 mod schedules;
 mod spellings;

@@ -1,15 +1,19 @@
 //! The program's top call.
 
-ghost use Rattle.std.specs.Prelude.{◌≡◌, ◌≢◌, false, true, map, string_bytes};
+ghost use Rattle.std.specs.Prelude.{◌≡◌, ◌≢◌, ◌⊎◌, map, string_bytes};
+ghost use Rattle.std.specs.Option.{ForSome};
 ghost use Rattle.fab_io.specs.Ends.{Kept, WriteTakes};
-ghost use Rattle.replay.specs.Replays.{is_word, asks_run, usage_text, Refuses, RunEnds, IsDecided};
-ghost use Rattle.replay.specs.Audits.{asks_audit, AuditEnds, IsAuditDecided};
+ghost use Rattle.replay_words.specs.Requests.{request_of, IsLegal};
+ghost use Rattle.replay.specs.Replays.{is_word, usage_text, Refuses};
+ghost use Rattle.replay.specs.Requests.{AnswersTo, IsDecidedFor};
 
 use crate::audits::audit_input;
 use crate::endings::{Halt, status_of};
+use crate::makes::make;
 use crate::schedules::run;
 use crate::turns::write;
-use fab_io::{Sink, Source};
+use fab_io::{NO_MEMORY, Sink, Source};
+use replay_words::{Request, request_of};
 use std::alloc::Global;
 
 /// Runs the program `replay` with these words (its own name left out), and answers its exit status.
@@ -19,7 +23,7 @@ use std::alloc::Global;
 /// | status | when | printed |
 /// |---|---|---|
 /// | 0 | the source was read to its end, all lines were run, all was written | the whole output |
-/// | 2 | the words are neither the one word `run` nor the one word `audit` | the usage line |
+/// | 2 | the words are none of `run`, `audit` and `make SEED LINES` | the usage line |
 /// | 3 | the text before the line `---` is no layout, is past 1,048,576 bytes, or there is no such line | `bad layout: toml`, `bad layout: field NAME`, `bad layout: limit NAME`, `bad layout: end` |
 /// | 4 | a line of the schedule is no line; the earlier ones were run and printed | `bad line N` |
 /// | 5 | the source failed; the lines whose line feed was read before were run and printed | nothing more |
@@ -68,34 +72,71 @@ use std::alloc::Global;
 ///
 /// What is found is `Examines` (`specs/Examining.antt` of `audit`): the forms are those of `transcript`, and a stripe's happenings hold
 /// where they are strict for its marks, `IsStrict` as above.
+///
+/// The words `make SEED LINES`, two numbers as in a schedule, LINES at most 1,048,576: the schedule of a seed is drawn, line by line, each as soon as the one before it
+/// was run, over a disk of six bricks. The source is not read.
+///
+/// | status | when | printed |
+/// |---|---|---|
+/// | 0 | all lines were run | the counts, as `run` prints them last, and `happened total H`, with H happenings over all stripes |
+/// | 2, 6 | as of `run` | as of `run` |
+/// | 7 | no memory was left | nothing, or some of the two lines from their front |
+///
+/// The lines are `made_lines` (`specs/MadeRuns.antt`), a function of the seed and of the run so far. They read back as they are spelt, and what `run` prints of them behind the
+/// layout of that disk is strict as above (`IsMadeRun`).
 pub fn replay<S: Source, K: Sink>(
     alloc: Global,
     words: &[String],
     source: &mut S,
     sink: &mut K,
 ) -> u8
-    // Words that are neither the one word `run` nor the one word `audit`: nothing is read.
-    ensures words { asks_run (map string_bytes words.now) ≡ false → asks_audit (map string_bytes words.now) ≡ false
-        → Refuses usage_text (K.told sink.old) (K.told sink.new) result × (source.new ≡ source.old) }
-    ensures run { asks_run (map string_bytes words.now) ≡ true
-        → RunEnds (S.told source.old) (S.told source.new) (S.came source.new) (K.told sink.old) (K.told sink.new) result }
-    ensures audit { asks_audit (map string_bytes words.now) ≡ true
-        → AuditEnds (S.told source.old) (S.told source.new) (S.came source.new) (K.told sink.old) (K.told sink.new) result }
+    // By what the words ask for: a run, an audit, or a made run; nothing, where they are none of the three forms.
+    ensures answers { AnswersTo (request_of (map string_bytes words.now)) (S.told source.old) (S.told source.new) (S.came source.new)
+        (source.new ≡ source.old) (K.told sink.old) (K.told sink.new) result }
     // A failure comes only where that end's count of faults rose, and never from a sound end.
     ensures source { Kept (S.faults source.old) (S.faults source.new) (S.sound source.old) (S.sound source.new) (result ≡ 5) }
     ensures sink { Kept (K.faults sink.old) (K.faults sink.new) (K.sound sink.old) (K.sound sink.new) (result ≡ 6) }
-    // Over sound ends a run, or an audit, answers what the input alone calls for, as 0 for a legal one, or that memory was lacking.
-    ensures decided { asks_run (map string_bytes words.now) ≡ true → S.sound source.old → K.sound sink.old
-        → IsDecided (S.told source.old) result }
-    ensures audit_decided { asks_audit (map string_bytes words.now) ≡ true → S.sound source.old → K.sound sink.old
-        → IsAuditDecided (S.told source.old) result }
+    // Over sound ends it answers what the words and the input alone call for, as 0 for a legal input, or that memory was lacking.
+    ensures decided { S.sound source.old → K.sound sink.old
+        → IsDecidedFor (request_of (map string_bytes words.now)) (S.told source.old) result }
 {
-    if is_word(words, "run") {
-        return status_of(run(alloc, source, sink));
+    match request_of(alloc, words) {
+        Ok(request) => answer(alloc, request, source, sink),
+        Err(_) => NO_MEMORY,
     }
-    if is_word(words, "audit") {
-        return status_of(audit_input(alloc, source, sink));
+}
+
+/// Does what is asked for, if anything is, and answers the exit status.
+fn answer<S: Source, K: Sink>(
+    alloc: Global,
+    request: Option<Request>,
+    source: &mut S,
+    sink: &mut K,
+) -> u8
+    requires { ForSome request IsLegal }
+    ensures answers { AnswersTo request (S.told source.old) (S.told source.new) (S.came source.new) (source.new ≡ source.old)
+        (K.told sink.old) (K.told sink.new) result }
+    ensures source { Kept (S.faults source.old) (S.faults source.new) (S.sound source.old) (S.sound source.new) (result ≡ 5) }
+    ensures sink { Kept (K.faults sink.old) (K.faults sink.new) (K.sound sink.old) (K.sound sink.new) (result ≡ 6) }
+    ensures decided { S.sound source.old → K.sound sink.old → IsDecidedFor request (S.told source.old) result }
+{
+    match request {
+        None => refuse_words(sink),
+        Some(request) => match request {
+            Request::Run => status_of(run(alloc, source, sink)),
+            Request::Audit => status_of(audit_input(alloc, source, sink)),
+            Request::Make { seed, lines } => status_of(make(alloc, seed, lines, sink)),
+        },
     }
+}
+
+/// Writes the usage line, and answers the exit status.
+fn refuse_words<K: Sink>(sink: &mut K) -> u8
+    ensures refuses { Refuses usage_text (K.told sink.old) (K.told sink.new) result }
+    ensures kept { Kept (K.faults sink.old) (K.faults sink.new) (K.sound sink.old) (K.sound sink.new) (result ≡ 6) }
+    ensures cause { result ≢ 5 }
+    ensures decided { K.sound sink.old → (result ≡ 2) ⊎ (result ≡ 7) }
+{
     match write(
         sink,
         b"usage: replay run | replay make SEED LINES | replay audit\n".as_slice(),

@@ -172,7 +172,7 @@ fn groups_text(alloc: Global, world: &World) -> Result<String, NoMem>
 }
 
 /// The last line of an output.
-fn count_text(alloc: Global, lines: u64, marks: &[Mark]) -> Result<String, NoMem>
+pub(crate) fn count_text(alloc: Global, lines: u64, marks: &[Mark]) -> Result<String, NoMem>
     ensures text { IfOk result (λ text. string_bytes text ≡ count_text lines marks.now) }
     ensures told { AllToldRead marks.now }
 {

@@ -20,13 +20,14 @@ use Rattle.protocol.specs.Worlds.{World, Event, Delivers, Stops, is_up, packet_o
 use Rattle.protocol.specs.Calms.{IsCalm, operation_marked}
 use Rattle.world.specs.Runs.{brick_of}
 use Rattle.world.specs.Faults.{IsEventsOf, IsReached, plan_of}
-use Rattle.world.specs.Disks.{KeepsOthers, LeavesDisks, ListsEvent, ListsHandled, receiver_of, changes_disk_of}
+use Rattle.world.specs.Disks.{KeepsDisks, KeepsOthers, LeavesDisks, ListsEvent, ListsHandled, receiver_of, changes_disk_of}
 use Rattle.world.specs.EventCalls.{handled_calls}
-use Rattle.world.specs.Shown.{Shows, ShowsBricks, StartsAs, Tells, Comes, TakesEvent, StaysAs, RunsLine, RefusesLine, HandledWhole, HandledPart, disks_of}
+use Rattle.world.specs.Shown.{Shows, ShowsBricks, StartsAs, Tells, HistoryStays, Comes, TakesEvent, StaysAs, RunsLine, RefusesLine, HandledWhole, HandledPart, disks_of}
 use Rattle.world.specs.Texts.{marks_if, is_deliverable, outcome_of, outcome_text, new_marks, new_reports, event_text, text_of, line_text}
 use Rattle.world.specs.declared.simulations.Outcome.{Outcome}
 use Rattle.world.specs.declared.simulations.Outcome.TheVariants.{Marks, Idle}
 use Rattle.world.specs.declared.simulations.Simulation.{Simulation}
+use Rattle.world.specs.declared.bricks.Brick.{Brick}
 use Rattle.world.specs.declared.histories.History.{History}
 use Rattle.world.proofs.DiskLemmas.{same_kept, one_kept}
 use Rattle.world.proofs.HistoryLemmas.{tells_during}
@@ -201,6 +202,27 @@ pub idle_comes : (layout : Layout) (w : World) (state : Simulation) (n : ℕ) (b
     → Comes layout w (disks_of state.bricks.items) state (Calm n bricks) Idle
 idle_comes layout w state n bricks not shows =
     ([], record { are = inr (not, refl); shows = shows; prints = refl; kept = refl })
+
+-- a state of the same bricks, whose history tells what the other's told, shows what that shows
+pub shows_alike : (layout : Layout) (old new : Simulation) (w : World) → new.bricks.items ≡ old.bricks.items → HistoryStays old.history new.history
+    → Shows layout old w → Shows layout new w
+shows_alike layout old new w same stays shows = record {
+  bricks = subst (λ (bricks : List Brick). ShowsBricks layout bricks w.nodes w.after w.up w.clocks) (sym same) shows.bricks;
+  history = stays w shows.history;
+}
+
+-- what a line came to is so of a state of the same bricks, whose history tells what the other's told
+pub comes_alike : (layout : Layout) (w : World) (disks : List MemDisk) (old new : Simulation) (line : Line) (outcome : Outcome)
+    → new.bricks.items ≡ old.bricks.items → HistoryStays old.history new.history → Comes layout w disks old line outcome → Comes layout w disks new line outcome
+comes_alike layout w disks old new line outcome same stays (events, comes) = (
+  events,
+  record {
+    are = subst (λ (bricks : List Brick). IsEventsOf layout w disks (disks_of bricks) line events) (sym same) comes.are;
+    shows = shows_alike layout old new (run (coding layout) events w) same stays comes.shows;
+    prints = comes.prints;
+    kept = subst (λ (bricks : List Brick). KeepsDisks (coding layout) w events disks (disks_of bricks)) (sym same) comes.kept;
+  },
+)
 
 -- so such a line runs that is one event, which makes no call of a disk
 pub takes_runs : (layout : Layout) (old new : Simulation) (line : Line) (event : Event) (outcome : Outcome)

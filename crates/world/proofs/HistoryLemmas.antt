@@ -10,7 +10,6 @@ use Rattle.fab_base.specs.declared.answers.Cause.{Cause}
 use Rattle.fab_base.specs.declared.asks.Ask.{Ask}
 use Rattle.fab_base.specs.declared.asks.Op.TheVariants.{ReadStripe}
 use Rattle.fab_base.specs.declared.identities.BrickId.{BrickId}
-use Rattle.fab_base.specs.declared.identities.ViewNo.{ViewNo}
 use Rattle.fab_base.specs.declared.stamps.Stamp.{Stamp}
 use Rattle.messages.specs.declared.calls.Call.{Call}
 use Rattle.messages.specs.declared.packets.Packet.{Packet}
@@ -162,22 +161,22 @@ boots_stay w brick node same = each_value (λ i x. x.boot ≡ (w.nodes i).boot) 
 -- an operation that made a version
 pub made_alike : (stamp : Stamp) (base : Option Stamp) (known : OperationRecord) (o : Operation) → TellsOperation known o
     → (p : Operation) × (with_made stamp base (Some o) ≡ Some p) × TellsOperation (made_kept stamp base known) p
-made_alike stamp base known o is = (_, refl, record { brick = is.brick; boot = is.boot; seq = is.seq; begin = is.begin; group = is.group; stripe = is.stripe; version = refl; made = refl; base = refl; writes = is.writes; answered = is.answered; view = is.view; mark = is.mark })
+made_alike stamp base known o is = (_, refl, record { brick = is.brick; boot = is.boot; seq = is.seq; begin = is.begin; group = is.group; stripe = is.stripe; version = refl; made = refl; base = refl; writes = is.writes; answered = is.answered; mark = is.mark })
 
 -- an operation that read a version at once
 pub seen_alike : (stamp : Stamp) (known : OperationRecord) (o : Operation) → TellsOperation known o
     → (p : Operation) × (with_seen stamp (Some o) ≡ Some p) × TellsOperation (seen_kept stamp known) p
-seen_alike stamp known o is = (_, refl, record { brick = is.brick; boot = is.boot; seq = is.seq; begin = is.begin; group = is.group; stripe = is.stripe; version = refl; made = is.made; base = is.base; writes = is.writes; answered = is.answered; view = is.view; mark = is.mark })
+seen_alike stamp known o is = (_, refl, record { brick = is.brick; boot = is.boot; seq = is.seq; begin = is.begin; group = is.group; stripe = is.stripe; version = refl; made = is.made; base = is.base; writes = is.writes; answered = is.answered; mark = is.mark })
 
 -- an operation that ended
 pub ended_alike : (answer : Answer) (known : OperationRecord) (o : Operation) → TellsOperation known o
     → (p : Operation) × (with_answer answer (Some o) ≡ Some p) × TellsOperation (ended_kept (is_answer answer) known) p
-ended_alike answer known o is = (_, refl, record { brick = is.brick; boot = is.boot; seq = is.seq; begin = is.begin; group = is.group; stripe = is.stripe; version = is.version; made = is.made; base = is.base; writes = is.writes; answered = refl; view = is.view; mark = is.mark })
+ended_alike answer known o is = (_, refl, record { brick = is.brick; boot = is.boot; seq = is.seq; begin = is.begin; group = is.group; stripe = is.stripe; version = is.version; made = is.made; base = is.base; writes = is.writes; answered = refl; mark = is.mark })
 
 -- an operation without marks that ended
 pub closed_alike : (cause : Option Cause) (known : OperationRecord) (o : Operation) → TellsOperation known o
     → (p : Operation) × (with_closed cause (Some o) ≡ Some p) × TellsOperation (ended_kept (not (is_some cause)) known) p
-closed_alike cause known o is = (_, refl, record { brick = is.brick; boot = is.boot; seq = is.seq; begin = is.begin; group = is.group; stripe = is.stripe; version = is.version; made = is.made; base = is.base; writes = is.writes; answered = refl; view = is.view; mark = is.mark })
+closed_alike cause known o is = (_, refl, record { brick = is.brick; boot = is.boot; seq = is.seq; begin = is.begin; group = is.group; stripe = is.stripe; version = is.version; made = is.made; base = is.base; writes = is.writes; answered = refl; mark = is.mark })
 
 -- each of these keeps the number of an operation's marks
 pub made_marks : (stamp : Stamp) (base : Option Stamp) → KeepsMarks (with_made stamp base)
@@ -288,8 +287,8 @@ number_old numbers i boot seq number k other =
     ∙ value_elsewhere (numbers i boot) seq k number other
 
 -- what is kept of an operation that began at a position
-abbrev pub begun_kept : BrickId → ℕ → ℕ → ℕ → ViewNo → ℕ → Ask → OperationRecord
-begun_kept brick boot seq begin view mark ask =
+abbrev pub begun_kept : BrickId → ℕ → ℕ → ℕ → ℕ → Ask → OperationRecord
+begun_kept brick boot seq begin mark ask =
     record {
       brick = brick;
       boot = boot;
@@ -302,22 +301,21 @@ begun_kept brick boot seq begin view mark ask =
       base = None;
       writes = writes ask.op;
       answered = false;
-      view = view;
       mark = mark;
     }
 
 -- an operation that began
-pub tells_began : (old new : History) (w : World) (brick : BrickId) (view : ViewNo) (ask : Ask) (step : NodeStep) → Tells old w → w.up brick.0 ≡ true
+pub tells_began : (old new : History) (w : World) (brick : BrickId) (ask : Ask) (step : NodeStep) → Tells old w → w.up brick.0 ≡ true
     → new.sent.packets.items ≡ old.sent.packets.items ++ step.packets → new.delivered ≡ old.delivered → new.reports.items ≡ old.reports.items
     → new.marks.items ≡ old.marks.items ++ Begin (length old.marks.items) (length old.marked.items + 1) brick ask ∷ []
     → new.operations.items
-    ≡ old.operations.items ++ begun_kept brick step.node.boot step.node.seq (length old.marks.items) view (length old.marked.items + 1) ask ∷ []
+    ≡ old.operations.items ++ begun_kept brick step.node.boot step.node.seq (length old.marks.items) (length old.marked.items + 1) ask ∷ []
     → new.marked.items ≡ old.marked.items ++ (length old.operations.items + 1) ∷ []
     → ((i : ℕ) → calls_in new.calls i
     ≡ put (calls_in old.calls) brick.0 (calls_in old.calls brick.0 ++ (length old.operations.items + 1) ∷ []) i)
-    → step.node.boot ≡ (w.nodes brick.0).boot → step.node.seq ≡ (w.nodes brick.0).seq + 1 → view.0 ≡ view_at (w.nodes brick.0) ask.group.0
+    → step.node.boot ≡ (w.nodes brick.0).boot → step.node.seq ≡ (w.nodes brick.0).seq + 1
     → Tells new (world_began w brick ask step)
-tells_began old new w brick view ask step tells up sent delivered reports marks operations marked calls boot next view_is = record {
+tells_began old new w brick ask step tells up sent delivered reports marks operations marked calls boot next = record {
   packets = sent ∙ ap (λ xs. xs ++ step.packets) tells.packets;
   reached = λ k. ap (λ (d : Deliveries). get_or d.reached.items k false) delivered ∙ tells.reached k;
   marks = marks ∙ ap (λ (xs : List Mark). xs ++ Begin (length xs) (length old.marked.items + 1) brick ask ∷ []) tells.marks
@@ -344,7 +342,6 @@ tells_began old new w brick view ask step tells up sent delivered reports marks 
         base = refl;
         writes = refl;
         answered = refl;
-        view = view_is;
         mark = ap (λ n. n + 1) tells.marked.count;
       }) tells.operations);
   calls = λ i.
@@ -406,7 +403,7 @@ tells_began old new w brick view ask step tells up sent delivered reports marks 
 pub tells_read : (setting : Setting) (nodes : ℕ → Node) (seqs : ℕ → ℕ) (old new : History) (w : World) (brick : BrickId) (call : Call) → TellsAt seqs old w → w.up brick.0 ≡ true
     → new ≡ record old { operations = new.operations; calls = new.calls }
     → new.operations.items ≡ old.operations.items
-    ++ begun_kept brick call.boot call.seq (length old.marks.items) call.view 0 (record { group = call.group; stripe = call.stripe; op = ReadStripe }) ∷ []
+    ++ begun_kept brick call.boot call.seq (length old.marks.items) 0 (record { group = call.group; stripe = call.stripe; op = ReadStripe }) ∷ []
     → ((i : ℕ) → calls_in new.calls i ≡ put (calls_in old.calls) brick.0 (calls_in old.calls brick.0 ++ (length old.operations.items + 1) ∷ []) i)
     → call.boot ≡ (w.nodes brick.0).boot → call.seq ≡ seqs brick.0 + 1
     → TellsAt (put seqs brick.0 (seqs brick.0 + 1)) new (world_told setting nodes w brick (Began call))
@@ -435,7 +432,6 @@ tells_read setting nodes seqs old new w brick call tells up rest operations call
             base = refl;
             writes = refl;
             answered = refl;
-            view = refl;
             mark = refl;
           }) tells.operations);
       calls = λ i.

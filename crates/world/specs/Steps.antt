@@ -42,6 +42,10 @@ pub record RunsTo (old new : Run) (line : Line) (outcome : Outcome) : Type 0 whe
   pub prints : outcome_text outcome (new_marks (world_of old) (world_of new)) (new_reports (world_of old) (world_of new))
       ≡ line_text (coding old.layout) (world_of old) line step.events
 
+-- a step of this line was run
+abbrev pub HasRun : Run → Run → Line → Type 0
+HasRun old new line = (step : Step) × Runs old new line step
+
 -- the line that the content says was run, and the text is what it prints
 pub record Ran (old new : Run) (content text : List ℕ) : Type 0 where
   pub line : Line

@@ -10,7 +10,7 @@ ghost use Rattle.world.specs.Shown.{ChangesAt, made_kept, seen_kept, ended_kept,
 use crate::call_numbers::CallNumbers;
 use crate::deliveries::Deliveries;
 use crate::sendings::Sendings;
-use fab_base::{Answer, Ask, BrickId, Cause, GroupId, NoMem, Op, Stamp, StripeNo, ViewNo};
+use fab_base::{Answer, Ask, BrickId, Cause, GroupId, NoMem, Op, Stamp, StripeNo};
 use messages::{Call, Messages, Packet};
 use node::{Begun, Outs};
 use protocol::{Answered, Report, Told};
@@ -46,8 +46,6 @@ pub struct OperationRecord {
     pub writes: bool,
     /// Whether it was answered, and not aborted.
     pub answered: bool,
-    /// The view of its group that it runs in.
-    pub view: ViewNo,
     /// The number of its marks, 0 where it has none.
     pub mark: u64,
 }
@@ -182,7 +180,7 @@ impl History {
     ghost use Rattle.coord_phase.specs.Messages.{packets_from};
     ghost use Rattle.protocol.specs.Settings.{Setting};
     ghost use Rattle.protocol.specs.Nodes.{NodeStep};
-    ghost use Rattle.protocol.specs.Nodes.{put as changed, view_at};
+    ghost use Rattle.protocol.specs.Nodes.{put as changed};
     ghost use Rattle.protocol.specs.Worlds.{World, first_world, number_of, world_began, world_stepped, world_stopped, world_answers, with_made, with_seen, with_closed, reports_of};
     ghost use Rattle.world.specs.CallNumbers.{HasCallRoom, calls_in, call_at};
     ghost use Rattle.world.specs.Shown.{Tells, HasStepRoom, HasReadRoom, IsOfCall, AreAnswered, OpensReads, OpensNext, HistoryStays, HistoryBecomes, HistoryNotes, HistoryHears, HistoryChanges, HistoryNotesAside, most_sent, calls_aside, reads_begun};
@@ -279,6 +277,13 @@ impl History {
         Ok(())
     }
 
+    /// Chains what was sent, so that the messages of an operation are found among their own.
+    pub fn chain_sent(&mut self)
+        ensures { HistoryStays self.old self.new }
+    {
+        self.sent.catch_up();
+    }
+
     /// Notes that a brick stops.
     pub fn crash(&mut self, brick: BrickId)
         requires { HasStepRoom self.old }
@@ -290,12 +295,12 @@ impl History {
     }
 
     /// Notes an operation that begins, and what it sends.
-    pub fn begin(&mut self, brick: BrickId, boot: u32, view: ViewNo, ask: Ask, begun: Begun)
+    pub fn begin(&mut self, brick: BrickId, boot: u32, ask: Ask, begun: Begun)
         requires room { HasStepRoom self.old }
         requires call { HasCallRoom self.old.calls brick.0 }
         requires few { vec_len begun.messages ≤ most_sent }
         ensures { (step : NodeStep) → packets_from brick begun.messages.items ≡ step.packets → boot ≡ step.node.boot → begun.seq ≡ step.node.seq
-            → HistoryNotes brick (λ node. OpensNext node step × (view.0 ≡ view_at node ask.group.0)) (λ w. world_began w brick ask step) self.old self.new }
+            → HistoryNotes brick (λ node. OpensNext node step) (λ w. world_began w brick ask step) self.old self.new }
     {
         let Begun { seq, messages } = begun;
         let position = self.marks.len() as u64;
@@ -313,7 +318,6 @@ impl History {
             base: None,
             writes: writes(&ask.op),
             answered: false,
-            view,
             mark: operation,
         });
         self.marked.push_reserved(number);
@@ -386,7 +390,6 @@ impl History {
             base: None,
             writes: false,
             answered: false,
-            view: call.view,
             mark: 0,
         });
         self.calls.add(brick, number);

@@ -7,7 +7,7 @@ ghost use Rattle.world.specs.Runs.{ask_of, block_no, group_no, member_no, op_of}
 
 use crate::bricks::{
     Brick, ask_brick, ask_to_propose, ask_to_sync, boot_of, find_up, fresh_bricks, hand_over,
-    start_brick, stop_brick, tick_brick, view_of,
+    start_brick, stop_brick, tick_brick,
 };
 use crate::histories::{History, packet_at};
 use fab_base::{Ask, BrickId, GroupId, NoMem, Op, Refusal, StripeNo};
@@ -202,10 +202,9 @@ impl Simulation {
     {
         self.history.expect_call(alloc, brick)?;
         let boot = boot_of(&self.bricks, brick);
-        let view = view_of(&self.bricks, brick, ask.group);
         match ask_brick(&mut self.bricks, brick, &ask) {
             Ok(begun) => {
-                self.history.begin(brick, boot, view, ask, begun);
+                self.history.begin(brick, boot, ask, begun);
                 Ok(Outcome::Marks)
             }
             Err(NodeFault::Refused(refusal)) => Ok(Outcome::Refused(refusal)),
@@ -439,6 +438,7 @@ impl Simulation {
         ensures ok { IfOk result (RunsLine layout.now self.old self.new (Calm mark bricks.now)) }
         ensures err { OnErr result (RefusesLine layout.now self.old self.new (Calm mark bricks.now)) }
     {
+        self.history.chain_sent();
         let operation = self.history.number_marked(mark);
         if !self.is_calm(layout, operation, bricks) {
             return Ok(Outcome::Idle);
@@ -474,10 +474,27 @@ impl Simulation {
             else {
                 return Ok(some);
             };
-            self.deliver(alloc, layout, place as u64 + 1, None)?;
+            self.deliver_alone(alloc, layout, place as u64 + 1)?;
             from = place + 1;
             some = true;
         }
         Ok(some)
+    }
+
+    /// Delivers the message of a number to an operation that runs alone, and chains what its receiver sends.
+    fn deliver_alone(
+        &mut self,
+        alloc: Global,
+        layout: &Layout,
+        message: u64,
+    ) -> Result<Outcome, NoMem>
+        requires nodes { AreNodesOf layout.now self.old.bricks.items }
+        requires bricks { vec_len self.old.bricks ≡ layout.now.bricks }
+        ensures ok { IfOk result (RunsLine layout.now self.old self.new (Deliver message None)) }
+        ensures err { OnErr result (StaysAs layout.now self.old self.new) }
+    {
+        let outcome = self.deliver(alloc, layout, message, None)?;
+        self.history.chain_sent();
+        Ok(outcome)
     }
 }

@@ -106,7 +106,7 @@ impl World {
     ghost use Rattle.protocol.specs.Happenings.{happenings_of};
     ghost use Rattle.world.specs.Runs.{world_of};
     ghost use Rattle.world.specs.Disks.{ShowsDisks, HasFreshDisks};
-    ghost use Rattle.world.specs.Steps.{Ran, RunsTo, LeavesSome, Stands, log_at, learnt_at, proposer_at};
+    ghost use Rattle.world.specs.Steps.{Ran, RunsTo, HasRun, LeavesSome, Stands, log_at, learnt_at, proposer_at};
     ghost use Rattle.world.specs.Walks.{AreEntriesOf};
 
     /// All bricks up, their stores fresh, their clocks at 0, and nothing sent.
@@ -152,6 +152,23 @@ impl World {
             &self.simulation.history.marks[marks..],
             &self.simulation.history.reports[reports..],
         )?)
+    }
+
+    /// Runs a line, as `step` does, and makes no text of what it came to.
+    ///
+    /// # Errors
+    ///
+    /// `NoMemory` where no memory was left, and nothing that a disk gives or that happened has changed then; of an operation that was to run alone, the
+    /// deliveries before that stay.
+    pub fn run_line(&mut self, line: &Line) -> Result<(), NoMem>
+        ensures ok { OnOk result (HasRun self.old self.new line.now) }
+        ensures err { OnErr result (LeavesSome self.old self.new line.now) }
+        ensures disks { ShowsDisks self.new }
+    {
+        match self.run(line) {
+            Ok(_) => Ok(()),
+            Err(refused) => Err(refused),
+        }
     }
 
     /// Runs a line.

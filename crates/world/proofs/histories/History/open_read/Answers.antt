@@ -13,7 +13,7 @@ returns-clause-opened c setting nodes w seqs tells up is =
     tells_read setting nodes seqs old _ w c.args.brick call tells up refl
     (c.push_reserved.ensures.items
     ∙ ap (λ (p : ℕ). old.operations.items
-    ++ begun_kept c.args.brick call.boot call.seq p call.view 0 (record { group = call.group; stripe = call.stripe; op = ReadStripe }) ∷ [])
+    ++ begun_kept c.args.brick call.boot call.seq p 0 (record { group = call.group; stripe = call.stripe; op = ReadStripe }) ∷ [])
     (c.len-begin.ensures ∙ old.marks.ok.0))
     (λ i. c.add.ensures i ∙ ap (λ (n : ℕ). put (calls_in old.calls) c.args.brick.0 (calls_in old.calls c.args.brick.0 ++ (n + 1) ∷ []) i)
     (c.len.ensures ∙ old.operations.ok.0))

@@ -1,0 +1,4 @@
+pub mod DiskText
+pub mod SpeltLines
+pub mod DrawnLines
+pub mod Worked
