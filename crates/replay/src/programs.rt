@@ -80,7 +80,7 @@ use std::alloc::Global;
 /// |---|---|---|
 /// | 0 | all lines were run | the counts, as `run` prints them last, and `happened total H`, with H happenings over all stripes |
 /// | 2, 6 | as of `run` | as of `run` |
-/// | 7 | no memory was left | nothing, or some of the two lines from their front |
+/// | 7 | no memory was left | nothing |
 ///
 /// The lines are `made_lines` (`specs/MadeRuns.antt`), a function of the seed and of the run so far. They read back as they are spelt, and what `run` prints of them behind the
 /// layout of that disk is strict as above (`IsMadeRun`).
