@@ -97,8 +97,8 @@ pub fn replay<S: Source, K: Sink>(
     ensures source { Kept (S.faults source.old) (S.faults source.new) (S.sound source.old) (S.sound source.new) (result ≡ 5) }
     ensures sink { Kept (K.faults sink.old) (K.faults sink.new) (K.sound sink.old) (K.sound sink.new) (result ≡ 6) }
     // Over sound ends it answers what the words and the input alone call for, as 0 for a legal input, or that memory was lacking.
-    ensures decided { S.sound source.old → K.sound sink.old
-        → IsDecidedFor (request_of (map string_bytes words.now)) (S.told source.old) result }
+    ensures decided { K.sound sink.old
+        → IsDecidedFor (request_of (map string_bytes words.now)) (S.sound source.old) (S.told source.old) result }
 {
     match request_of(alloc, words) {
         Ok(request) => answer(alloc, request, source, sink),
@@ -118,7 +118,7 @@ fn answer<S: Source, K: Sink>(
         (K.told sink.old) (K.told sink.new) result }
     ensures source { Kept (S.faults source.old) (S.faults source.new) (S.sound source.old) (S.sound source.new) (result ≡ 5) }
     ensures sink { Kept (K.faults sink.old) (K.faults sink.new) (K.sound sink.old) (K.sound sink.new) (result ≡ 6) }
-    ensures decided { S.sound source.old → K.sound sink.old → IsDecidedFor request (S.told source.old) result }
+    ensures decided { K.sound sink.old → IsDecidedFor request (S.sound source.old) (S.told source.old) result }
 {
     match request {
         None => refuse_words(sink),
