@@ -12,8 +12,8 @@ use Rattle.fab_host.specs.Opening.{WhereTold}
 use Rattle.serving.specs.Ports.{ports_of, port_of}
 use Rattle.brick.specs.declared.endings.Ending.{Ending}
 use Rattle.brick.specs.declared.endings.Ending.TheVariants.{Formatted, Ended, Commanded, Served, Usage, BadLayout, LongLayout, Source, Sink, Memory, Disk, Host, NotAStore, Worn}
-use Rattle.brick.specs.declared.words.Work.{Work}
-use Rattle.brick.specs.declared.words.Work.TheVariants.{Format, Serve, HostAll}
+use Rattle.brick_words.specs.declared.words.Work.{Work}
+use Rattle.brick_words.specs.declared.words.Work.TheVariants.{Format, Serve, HostAll}
 use Rattle.brick.specs.Bricks.{MayDo, MayRun}
 use Rattle.brick.specs.Endings.{IsDone}
 use Rattle.brick.specs.Formats.{FormatsBrick}

@@ -3,7 +3,7 @@ use Rattle.std.proofs.Common.{◌≡◌, ℕ, suc, ◌+◌, ◌-◌, ◌<◌, �
 use Rattle.fab_base.specs.Layouts.{Layout}
 use Rattle.hosting.specs.Hosted.{Hosted}
 use Rattle.brick.specs.declared.endings.Ending.{Ending}
-use Rattle.brick.specs.declared.words.Task.{Task}
+use Rattle.brick_words.specs.declared.words.Task.{Task}
 use Rattle.brick.specs.Hosts.{HostSeen}
 use Rattle.brick.specs.Locals.{disk_name, HostsByClock, HostsByDisk, HostsBricks, HostsFrom}
 use Rattle.brick.specs.Views.{Views, Streams}

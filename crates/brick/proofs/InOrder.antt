@@ -10,10 +10,10 @@ use Rattle.node.specs.Running.{Running}
 use Rattle.serving.specs.Ports.{ports_of, port_of}
 use Rattle.brick.specs.declared.endings.Ending.{Ending}
 use Rattle.brick.specs.declared.endings.Ending.TheVariants.{Formatted, Ended, Commanded, Served, Usage, BadLayout, LongLayout, Source, Sink, Memory, Disk, Host, NotAStore, Worn}
-use Rattle.brick.specs.declared.words.Task.{Task}
-use Rattle.brick.specs.declared.words.Task.TheVariants.{Commands, Session}
-use Rattle.brick.specs.declared.words.Work.{Work}
-use Rattle.brick.specs.declared.words.Work.TheVariants.{Format, Serve, HostAll}
+use Rattle.brick_words.specs.declared.words.Task.{Task}
+use Rattle.brick_words.specs.declared.words.Task.TheVariants.{Commands, Session}
+use Rattle.brick_words.specs.declared.words.Work.{Work}
+use Rattle.brick_words.specs.declared.words.Work.TheVariants.{Format, Serve, HostAll}
 use Rattle.brick.specs.Bricks.{AsksInOrder, task_call, task_calls, brick_calls, calls_by, calls_of, DoesWork, GoesOn, Works}
 use Rattle.brick.specs.Endings.{status_of, Prints}
 use Rattle.brick.specs.Formats.{FormatsBrick, MakesStore}
@@ -22,7 +22,7 @@ use Rattle.brick.specs.Layouts.{FindsLayout, brick_of}
 use Rattle.brick.specs.Locals.{standard_input, timed, disk_name, HostsBySource, HostsBySession, DoesTask, HostsByClient, HostsByClock, HostsByLink, HostsOver, HostsBricks, HostsLayout}
 use Rattle.brick.specs.Serves.{ServesByClock, ServesByLink, ServesOver, ServesByDisk, ServesBrick, RefusesStore}
 use Rattle.brick.specs.Views.{Views, Streams, SessionView}
-use Rattle.brick.specs.Words.{Wanted}
+use Rattle.brick_words.specs.Words.{Wanted}
 use Rattle.brick.proofs.Found.{brick_has}
 use Rattle.brick.proofs.FromBrick.{from_first}
 

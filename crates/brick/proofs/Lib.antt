@@ -1,6 +1,5 @@
 mod Lending
 mod Hosts
-mod Places
 mod Found
 mod Starting
 mod Turning
@@ -14,3 +13,4 @@ mod MayHosting
 mod Nesting
 mod InOrder
 mod Printing
+mod Lacking

@@ -16,10 +16,10 @@ use Rattle.hosting.specs.declared.faults.HostFault.{HostFault}
 use Rattle.hosting.specs.declared.faults.HostFault.TheVariants as faults
 use Rattle.hosting.specs.Hosted.{Hosted}
 use Rattle.serving.specs.Ports.{ports_of, port_of}
-use Rattle.brick.specs.declared.words.Task.{Task}
-use Rattle.brick.specs.declared.words.Task.TheVariants.{Commands, Session}
-use Rattle.brick.specs.declared.words.Work.{Work}
-use Rattle.brick.specs.declared.words.Work.TheVariants.{HostAll}
+use Rattle.brick_words.specs.declared.words.Task.{Task}
+use Rattle.brick_words.specs.declared.words.Task.TheVariants.{Commands, Session}
+use Rattle.brick_words.specs.declared.words.Work.{Work}
+use Rattle.brick_words.specs.declared.words.Work.TheVariants.{HostAll}
 use Rattle.brick.specs.Bricks.{MayRun}
 use Rattle.brick.specs.Endings.{status_of, IsDone}
 use Rattle.brick.specs.Hosts.{HostSeen, Told, Has, ReturnsSource}

@@ -13,7 +13,7 @@ use Rattle.brick.specs.declared.endings.Ending.{Ending}
 use Rattle.brick.specs.declared.endings.Ending.TheVariants as ends
 use Rattle.brick.specs.declared.openings.Equipment.{Equipment}
 use Rattle.brick.specs.declared.openings.Equipment.TheVariants as opened
-use Rattle.brick.specs.declared.words.Task.{Task}
+use Rattle.brick_words.specs.declared.words.Task.{Task}
 use Rattle.brick.specs.Hosts.{HostSeen, Told, Has, KnowsStill, IsReturned, IsRefused}
 use Rattle.brick.specs.Locals.{disk_name, Deed, HostsOver, HostsByDisk, HasBricks}
 use Rattle.brick.specs.Openings.{GivesLinkBack, GivesBack, OpensBrick, RefusesLink, RefusesBrick, HoldsBrick}

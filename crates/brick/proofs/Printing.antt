@@ -5,9 +5,9 @@ use Rattle.fab_io.specs.Ends.{Rose, Kept}
 use Rattle.fab_base.proofs.Keeping.{Rose-later}
 use Rattle.brick.specs.declared.endings.Ending.{Ending}
 use Rattle.brick.specs.declared.endings.Ending.TheVariants.{Formatted, Ended, Commanded, Served, Usage, BadLayout, LongLayout, Source, Sink, Memory, Disk, Host, NotAStore, Worn}
-use Rattle.brick.specs.declared.words.Task.TheVariants.{Commands, Session}
-use Rattle.brick.specs.declared.words.Work.{Work}
-use Rattle.brick.specs.declared.words.Work.TheVariants.{Format, Serve, HostAll}
+use Rattle.brick_words.specs.declared.words.Task.TheVariants.{Commands, Session}
+use Rattle.brick_words.specs.declared.words.Work.{Work}
+use Rattle.brick_words.specs.declared.words.Work.TheVariants.{Format, Serve, HostAll}
 use Rattle.brick.specs.Bricks.{FailsAt, OutFailed}
 use Rattle.brick.specs.Endings.{status_of, Prints, IsDone}
 

@@ -8,10 +8,10 @@ use Rattle.fab_host.specs.Asking.{Asks}
 use Rattle.fab_host.specs.Holdings.{Holdings}
 use Rattle.fab_host.specs.Opening.{Lends, WhereTold}
 use Rattle.brick.specs.declared.endings.Ending.{Ending}
-use Rattle.brick.specs.declared.words.Task.{Task}
-use Rattle.brick.specs.declared.words.Task.TheVariants.{Commands, Session}
-use Rattle.brick.specs.declared.words.Work.{Work}
-use Rattle.brick.specs.declared.words.Work.TheVariants.{Format, Serve, HostAll}
+use Rattle.brick_words.specs.declared.words.Task.{Task}
+use Rattle.brick_words.specs.declared.words.Task.TheVariants.{Commands, Session}
+use Rattle.brick_words.specs.declared.words.Work.{Work}
+use Rattle.brick_words.specs.declared.words.Work.TheVariants.{Format, Serve, HostAll}
 use Rattle.brick.specs.Bricks.{FailsAt}
 use Rattle.brick.specs.Endings.{status_of, IsDone}
 use Rattle.brick.specs.Hosts.{HostSeen, Told, Has, KnowsStill, IsRefused, refusal_by}

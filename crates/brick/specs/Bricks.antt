@@ -6,10 +6,10 @@ use Rattle.fab_host.specs.declared.hosts.Asked.TheVariants as calls
 use Rattle.fab_host.specs.Holdings.{Holdings}
 use Rattle.serving.specs.Ports.{ports_of, port_of}
 use Rattle.brick.specs.declared.endings.Ending.{Ending}
-use Rattle.brick.specs.declared.words.Task.{Task}
-use Rattle.brick.specs.declared.words.Task.TheVariants.{Commands, Session}
-use Rattle.brick.specs.declared.words.Work.{Work}
-use Rattle.brick.specs.declared.words.Work.TheVariants.{Format, Serve, HostAll}
+use Rattle.brick_words.specs.declared.words.Task.{Task}
+use Rattle.brick_words.specs.declared.words.Task.TheVariants.{Commands, Session}
+use Rattle.brick_words.specs.declared.words.Work.{Work}
+use Rattle.brick_words.specs.declared.words.Work.TheVariants.{Format, Serve, HostAll}
 use Rattle.brick.specs.Endings.{status_of, text_of, usage_text, Prints}
 use Rattle.brick.specs.Formats.{FormatsBrick, MayFormat}
 use Rattle.brick.specs.Hosts.{HostSeen}
@@ -17,7 +17,7 @@ use Rattle.brick.specs.Layouts.{FindsLayout, brick_of}
 use Rattle.brick.specs.Locals.{standard_input, disk_name, FailsOut, HostsLayout, MayHost}
 use Rattle.brick.specs.Serves.{ServesBrick, MayServe}
 use Rattle.brick.specs.Views.{Views, Streams}
-use Rattle.brick.specs.Words.{Wanted}
+use Rattle.brick_words.specs.Words.{Wanted}
 
 -- the call that opens what a task is done with
 abbrev pub task_call : Task → Asked

@@ -1,4 +1,3 @@
-pub mod Words
 pub mod Endings
 pub mod Hosts
 pub mod Views

@@ -25,8 +25,8 @@ use Rattle.nbd_hosting.specs.Serving as nbd
 use Rattle.serving.specs.declared.faults.ServeFault.{ServeFault}
 use Rattle.brick.specs.declared.endings.Ending.{Ending}
 use Rattle.brick.specs.declared.endings.Ending.TheVariants.{Commanded, Served, Source, Sink, Memory, Disk, Host}
-use Rattle.brick.specs.declared.words.Task.{Task}
-use Rattle.brick.specs.declared.words.Task.TheVariants.{Commands, Session}
+use Rattle.brick_words.specs.declared.words.Task.{Task}
+use Rattle.brick_words.specs.declared.words.Task.TheVariants.{Commands, Session}
 use Rattle.brick.specs.Endings.{status_of}
 use Rattle.brick.specs.Hosts.{HostSeen, IsRefused, Borrows}
 use Rattle.brick.specs.Layouts.{HoldsLayout}

@@ -10,7 +10,7 @@ ghost use Rattle.brick.specs.Locals.{ending_by, AreSame, AreRunning, KeepsHosted
 ghost use Rattle.brick.specs.Views.{views, session_of, session_view, streams};
 
 use crate::endings::Ending;
-use crate::words::Task;
+use brick_words::Task;
 use fab_disk::Disk;
 use fab_host::{Connection, Host};
 use fab_io::{Clock, Link, Sink, Source};

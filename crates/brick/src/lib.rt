@@ -10,6 +10,5 @@ mod locals;
 mod openings;
 mod programs;
 mod serves;
-mod words;
 
 pub use programs::brick;

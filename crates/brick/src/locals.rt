@@ -12,7 +12,7 @@ ghost use Rattle.brick.specs.Views.{views, streams};
 use crate::commands::run_by_clock;
 use crate::endings::Ending;
 use crate::openings::{Equipment, give_back, open_brick, port_of};
-use crate::words::Task;
+use brick_words::Task;
 use fab_base::BrickId;
 use fab_disk::Disk;
 use fab_host::Host;

@@ -6,16 +6,16 @@ ghost use Rattle.brick.specs.Bricks.{Works, FailsAt, Ran, Runs, MayRun};
 ghost use Rattle.brick.specs.Endings.{IsDone};
 ghost use Rattle.brick.specs.Hosts.{host_seen};
 ghost use Rattle.brick.specs.Views.{views, streams};
-ghost use Rattle.brick.specs.Words.{command_of, wanted};
+ghost use Rattle.brick_words.specs.Words.{command_of, wanted};
 
 use crate::endings::{Ending, finish};
 use crate::formats::format;
 use crate::layout_texts::find_layout;
 use crate::locals::host_all;
 use crate::serves::serve;
-use crate::words::{Words, Work, parse};
+use brick_words::{Words, Work, words_of};
 use fab_host::Host;
-use fab_io::Sink;
+use fab_io::{NO_MEMORY, Sink};
 use std::alloc::Global;
 
 /// Runs the program `brick` with these words (its own name left out), and answers its exit status.
@@ -63,9 +63,10 @@ pub fn brick<H: Host, K: Sink>(alloc: Global, words: &[String], host: &mut H, ou
     ensures complete { H.sound host.old → K.sound out.old
         → MayRun H.Source.told H.Disk.tells H.Disk.seen (H.holds host.old) (command_of (map string_bytes words.now)) → (result ≡ 0) ⊎ (result ≡ 7) }
 {
-    match parse(words) {
-        Some(found) => run(alloc, found, host, out),
-        None => finish(alloc, out, &Ending::Usage),
+    match words_of(alloc, words) {
+        Ok(Some(found)) => run(alloc, found, host, out),
+        Ok(None) => finish(alloc, out, &Ending::Usage),
+        Err(_) => NO_MEMORY,
     }
 }
 

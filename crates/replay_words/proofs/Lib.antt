@@ -1,3 +1,3 @@
-pub mod Options
+pub mod Flags
 pub mod Parses
 pub mod Legal

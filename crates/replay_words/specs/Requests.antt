@@ -1,5 +1,5 @@
 -- What words ask for.
-use Rattle.std.specs.Prelude.{ℕ, ◌==◌, ◌≤◌, ⊤, nat_le, Bool, if◌then◌else◌, List, [], ◌∷◌, slice_index, codes, Option, Some, None}
+use Rattle.std.specs.Prelude.{ℕ, ◌≤◌, ⊤, nat_le, if◌then◌else◌, List, [], ◌∷◌, codes, Option, Some, None}
 use Rattle.std.specs.Str.{bytes_eq}
 use Rattle.clap.specs.Matches.{first_value}
 use Rattle.clap.specs.declared.parser.matches.Found.{Found}
@@ -36,10 +36,6 @@ abbrev pub IsLegal : Request → Type 0
 IsLegal Run = ⊤
 IsLegal Audit = ⊤
 IsLegal (Make seed lines) = lines ≤ 1048576
-
--- a word begins with `-`
-abbrev pub is_option : List ℕ → Bool
-is_option word = slice_index word 0 == 45
 
 -- what is asked for by a word, and by two more, if they are there
 abbrev pub request_found : Option (List ℕ) → Option (List ℕ) → Option (List ℕ) → Option Request

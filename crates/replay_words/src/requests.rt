@@ -1,17 +1,15 @@
 //! What words ask for. Clap reads them; what it is not to read, help and words that begin with `-`, is no request.
 
-ghost use Rattle.std.specs.Prelude.{◌≡◌, ◌≢◌, false, IfOk, None, map, string_bytes, option_map};
-ghost use Rattle.std.specs.List.{list_any};
+ghost use Rattle.std.specs.Prelude.{◌≡◌, IfOk, map, string_bytes, option_map};
 ghost use Rattle.clap.specs.Matches.{found_of, first_value};
 ghost use Rattle.clap.specs.Simple.{app_of};
-ghost use Rattle.clap.specs.Values.{kind_of};
 ghost use Rattle.replay_words.specs.CommandLines.{named_app, command_app};
-ghost use Rattle.replay_words.specs.Requests.{is_option, one_word, three_words, made_by, request_of, request_found, request_matched};
+ghost use Rattle.replay_words.specs.Requests.{one_word, three_words, made_by, request_of, request_found, request_matched};
 
-use clap::error::ErrorKind;
-use clap::{Arg, ArgMatches, Command, Error};
+use clap::{Arg, ArgMatches, Command};
 use fab_base::NoMem;
 use lines::parse_number;
+use plain_words::read_words;
 use std::alloc::{AllocError, Global};
 
 /// The most lines of a schedule.
@@ -51,25 +49,6 @@ fn command<'a>(alloc: Global) -> Result<Command<'a>, AllocError>
     let two = one.arg(seed)?;
     let three = two.arg(lines)?;
     Ok(three)
-}
-
-/// Whether a word begins with `-`.
-#[tactic(auto, using(crate::proofs::Options::no_byte))]
-fn is_option(word: &str) -> bool
-    ensures { result ≡ is_option word.now }
-{
-    let bytes = word.as_bytes();
-    if bytes.is_empty() {
-        return false;
-    }
-    bytes[0] == b'-'
-}
-
-/// Whether one of the words begins with `-`.
-fn has_option(words: &[String]) -> bool
-    ensures { result ≡ list_any (λ word. is_option (string_bytes word)) words.now }
-{
-    words.iter().any(|word| is_option(word.as_str()))
 }
 
 /// What one word asks for.
@@ -138,16 +117,6 @@ fn request_matched(matches: &ArgMatches) -> Option<Request>
     request_found(word, seed, lines)
 }
 
-/// Whether words were not read for want of memory.
-fn is_memory(error: &Error) -> bool
-    ensures { result ≡ false → kind_of error.now ≢ ErrorKind.OutOfMemory }
-{
-    match error.kind() {
-        ErrorKind::OutOfMemory => true,
-        _ => false,
-    }
-}
-
 /// What these words ask for, the program's own name left out. None where they are none of the forms.
 ///
 /// # Errors
@@ -156,17 +125,9 @@ fn is_memory(error: &Error) -> bool
 pub fn request_of(alloc: Global, words: &[String]) -> Result<Option<Request>, NoMem>
     ensures { IfOk result (λ request. request ≡ request_of (map string_bytes words.now)) }
 {
-    if has_option(words) {
-        return Ok(None);
-    }
     let line = command(alloc)?;
-    match line.try_get_matches_from(words) {
-        Ok(matches) => Ok(request_matched(&matches)),
-        Err(error) => {
-            if is_memory(&error) {
-                return Err(NoMem::NoMemory);
-            }
-            Ok(None)
-        }
+    match read_words(line, words)? {
+        Some(matches) => Ok(request_matched(&matches)),
+        None => Ok(None),
     }
 }

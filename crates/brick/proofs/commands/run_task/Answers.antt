@@ -1,8 +1,8 @@
 -- The commands were run, or the session was served, by the task.
 use Rattle.std.proofs.Common.{refl, sym, subst}
 use Rattle.fab_base.proofs.Keeping.{Kept-refl, Kept-narrower}
-use Rattle.brick.specs.declared.words.Task.{Task}
-use Rattle.brick.specs.declared.words.Task.TheVariants.{Commands, Session}
+use Rattle.brick_words.specs.declared.words.Task.{Task}
+use Rattle.brick_words.specs.declared.words.Task.TheVariants.{Commands, Session}
 use Rattle.brick.specs.Hosts.{host_seen, Has}
 use Rattle.brick.specs.Locals.{FailsOut, DoesTask, HasCommands, HasSession, HasTask}
 use Rattle.brick.specs.Views.{views, streams}

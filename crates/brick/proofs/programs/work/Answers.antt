@@ -1,7 +1,7 @@
 -- What is wanted was done over the layout that was found.
 use Rattle.std.proofs.Common.{Ok, Err, refl, sym, ap, subst}
 use Rattle.fab_base.proofs.Keeping.{Kept-refl, Kept-narrower}
-use Rattle.brick.specs.declared.words.Work.{Work}
+use Rattle.brick_words.specs.declared.words.Work.{Work}
 use Rattle.brick.specs.Bricks.{DoesWork, FailsAt}
 use Rattle.brick.specs.Hosts.{host_seen}
 use Rattle.brick.specs.Views.{views, streams}

@@ -1,24 +1,14 @@
 -- Words that begin with `-` are no request.
-use Rattle.std.proofs.Common.{◌≡◌, ℕ, ◌==◌, ◌&&◌, ◌||◌, ◌^◌, Bool, true, false, nat_lt, nat_le, List, [], ◌∷◌, length, map, Option, Some, None, refl, sym, ap, subst, arith, codes, eqb-true}
-use Rattle.std.specs.Prelude.{slice_index, if◌then◌else◌}
-use Rattle.std.specs.List.{list_any}
+use Rattle.std.proofs.Common.{◌≡◌, ℕ, ◌&&◌, ◌||◌, ◌^◌, Bool, true, false, nat_lt, nat_le, List, [], ◌∷◌, length, Option, Some, None, refl, sym, ap, subst, codes, eqb-true}
+use Rattle.std.specs.Prelude.{if◌then◌else◌}
 use Rattle.std.specs.Str.{bytes_eq}
 use Rattle.std.specs.Str.Parse.{digits_value}
 use Rattle.lines.specs.Grammar.{◌>>=◌}
 use Rattle.lines.specs.Tokens.{number}
 use Rattle.replay_words.specs.declared.requests.Request.{Request}
 use Rattle.replay_words.specs.declared.requests.Request.TheVariants.{Make}
-use Rattle.replay_words.specs.Requests.{is_option, one_word, made_by, three_words, request_of}
-
--- no byte, and so none that is `-`
-pub no_byte : (word : List ℕ) → length word ≡ 0 → (slice_index word 0 == 45) ≡ false
-no_byte [] none = refl
-no_byte (byte ∷ rest) none = absurd (omega arith)
-
--- a test of what stands behind each word
-pub any-map : {X : Type 0} (text : X → List ℕ) (words : List X) → list_any (λ word. is_option (text word)) words ≡ list_any is_option (map text words)
-any-map text [] = refl
-any-map text (word ∷ words) = ap (λ (b : Bool). is_option (text word) || b) (any-map text words)
+use Rattle.plain_words.specs.Readings.{is_flag, has_flag}
+use Rattle.replay_words.specs.Requests.{one_word, made_by, three_words, request_of}
 
 -- one of two holds
 one_of : (p q : Bool) (A : Type 0) → (p || q) ≡ true → (p ≡ true → A) → (q ≡ true → A) → A
@@ -26,7 +16,7 @@ one_of true q A some left right = left refl
 one_of false q A some left right = right some
 
 -- a word that begins so
-hyphen : (P : List ℕ → Type 0) (word : List ℕ) → is_option word ≡ true → ((rest : List ℕ) → P (45 ∷ rest)) → P word
+hyphen : (P : List ℕ → Type 0) (word : List ℕ) → is_flag word ≡ true → ((rest : List ℕ) → P (45 ∷ rest)) → P word
 hyphen P [] is behind = absurd (cc)
 hyphen P (byte ∷ rest) is behind = subst (λ (b : ℕ). P (b ∷ rest)) (sym (eqb-true byte 45 is)) (behind rest)
 
@@ -56,21 +46,21 @@ either_none true request none = none
 either_none false request none = refl
 
 -- three words, one of which begins with `-`
-three_none : (word seed lines : List ℕ) → (is_option word || (is_option seed || (is_option lines || false))) ≡ true → three_words word seed lines ≡ None
+three_none : (word seed lines : List ℕ) → (is_flag word || (is_flag seed || (is_flag lines || false))) ≡ true → three_words word seed lines ≡ None
 three_none word seed lines some =
-    one_of (is_option word) (is_option seed || (is_option lines || false)) (three_words word seed lines ≡ None) some
+    one_of (is_flag word) (is_flag seed || (is_flag lines || false)) (three_words word seed lines ≡ None) some
     (λ is. hyphen (λ w. three_words w seed lines ≡ None) word is (λ rest. refl))
-    (λ more. one_of (is_option seed) (is_option lines || false) (three_words word seed lines ≡ None) more
+    (λ more. one_of (is_flag seed) (is_flag lines || false) (three_words word seed lines ≡ None) more
     (λ is. hyphen (λ s. three_words word s lines ≡ None) seed is (λ rest. either_none (bytes_eq word (codes "make")) _ (no_seed rest lines)))
-    (λ last. one_of (is_option lines) false (three_words word seed lines ≡ None) last
+    (λ last. one_of (is_flag lines) false (three_words word seed lines ≡ None) last
     (λ is. hyphen (λ n. three_words word seed n ≡ None) lines is (λ rest. either_none (bytes_eq word (codes "make")) _ (no_lines seed rest)))
     (λ bad. absurd (cc))))
 
 -- words, one of which begins with `-`
-pub option_none : (words : List (List ℕ)) → list_any is_option words ≡ true → request_of words ≡ None
-option_none [] some = refl
-option_none (word ∷ []) some =
-    one_of (is_option word) false (one_word word ≡ None) some (λ is. hyphen (λ w. one_word w ≡ None) word is (λ rest. refl)) (λ bad. absurd (cc))
-option_none (word ∷ (seed ∷ [])) some = refl
-option_none (word ∷ (seed ∷ (lines ∷ []))) some = three_none word seed lines some
-option_none (word ∷ (seed ∷ (lines ∷ (more ∷ words)))) some = refl
+pub flag_none : (words : List (List ℕ)) → has_flag words ≡ true → request_of words ≡ None
+flag_none [] some = refl
+flag_none (word ∷ []) some =
+    one_of (is_flag word) false (one_word word ≡ None) some (λ is. hyphen (λ w. one_word w ≡ None) word is (λ rest. refl)) (λ bad. absurd (cc))
+flag_none (word ∷ (seed ∷ [])) some = refl
+flag_none (word ∷ (seed ∷ (lines ∷ []))) some = three_none word seed lines some
+flag_none (word ∷ (seed ∷ (lines ∷ (more ∷ words)))) some = refl

@@ -1,0 +1,7 @@
+-- The setting changes that one thing.
+use Rattle.std.proofs.Common.{true, ap, ◌∙◌}
+use Rattle.clap.specs.Simple.{app_of_fields, on_top}
+use Rattle.brick_words.proofs.words.named.Goals as goal
+
+pub returns : goal.returns
+returns c = ap app_of_fields c.no_binary_name.ensures ∙ ap (on_top (λ s. record s { no_binary_name = true })) c.new.ensures.app
