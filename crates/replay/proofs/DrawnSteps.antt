@@ -15,18 +15,17 @@ use Rattle.made.specs.Draws.{seeded}
 use Rattle.made.specs.Lines.{next_line}
 use Rattle.made.specs.Spellings.{spelt}
 use Rattle.made.proofs.DiskText.{disk-read}
-use Rattle.world.specs.Runs.{Run, Step, world_of, all_events}
+use Rattle.world.specs.Runs.{Run, Step, world_of}
 use Rattle.world.specs.Steps.{Runs, HasRun}
-use Rattle.printed.specs.Outputs.{most_lines, left_by, steps_text, closing_text}
+use Rattle.printed.specs.Outputs.{most_lines, left_by, steps_text}
 use Rattle.printed.specs.Spellings.{WorldReads}
-use Rattle.printed.specs.LineSteps.{LeadsTo, AreLinesOfSteps, AreStepsOf, StartsFresh}
-use Rattle.replay.specs.declared.endings.RunResult.{RunResult}
+use Rattle.printed.specs.LineSteps.{AreLinesOfSteps, AreStepsOf, StartsFresh}
 use Rattle.replay.specs.declared.endings.RunResult.TheVariants.{Whole}
-use Rattle.replay.specs.Inputs.{Input, Parted}
+use Rattle.replay.specs.Inputs.{Parted}
 use Rattle.replay.specs.Outputs.{Output, onto, output_of}
 use Rattle.replay.specs.LineSteps.{BeginsWith}
 use Rattle.replay.specs.Turns.{WorldReadsOf}
-use Rattle.replay.specs.MadeRuns.{drawn_lines, made_lines, made_schedule, made_input, made_text, summary_text, IsMadeRun, SumsUp}
+use Rattle.replay.specs.MadeRuns.{drawn_lines, made_lines, made_schedule, made_input, summary_text, SumsUp}
 use Rattle.replay.specs.DrawnRuns.{RunsDrawn, HasDrawn, DrawsAll, left_of}
 use Rattle.replay.proofs.Steppings.{after_steps, after_steps-all, leads_none, leads_one, leads_both, leads_layout, leads_world, lines_both}
 use Rattle.replay.proofs.OutputLines.{output_behind-end, output_of-steps}

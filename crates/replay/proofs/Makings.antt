@@ -1,20 +1,11 @@
--- How a made run is stopped, and what its status says.
+-- What the status of a made run says.
 use Rattle.std.proofs.Common.{◌≡◌, ℕ, ◌⊎◌, List, Option, Result, Ok, Err, refl, inl, inr}
-use Rattle.std.specs.Io.KnownBytes.{Keeps}
-use Rattle.fab_io.specs.Ends.{AppendsFront}
 use Rattle.replay.specs.declared.endings.RunResult.{RunResult}
 use Rattle.replay.specs.declared.endings.RunResult.TheVariants.{Whole, BadLayout, BadLine, TooManyLines, Refuted}
 use Rattle.replay.specs.declared.endings.Halt.{Halt}
 use Rattle.replay.specs.declared.endings.Halt.TheVariants.{Source, Sink, Memory}
 use Rattle.replay.specs.Replays.{status_of}
-use Rattle.replay.specs.MadeRuns.{SumsUp, MakePrints}
-
--- the write of its summary was stopped
-pub make_stopped : (seed lines : ℕ) (old new : Option (List ℕ)) (text : List ℕ) (halt : Halt) → SumsUp seed lines text → (halt ≡ Source → ⊥)
-    → AppendsFront old new text → (halt ≡ Memory → Keeps old new) → MakePrints seed lines old new (Err halt)
-make_stopped seed lines old new text Source sums never front kept = absurd (never refl)
-make_stopped seed lines old new text Sink sums never front kept = (text, sums, front)
-make_stopped seed lines old new text Memory sums never front kept = kept refl
+use Rattle.replay.specs.MadeRuns.{MakePrints}
 
 -- where the sink did not fail, it was whole or lacked memory
 pub make_decided : (seed lines : ℕ) (old new : Option (List ℕ)) (ending : Result RunResult Halt) → MakePrints seed lines old new ending

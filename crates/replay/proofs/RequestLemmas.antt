@@ -1,5 +1,5 @@
 -- What is answered to a request, by what was done.
-use Rattle.std.proofs.Common.{◌≡◌, ℕ, ◌⊎◌, List, [], Option, Some, None, Result, Ok, Err, refl, sym, inl, inr, subst}
+use Rattle.std.proofs.Common.{◌≡◌, ℕ, List, [], Option, Some, None, Result, Ok, Err, refl, sym, inr, subst}
 use Rattle.std.specs.Io.KnownBytes.{IsAtEnd}
 use Rattle.std.proofs.KnownBytes.{Keeps-refl}
 use Rattle.fab_io.proofs.Content.{AppendsFront-none}
@@ -12,8 +12,8 @@ use Rattle.replay.specs.declared.endings.Halt.TheVariants.{Source, Memory}
 use Rattle.replay.specs.Outputs.{output_of}
 use Rattle.replay.specs.Turns.{Prints, PrintsInput}
 use Rattle.replay.specs.Readings.{ReadsPart}
-use Rattle.replay.specs.Replays.{status_of, usage_text, RunGoesOn, LeavesOpen, RunEnds, IsDecided}
-use Rattle.replay.specs.Audits.{AuditGoesOn, AuditPrints, FindsIn, AuditEnds, IsAuditDecided}
+use Rattle.replay.specs.Replays.{status_of, usage_text, RunGoesOn, LeavesOpen, RunEnds}
+use Rattle.replay.specs.Audits.{AuditGoesOn, AuditPrints, FindsIn, AuditEnds}
 use Rattle.replay.specs.Requests.{AnswersTo, IsDecidedFor}
 use Rattle.replay.proofs.Inputs.{PrintsInput-stopped}
 use Rattle.replay.proofs.Linearity.{linearizable, stays_strict}

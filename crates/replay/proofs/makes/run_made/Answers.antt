@@ -1,5 +1,5 @@
 -- Each round draws one more line.
-use Rattle.std.proofs.Common.{◌≡◌, subst, sym}
+use Rattle.std.proofs.Common.{subst, sym}
 use Rattle.rand_pcg.specs.Lcg.{Lcg}
 use Rattle.made.specs.Draws.{seeded}
 use Rattle.replay.specs.DrawnRuns.{HasDrawn}
@@ -13,6 +13,3 @@ loop-count-init c =
 
 pub loop-count-preserved : goal.loop-count-preserved
 loop-count-preserved c = drawn_one_more _ _ _ _ _ _ c.loop-count._count c.loop-count.invariant c.in_ok-run_next.ensures
-
-pub returns : goal.returns
-returns c = (c.loop-count.maker, c.loop-count.invariant)

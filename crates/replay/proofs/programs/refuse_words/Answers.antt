@@ -1,5 +1,5 @@
 -- The usage line was written, or not.
-use Rattle.std.proofs.Common.{◌≡◌, ℕ, ◌⊎◌, Result, Err, inl, inr, refl, sym, ap, ◌∙◌, subst}
+use Rattle.std.proofs.Common.{◌≡◌, ℕ, ◌⊎◌, Err, inl, inr, refl, sym, ap, ◌∙◌, subst}
 use Rattle.std.specs.Io.KnownBytes.{Appends}
 use Rattle.fab_io.specs.Ends.{AppendsFront}
 use Rattle.replay.proofs.Statuses.{of_write, of_sound}
