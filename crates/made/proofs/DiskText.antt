@@ -1,5 +1,5 @@
 -- The text of the disk's layout, as a TOML document.
-use Rattle.std.proofs.Common.{◌≡◌, Bool, true, codes, pos, Some, Ok, refl, ap, ◌∙◌}
+use Rattle.std.proofs.Common.{◌≡◌, true, codes, pos, Some, Ok, refl, ap, ◌∙◌}
 use Rattle.std.specs.Str.{is_utf8, chars}
 use lib.Utf8.{encode}
 use Rattle.std.proofs.lemmas.Str.{IsUtf8-from_is_utf8}

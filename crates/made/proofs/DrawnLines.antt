@@ -1,5 +1,5 @@
 -- Each line that may be drawn reads back as it is spelt.
-use Rattle.std.proofs.Common.{◌≡◌, ℕ, zero, suc, ◌+◌, ◌-◌, ◌*◌, ◌/◌, ◌%◌, ◌<◌, ◌≤◌, ◌^◌, ◌==◌, Bool, true, false, not, min, List, [], ◌∷◌, ◌++◌, length, Option, Some, None, refl, sym, ap, subst, arith, codes, length-append}
+use Rattle.std.proofs.Common.{◌≡◌, ℕ, zero, suc, ◌+◌, ◌-◌, ◌%◌, ◌<◌, ◌≤◌, ◌^◌, ◌==◌, Bool, true, false, min, List, [], ◌∷◌, ◌++◌, length, Some, None, refl, sym, ap, subst, arith, codes}
 use Rattle.std.specs.Prelude.{slice_index, if◌then◌else◌}
 use Rattle.std.specs.Fmt.{decimal}
 use Rattle.std.specs.Int.{w32, to_be_bytes}
@@ -11,10 +11,10 @@ use Rattle.lines.specs.declared.forms.Access.TheVariants.{WriteBlock, ReadBlock,
 use Rattle.lines.specs.declared.forms.Fault.TheVariants.{Cut}
 use Rattle.rand_pcg.specs.Lcg.{Lcg}
 use Rattle.rand_pcg.specs.Pcg.{pcg32}
-use Rattle.made.specs.Draws.{◌>>=◌, just, number_below, four_bytes, eight_bytes}
+use Rattle.made.specs.Draws.{◌>>=◌, just, number_below}
 use Rattle.made.specs.Lines.{write_line, read_line, write_all_line, read_all_line, tick_line, clock_line, crash_line, start_line, power_line, proposal_line, sync_line, change_line, message, delivery_line, cut_line, fault_line, line_of_kind, next_line}
-use Rattle.made.specs.Spellings.{spaced, spelt}
-use Rattle.made.proofs.SpeltLines.{IsWord, AreWords, NoWords, Words, clear_of, line_back, decimal_word, hex_word, write_back, read_back, write_all_back, read_all_back, tick_back, crash_back, start_back, clock_back, sync_back, propose_back, deliver_back, cut_back}
+use Rattle.made.specs.Spellings.{spelt}
+use Rattle.made.proofs.SpeltLines.{IsWord, NoWords, Words, clear_of, line_back, decimal_word, hex_word, write_back, read_back, write_all_back, read_all_back, tick_back, crash_back, start_back, clock_back, sync_back, propose_back, deliver_back, cut_back}
 
 -- a line reads back
 abbrev Reads : Line → Type 0

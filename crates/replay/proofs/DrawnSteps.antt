@@ -30,7 +30,7 @@ use Rattle.replay.specs.MadeRuns.{drawn_lines, made_lines, made_schedule, made_i
 use Rattle.replay.specs.DrawnRuns.{RunsDrawn, HasDrawn, DrawsAll, left_of}
 use Rattle.replay.proofs.Steppings.{after_steps, after_steps-all, leads_none, leads_one, leads_both, leads_layout, leads_world, lines_both}
 use Rattle.replay.proofs.OutputLines.{output_behind-end, output_of-steps}
-use Rattle.replay.proofs.Linearity.{linearizable}
+use Rattle.replay.proofs.Linearity.{linearizable, stays_strict}
 
 -- the line that was drawn is that of the step
 pub runs_drawn : (before after : Run) (random random_after : Lcg) (sent : ℕ) (line : Line) → sent ≡ length (world_of before).packets
@@ -154,6 +154,7 @@ sums_up seed lines first last text few first_is fresh draws told text_is =
         count_is = has.count_is;
         are_drawn = lines_are;
         steps_are = are;
+        is_strict = (stays_strict (made_input seed has.steps)).strict made_layout has.steps (made_begins seed has.steps are);
         linearizable = linearizable (made_input seed has.steps) has.steps (Ok Whole) refl
             (inl (made_layout, made_begins seed has.steps are, omega (arith, has.count_is, few))) (made_whole seed has.steps are)
             (made_told seed has.steps left_told);

@@ -77,13 +77,13 @@ answers_memory (Some Audit) source old came untouched same =
 answers_memory (Some (Make seed lines)) source old came untouched same =
     (record { ending = lacking; status_is = refl; printed = Keeps-refl old }, same)
 
-pub decided_memory : (request : Option Request) (source : Option (List ℕ)) → IsDecidedFor request source 7
-decided_memory None source = inr refl
-decided_memory (Some Run) None = tt
-decided_memory (Some Run) (Some bytes) = inr refl
-decided_memory (Some Audit) None = tt
-decided_memory (Some Audit) (Some bytes) = inr refl
-decided_memory (Some (Make seed lines)) source = inr refl
+pub decided_memory : (request : Option Request) (sound : Type 0) (source : Option (List ℕ)) → IsDecidedFor request sound source 7
+decided_memory None sound source = inr refl
+decided_memory (Some Run) sound None = λ is. tt
+decided_memory (Some Run) sound (Some bytes) = λ is. inr refl
+decided_memory (Some Audit) sound None = λ is. tt
+decided_memory (Some Audit) sound (Some bytes) = λ is. inr refl
+decided_memory (Some (Make seed lines)) sound source = inr refl
 
 -- the same of what was asked, where that is this request
 pub as_asked : (asked request : Option Request) (source source_after : Option (List ℕ)) (came : ℕ) (untouched : Type 0) (sink sink_after : Option (List ℕ))
@@ -92,6 +92,6 @@ pub as_asked : (asked request : Option Request) (source source_after : Option (L
 as_asked asked request source source_after came untouched sink sink_after status is answers =
     subst (λ (r : Option Request). AnswersTo r source source_after came untouched sink sink_after status) (sym is) answers
 
-pub decided_as_asked : (asked request : Option Request) (source : Option (List ℕ)) (status : ℕ) → asked ≡ request → IsDecidedFor request source status
-    → IsDecidedFor asked source status
-decided_as_asked asked request source status is decided = subst (λ (r : Option Request). IsDecidedFor r source status) (sym is) decided
+pub decided_as_asked : (asked request : Option Request) (sound : Type 0) (source : Option (List ℕ)) (status : ℕ) → asked ≡ request
+    → IsDecidedFor request sound source status → IsDecidedFor asked sound source status
+decided_as_asked asked request sound source status is decided = subst (λ (r : Option Request). IsDecidedFor r sound source status) (sym is) decided

@@ -26,7 +26,7 @@ use Rattle.replay.specs.declared.endings.Halt.{Halt}
 use Rattle.replay.specs.declared.endings.Halt.TheVariants.{Source, Sink, Memory}
 use Rattle.replay.specs.Inputs.{Input, Parted}
 use Rattle.replay.specs.Outputs.{output_of}
-use Rattle.replay.specs.Replays.{IsLinearizable, status_of}
+use Rattle.replay.specs.Replays.{IsStrictWorld, IsLinearizable, status_of}
 
 -- The lines that a generator draws while these steps are run, one after another. Each is drawn in the world that the steps before it left, by how
 -- many messages were sent by then.
@@ -66,12 +66,13 @@ total_text layout w = codes "happened total " ++ (decimal (length (happenings_be
 abbrev pub summary_text : Layout → World → ℕ → List ℕ
 summary_text layout w lines = count_text lines w.marks ++ total_text layout w
 
--- These are the steps of a made schedule: each is of the line that is drawn for it. They are a run as any other: what `run` prints for this layout and schedule is
--- strict, and its last line is that of the summary.
+-- These are the steps of a made schedule: each is of the line that is drawn for it. They are a run as any other: what they leave is strict, and so is what `run` prints
+-- for this layout and schedule, whose last line is that of the summary.
 pub record IsMadeRun (seed lines : ℕ) (steps : List Step) : Type 0 where
   pub count_is : length steps ≡ lines
   pub are_drawn : map (λ step. step.line) steps ≡ made_lines seed steps
   pub steps_are : AreStepsOf made_layout (made_schedule seed steps) steps
+  pub is_strict : IsStrictWorld made_layout (left_by made_layout steps)
   pub linearizable : IsLinearizable (made_input seed steps) (output_of steps (made_input seed steps)).text
 
 -- the summary of some steps of a made schedule

@@ -14,9 +14,9 @@ AnswersTo (Some Audit) source source_after came untouched sink sink_after status
 AnswersTo (Some (Make seed lines)) source source_after came untouched sink sink_after status =
     MakeEnds seed lines sink sink_after status × untouched
 
--- the status is the one that words and input alone call for, or memory was lacking
-abbrev pub IsDecidedFor : Option Request → Option (List ℕ) → ℕ → Type 0
-IsDecidedFor None source status = (status ≡ 2) ⊎ (status ≡ 7)
-IsDecidedFor (Some Run) source status = IsDecided source status
-IsDecidedFor (Some Audit) source status = IsAuditDecided source status
-IsDecidedFor (Some (Make seed lines)) source status = (status ≡ 0) ⊎ (status ≡ 7)
+-- The status is the one that words and input alone call for, or memory was lacking. Where the source is read, that is told of a sound one.
+abbrev pub IsDecidedFor : Option Request → Type 0 → Option (List ℕ) → ℕ → Type 0
+IsDecidedFor None sound source status = (status ≡ 2) ⊎ (status ≡ 7)
+IsDecidedFor (Some Run) sound source status = sound → IsDecided source status
+IsDecidedFor (Some Audit) sound source status = sound → IsAuditDecided source status
+IsDecidedFor (Some (Make seed lines)) sound source status = (status ≡ 0) ⊎ (status ≡ 7)

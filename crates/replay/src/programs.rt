@@ -80,7 +80,7 @@ use std::alloc::Global;
 /// |---|---|---|
 /// | 0 | all lines were run | the counts, as `run` prints them last, and `happened total H`, with H happenings over all stripes |
 /// | 2, 6 | as of `run` | as of `run` |
-/// | 7 | no memory was left | nothing, or some of the two lines from their front |
+/// | 7 | no memory was left | nothing |
 ///
 /// The lines are `made_lines` (`specs/MadeRuns.antt`), a function of the seed and of the run so far. They read back as they are spelt, and what `run` prints of them behind the
 /// layout of that disk is strict as above (`IsMadeRun`).
@@ -97,8 +97,8 @@ pub fn replay<S: Source, K: Sink>(
     ensures source { Kept (S.faults source.old) (S.faults source.new) (S.sound source.old) (S.sound source.new) (result ≡ 5) }
     ensures sink { Kept (K.faults sink.old) (K.faults sink.new) (K.sound sink.old) (K.sound sink.new) (result ≡ 6) }
     // Over sound ends it answers what the words and the input alone call for, as 0 for a legal input, or that memory was lacking.
-    ensures decided { S.sound source.old → K.sound sink.old
-        → IsDecidedFor (request_of (map string_bytes words.now)) (S.told source.old) result }
+    ensures decided { K.sound sink.old
+        → IsDecidedFor (request_of (map string_bytes words.now)) (S.sound source.old) (S.told source.old) result }
 {
     match request_of(alloc, words) {
         Ok(request) => answer(alloc, request, source, sink),
@@ -118,7 +118,7 @@ fn answer<S: Source, K: Sink>(
         (K.told sink.old) (K.told sink.new) result }
     ensures source { Kept (S.faults source.old) (S.faults source.new) (S.sound source.old) (S.sound source.new) (result ≡ 5) }
     ensures sink { Kept (K.faults sink.old) (K.faults sink.new) (K.sound sink.old) (K.sound sink.new) (result ≡ 6) }
-    ensures decided { S.sound source.old → K.sound sink.old → IsDecidedFor request (S.told source.old) result }
+    ensures decided { K.sound sink.old → IsDecidedFor request (S.sound source.old) (S.told source.old) result }
 {
     match request {
         None => refuse_words(sink),

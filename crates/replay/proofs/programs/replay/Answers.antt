@@ -15,4 +15,5 @@ returns-in-Err-clause-answers g c =
     (g.S.Source.came c.args.source.now) (c.args.source.now ≡ c.args.source.now) refl
 
 pub returns-in-Err-clause-decided : goal.returns-in-Err-clause-decided
-returns-in-Err-clause-decided g c = λ source sink. decided_memory (request_of (map string_bytes c.args.words.now)) (g.S.Source.told c.args.source.now)
+returns-in-Err-clause-decided g c = λ sink.
+    decided_memory (request_of (map string_bytes c.args.words.now)) (g.S.Source.sound c.args.source.now) (g.S.Source.told c.args.source.now)
