@@ -1,5 +1,5 @@
-//! `replay run`: runs a layout and a schedule from standard input, and prints what they mark. `replay audit`: checks such a print, of whatever
-//! origin, behind its layout.
+//! `replay run`: runs a layout and a schedule from standard input, and prints what they mark. `replay make`: draws a schedule from a seed, runs it, and
+//! prints what sums it up. `replay audit`: checks such a print, of whatever origin, behind its layout.
 #![tactic(auto)]
 
 use fab_io::{NO_MEMORY, StdSink, StdSource, command_words};
