@@ -3,7 +3,7 @@ use Rattle.std.specs.Prelude.{ℕ, zero, suc, ◌+◌, ◌≤◌, ◌&&◌, nat_
 use Rattle.std.specs.Int.{w32, to_be_bytes, from_be_bytes}
 use Rattle.frame_store.specs.declared.frames.Frame.{Frame}
 use Rattle.frame_store.specs.declared.shapes.Shape.{Shape}
-use Rattle.frame_store.specs.Layouts.{half_size, open_gate}
+use Rattle.frame_store.specs.Layouts.{index_half_size, open_gate}
 
 -- a frame after its gate
 abbrev pub frame_rest : Frame → List ℕ
@@ -27,9 +27,9 @@ abbrev pub size_of : List Frame → ℕ
 size_of [] = 0
 size_of (frame ∷ frames) = 6 + length frame.body + size_of frames
 
--- after these frames, one with a body of this length and a closed gate fit in a half
+-- after these frames, one with a body of this length and a closed gate fit in a half of the index
 abbrev pub Fits : Shape → List Frame → ℕ → Type 0
-Fits shape frames len = size_of frames + 6 + len + 1 ≤ half_size shape
+Fits shape frames len = size_of frames + 6 + len + 1 ≤ index_half_size shape
 
 abbrev pub frame_of : ℕ → List ℕ → Frame
 frame_of kind body = record { kind = kind; body = body }
