@@ -10,6 +10,7 @@ ghost use Rattle.brick_store.specs.Openings.{disk_in, end_in, IsCounted, IsListe
 
 use crate::faults::OpenFault;
 use crate::readings::Folded;
+use crate::starts_over::take_over;
 use crate::stores::BrickStore;
 use crate::taking_up::take_up;
 use fab_base::BrickId;
@@ -17,7 +18,8 @@ use fab_disk::Disk;
 use std::alloc::Global;
 
 /// Opens the store that a disk holds for a brick: its count of openings is one greater, and nothing else is changed.
-/// It makes five calls of `write_at` and `sync`, and seven more where the list of frames ended early or is full.
+/// It makes five calls of `write_at` and `sync`, and seven more where the list of frames ended early or is full. A store of the old
+/// format is brought over to the new one: then it makes thirteen.
 ///
 /// # Errors
 /// Each hands the disk back. [`OpenFault::NotAStore`]: neither header is open. [`OpenFault::Worn`]: the store was opened
@@ -44,7 +46,7 @@ pub fn open_store<D: Disk>(
     ensures not_a_store { IfErr result (λ e. e.0 ≡ OpenFault.NotAStore → D.tells → IsNoStore (shape_of me.0 block records) (D.seen disk)) }
     ensures worn { IfErr result (λ e. e.0 ≡ OpenFault.Worn → D.tells → IsWornOut (shape_of me.0 block records) (D.seen disk)) }
 {
-    let mut folded = match Folded::new(alloc, records) {
+    let mut folded = match Folded::new(alloc, block, records) {
         Ok(folded) => folded,
         Err(refused) => return Err((OpenFault::from(refused), disk)),
     };
@@ -53,7 +55,12 @@ pub fn open_store<D: Disk>(
         Ok(frames) => frames,
         Err((fault, disk)) => return Err((OpenFault::from(fault), disk)),
     };
-    match take_up(alloc, &mut frames, folded, block) {
+    let taken = if frames.is_old() {
+        take_over(alloc, &mut frames, folded, block, records)
+    } else {
+        take_up(alloc, &mut frames, folded, block)
+    };
+    match taken {
         Ok(taken) => Ok(BrickStore {
             alloc,
             frames,

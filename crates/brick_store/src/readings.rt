@@ -8,6 +8,8 @@ ghost use Rattle.brick_store.specs.Images.{or_logged, limits_for};
 ghost use Rattle.brick_store.specs.Steps.{RecordHasMembers};
 ghost use Rattle.brick_store.specs.Openings.{TakesOrEnds, IsFold};
 
+use crate::block_tables::BlockTable;
+use crate::old_readings::take_old_frame;
 use brick_state::{Index, Record};
 use fab_base::NoMem;
 use frame_store::TakesFrames;
@@ -30,7 +32,7 @@ fn read_body(kind: u8, body: &[u8]) -> Option<Record>
 
 /// Takes a frame more. False where it is no record, or one that can't be: then nothing is changed. The records that a list holds many of
 /// are made by themselves: they are small, and the others are large.
-fn take_frame(index: &mut Index, kind: u8, body: &[u8]) -> Result<bool, NoMem>
+pub(crate) fn take_frame(index: &mut Index, kind: u8, body: &[u8]) -> Result<bool, NoMem>
     ensures limits { limits_of index.new ≡ limits_of index.old }
     ensures takes { TakesOrEnds (limits_of index.old) (frame_of kind body.now) (state_of index.old) (state_of index.new) result }
 {
@@ -90,36 +92,65 @@ fn take_any(index: &mut Index, kind: u8, body: &[u8]) -> Result<bool, NoMem>
 }
 
 /// What a list of frames makes of a brick that keeps nothing, and whether each of them is a record that can be. Where one is not,
-/// the list ended before it.
+/// the list ended before it. The versions of an old list have their blocks with them: these are held in memory under numbers.
 #[derive(Drop)]
 pub(crate) struct Folded {
+    alloc: Global,
+    block: u16,
+    records: u32,
+    old: bool,
     pub(crate) index: Index,
+    pub(crate) blocks: BlockTable,
     pub(crate) whole: bool,
 }
 
 impl Folded {
-    /// Before the first frame.
-    pub(crate) fn new(alloc: Global, records: u32) -> Result<Folded, NoMem>
+    /// Before the first frame, for blocks of this size and so many records.
+    pub(crate) fn new(alloc: Global, block: u16, records: u32) -> Result<Folded, NoMem>
+        requires { records < 4294967295 }
         ensures limits { IfOk result (λ made. limits_of made.index ≡ limits_for records) }
         ensures none { IfOk result (λ made. IsFold (limits_for records) [] (state_of made.index) made.whole) }
     {
         let index = Index::new(alloc, records, records)?;
-        Ok(Folded { index, whole: true })
+        let blocks = BlockTable::with_room(alloc, 0)?;
+        Ok(Folded {
+            alloc,
+            block,
+            records,
+            old: false,
+            index,
+            blocks,
+            whole: true,
+        })
     }
 }
 
 impl TakesFrames for Folded {
     ghost use Rattle.std.specs.Prelude.{◌≡◌};
     ghost use Rattle.brick_state.specs.Indexes.{state_of, limits_of};
-    ghost use Rattle.brick_store.specs.Openings.{IsFold};
+    ghost use Rattle.brick_store.specs.Openings.{IsFold, Makes};
 
-    ghost makes = { λ first frames now. (limits_of now.index ≡ limits_of first.index) × IsFold (limits_of first.index) frames (state_of now.index) now.whole };
+    ghost makes = { λ first old frames now. Makes first.block first.records old frames (limits_of now.index) (state_of now.index) now.blocks now.whole };
+
+    // A version that takes the place of all below it in a full store has a number of its own before they are dropped: so there is one
+    // number more than live records.
+    fn begin(&mut self, old: bool) -> Result<(), NoMem> {
+        self.old = old;
+        if old {
+            self.index = Index::new(self.alloc, self.records, self.records + 1)?;
+        }
+        Ok(())
+    }
 
     fn take(&mut self, kind: u8, body: &[u8]) -> Result<(), NoMem> {
         if !self.whole {
             return Ok(());
         }
-        self.whole = take_frame(&mut self.index, kind, body)?;
+        self.whole = if self.old {
+            take_old_frame(self.alloc, &mut self.index, &mut self.blocks, self.block, kind, body)?
+        } else {
+            take_frame(&mut self.index, kind, body)?
+        };
         Ok(())
     }
 }

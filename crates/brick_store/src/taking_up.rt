@@ -35,7 +35,7 @@ pub(crate) struct TakenUp {
 }
 
 // The fault of an opening whose start was refused: the disk failed, or memory was refused.
-fn refusal_of(fault: StoreFault) -> OpenFault
+pub(crate) fn refusal_of(fault: StoreFault) -> OpenFault
     ensures { result ≡ start_fault_of fault }
 {
     match fault {
@@ -75,7 +75,9 @@ pub(crate) fn take_up<D: Disk>(
 {
     let zero = Bytes::from_vec(vec![in alloc; 0u8; block as usize]?);
     let blocks = load(alloc, frames, &folded, block)?;
-    let Folded { mut index, whole } = folded;
+    let Folded {
+        mut index, whole, ..
+    } = folded;
     match start(alloc, frames, &mut index, whole) {
         Ok(()) => Ok(TakenUp {
             index,

@@ -1,5 +1,5 @@
 -- What the bytes of a disk stand for as a store.
-use Rattle.std.specs.Prelude.{◌≡◌, ◌≢◌, ℕ, ◌+◌, ◌-◌, ◌*◌, ◌%◌, ◌^◌, ◌<◌, ◌≤◌, List, [], ◌∷◌, length, get_or, take, drop, Bool, true, Option, Some, None}
+use Rattle.std.specs.Prelude.{◌≡◌, ◌≢◌, ℕ, ◌+◌, ◌-◌, ◌*◌, ◌%◌, ◌^◌, ◌<◌, ◌≤◌, List, [], ◌∷◌, length, get_or, take, drop, Bool, true, false, Option, Some, None}
 use Rattle.std.specs.Int.{w64, from_be_bytes}
 use Rattle.frame_store.specs.declared.frames.Frame.{Frame}
 use Rattle.frame_store.specs.declared.shapes.Shape.{Shape}
@@ -7,7 +7,7 @@ use Rattle.frame_store.specs.declared.shapes.Form.{Form}
 use Rattle.frame_store.specs.declared.shapes.Form.TheVariants.{Old, New, Moved}
 use Rattle.frame_store.specs.declared.shapes.Half.{Half}
 use Rattle.frame_store.specs.declared.shapes.Half.TheVariants.{A, B}
-use Rattle.frame_store.specs.Layouts.{headers_size, formed, open_gate, header_at, slot_at, half_at, half_size, identity}
+use Rattle.frame_store.specs.Layouts.{headers_size, formed, is_old, open_gate, header_at, slot_at, half_at, half_size, identity}
 use Rattle.frame_store.specs.Listed.{frames_of, size_of}
 
 -- n bytes from a place on
@@ -107,10 +107,10 @@ pub record ListsWith (shape : Shape) (frames : List Frame) (put : Option (ℕ ×
   pub stands : StandsIn shape put image
   pub slots : KeepsSlots shape put content image
 
--- The image is that of a store with no frames and all its slots.
+-- The image is that of a store with no frames, and in the new format with all its slots.
 pub record IsEmptyStore (shape : Shape) (image : List ℕ) : Type 0 where
   pub opens : OpensAs shape [] true image
-  pub slots : (slot : ℕ) → slot < shape.records → HasSlot shape (length image) slot
+  pub slots : is_old shape ≡ false → (slot : ℕ) → slot < shape.records → HasSlot shape (length image) slot
 
 -- The bytes are a whole number of blocks, no more than so many, and no more than there are slots.
 pub record AreBlocks (shape : Shape) (most : ℕ) (blocks : List ℕ) : Type 0 where

@@ -74,12 +74,12 @@ pub record HasRoom {D : Type 0} (has_room : D → ℕ → ℕ → ℕ → Type 0
 abbrev pub calls_ahead : Shape → ℕ
 calls_ahead shape = if is_old shape then 14 else 13
 
--- the bytes of the blocks that are written as an old store is brought over, for as many as there are frames
-abbrev pub blocks_ahead : Shape → List Frame → ℕ
-blocks_ahead shape frames = if is_old shape then (min (length frames) shape.records * shape.block) else 0
+-- the bytes of the blocks that are written with so many frames as an old store is brought over: as many blocks as frames, and no more than slots
+abbrev pub blocks_ahead : Shape → ℕ → ℕ
+blocks_ahead shape frames = if is_old shape then (min frames shape.records * shape.block) else 0
 
 -- room for all of them, for this list and a body of this length
 abbrev pub HasRoomAhead : {D : Type 0} → (D → ℕ → ℕ → ℕ → Type 0) → Held D → List Frame → ℕ → Type 0
 HasRoomAhead has_room store frames body =
     HasRoom has_room store (calls_ahead store.shape)
-    (blocks_ahead store.shape frames + (size_of frames + 34) + (store.shape.block + body + 7)) (max (size_of frames + 1) (body + 6))
+    (blocks_ahead store.shape (length frames) + (size_of frames + 34) + (store.shape.block + body + 7)) (max (size_of frames + 1) (body + 6))

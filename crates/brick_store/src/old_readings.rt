@@ -1,0 +1,102 @@
+//! Folding a list of the old format as it is read.
+
+ghost use Rattle.std.specs.Prelude.{◌≡◌, ◌<◌, ◌&&◌, ◌+◌, Some, IfSome, IfNone, IsOk, if◌then◌else◌};
+ghost use Rattle.brick_state.specs.Indexes.{state_of, limits_of};
+ghost use Rattle.brick_state.specs.States.{live};
+ghost use Rattle.brick_store.specs.OldLists.{old_block_of, place_size};
+ghost use Rattle.stamp_store.specs.LogSpelling.{logged_of};
+
+use crate::block_tables::BlockTable;
+use crate::readings::take_frame;
+use brick_state::Index;
+use fab_base::{Bytes, NoMem};
+use stamp_store::{LogChange, Logged};
+use std::alloc::Global;
+
+// How many bytes of a version's frame name its stripe and its stamp, as in the frames of all changes of a log.
+const PLACE: usize = 30;
+
+// What a version's frame of the old format spells: whose version it is and its stamp, whether all versions below it are dropped,
+// and its block.
+#[derive(Clone, Copy)]
+struct OldVersion<'a> {
+    place: Logged,
+    bottom: bool,
+    block: &'a [u8],
+}
+
+// What stands behind the stamp: whether all versions below are dropped, and the block, which has the store's size.
+fn block_of(size: u16, bytes: &[u8]) -> Option<(bool, &[u8])> {
+    let [flag, high, low, block @ ..] = bytes else {
+        return None;
+    };
+    let length = u16::from_be_bytes([*high, *low]);
+    if *flag > 1 || length != size || block.len() != size as usize {
+        return None;
+    }
+    Some((*flag == 1, block))
+}
+
+// The version that a body spells, if it spells one with a block of the store's size.
+fn version_of(size: u16, body: &[u8]) -> Option<OldVersion<'_>> {
+    if body.len() < PLACE {
+        return None;
+    }
+    let (place, rest) = body.split_at(PLACE);
+    let place = Logged::read(6, place)?;
+    let (bottom, block) = block_of(size, rest)?;
+    Some(OldVersion {
+        place,
+        bottom,
+        block,
+    })
+}
+
+/// Takes a frame more of a list of the old format. False where it is no record, or one that can't be: then nothing is changed. A
+/// version's block is held under the least number that no version has.
+pub(crate) fn take_old_frame(
+    alloc: Global,
+    index: &mut Index,
+    blocks: &mut BlockTable,
+    size: u16,
+    kind: u8,
+    body: &[u8],
+) -> Result<bool, NoMem>
+    requires room { live (state_of index.old) < (limits_of index.old).slots }
+{
+    match kind {
+        5 => take_version(alloc, index, blocks, size, body),
+        8 => Ok(false),
+        _ => take_frame(index, kind, body),
+    }
+}
+
+// The same of a version.
+fn take_version(
+    alloc: Global,
+    index: &mut Index,
+    blocks: &mut BlockTable,
+    size: u16,
+    body: &[u8],
+) -> Result<bool, NoMem>
+    requires room { live (state_of index.old) < (limits_of index.old).slots }
+{
+    let Some(version) = version_of(size, body) else {
+        return Ok(false);
+    };
+    let block = Bytes::from_slice(alloc, version.block)?;
+    let slot = index.free_slot()?;
+    let change = LogChange::Slot {
+        bottom: version.bottom,
+        slot,
+    };
+    let logged = Logged {
+        change,
+        ..version.place
+    };
+    if !index.apply_logged(&logged)? {
+        return Ok(false);
+    }
+    blocks.hold(slot, block)?;
+    Ok(true)
+}
