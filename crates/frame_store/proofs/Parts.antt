@@ -44,6 +44,19 @@ pub part_kept : (from k : ℕ) (old new : List ℕ) (at n : ℕ) → Torn from k
 part_kept from k old new at n torn fits clear =
     same_part at n old new fits (omega (arith, torn.no_shorter)) (λ i low high. torn.kept i (omega arith) (outside from k at n i clear low high))
 
+-- and bytes that stand there stay, none or some that are in the file
+pub part_stays : (from k : ℕ) (old new : List ℕ) (at : ℕ) (bytes : List ℕ) → Torn from k old new → IsClear from k at (length bytes)
+    → part at (length bytes) old ≡ bytes → part at (length bytes) new ≡ bytes
+part_stays from k old new at [] torn clear is = refl
+part_stays from k old new at (b ∷ bytes) torn clear is =
+    part_kept from k old new at (length (b ∷ bytes)) torn (within (length (b ∷ bytes)) (omega arith) (ap length is)) clear ∙ is
+  where
+    shorter : (n : ℕ) → length (part at n old) ≤ length old - at
+    shorter n = grind (arith, places)
+
+    within : (n : ℕ) → 0 < n → length (part at n old) ≡ n → at + n ≤ length old
+    within n some size = omega (arith, size, shorter n)
+
 -- so is a byte
 pub byte_kept : (from k : ℕ) (old new : List ℕ) (at : ℕ) → Torn from k old new → at < length old → IsClear from k at 1
     → get_or new at 0 ≡ get_or old at 0

@@ -5,7 +5,7 @@ use Rattle.fab_disk.specs.Disk.{written, Torn}
 use Rattle.fab_disk.specs.Changing.{End, Whole, Still, Run}
 use Rattle.frame_store.specs.declared.frames.Frame.{Frame}
 use Rattle.frame_store.specs.declared.shapes.Half.{Half}
-use Rattle.frame_store.specs.Layouts.{open_gate, header_at, header_rest, half_at, half_size, slot_at}
+use Rattle.frame_store.specs.Layouts.{is_old, open_gate, header_at, header_rest, half_at, index_half_size, slot_at}
 use Rattle.frame_store.specs.Listed.{size_of, line_of, closed_list, Fits}
 use Rattle.frame_store.specs.Laid.{other, Laid, IsCounted}
 use Rattle.frame_store.specs.Steps.{IsStaged, IsShutFirst, IsGated, IsBothGated, IsRewritten, both_written, closing, next_of}
@@ -26,9 +26,15 @@ module _ {D : Type 0} (d : on_disk.Ghosts D) (only_now : (disk : D) (image : Lis
   module _ (half : Half) (number : ℕ) (other_shut : Bool) (used : ℕ) (held s : Held D) (mid new : D) (end : End) (view : held ≡ s)
       (counted : IsCounted held.shape held.frames used)
       (invariant : d.tells → held.halted ≡ false → Laid held.shape half number other_shut held.frames held.closed (d.seen held.disk)
-      × (length (d.seen held.disk) ≡ held.size)) (runs : held.halted ≡ false) (rest : Still d held.disk mid ⊥) where
+      × (length (d.seen held.disk) ≡ held.size)) (runs : held.halted ≡ false) (slotted : is_old s.shape ≡ false) (rest : Still d held.disk mid ⊥) where
     ready : Ready d half number other_shut used mid held
-    ready = record { counted = counted; invariant = invariant; runs = runs; rest = rest }
+    ready = record {
+      counted = counted;
+      invariant = invariant;
+      runs = runs;
+      slotted = subst (λ (h : Held D). is_old h.shape ≡ false) (sym view) slotted;
+      rest = rest;
+    }
 
     -- an append
     module _ (p : ℕ) (frame : Frame) (line : List ℕ) (place : p ≡ half_at held.shape half + used) (fits : Fits s.shape s.frames (length frame.body))
@@ -64,14 +70,14 @@ module _ {D : Type 0} (d : on_disk.Ghosts D) (only_now : (disk : D) (image : Lis
           }
 
     -- a rewrite
-    pub rewritten : (fs : List Frame) (gate at : ℕ) (shut behind line : List ℕ) → size_of fs + 1 ≤ half_size s.shape → number < 2 ^ 64
+    pub rewritten : (fs : List Frame) (gate at : ℕ) (shut behind line : List ℕ) → size_of fs + 1 ≤ index_half_size s.shape → number < 2 ^ 64
         → gate ≡ header_at (other half) → at ≡ half_at held.shape (other half) → shut ≡ closing other_shut
         → behind ≡ header_rest held.shape (next_of number) → line ≡ closed_list fs
         → Run d 7 (IsShutFirst gate shut behind at line (d.seen mid)) (IsRewritten gate shut behind at line (d.seen mid))
         (λ image. image ≡ written gate (open_gate ∷ []) (both_written (gate + 1) behind at line (written gate shut (d.seen mid)))) mid new end
         → Written 7 (other half) (next_of number) false (length line - 1) (max held.size (at + length line)) (λ h. fs) None held s new end
     rewritten fs gate at shut behind line fits small gate_is at_is shut_is behind_is line_is run =
-        let here = subst (λ (h : Held D). size_of fs + 1 ≤ half_size h.shape) (sym view) fits in
+        let here = subst (λ (h : Held D). size_of fs + 1 ≤ index_half_size h.shape) (sym view) fits in
         record {
           change = subst (λ (h : Held D). ListChange d 7 h fs None new end) view
               (rewrite_change d held half number other_shut used mid new ready fs gate at shut behind line here small gate_is at_is shut_is behind_is

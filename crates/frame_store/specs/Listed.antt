@@ -1,5 +1,5 @@
 -- A list of frames as bytes: each an open gate, a kind, the body's length and the body.
-use Rattle.std.specs.Prelude.{ℕ, zero, suc, ◌+◌, ◌≤◌, ◌&&◌, nat_le, ◌==◌, if◌then◌else◌, List, [], ◌∷◌, ◌++◌, length, take, drop, Option, Some, None}
+use Rattle.std.specs.Prelude.{ℕ, zero, suc, ◌+◌, ◌^◌, ◌<◌, ◌≤◌, ◌&&◌, nat_le, ◌==◌, if◌then◌else◌, List, [], ◌∷◌, ◌++◌, length, take, drop, Option, Some, None}
 use Rattle.std.specs.Int.{w32, to_be_bytes, from_be_bytes}
 use Rattle.frame_store.specs.declared.frames.Frame.{Frame}
 use Rattle.frame_store.specs.declared.shapes.Shape.{Shape}
@@ -26,6 +26,11 @@ closed_list frames = spelled frames ++ 0 ∷ []
 abbrev pub size_of : List Frame → ℕ
 size_of [] = 0
 size_of (frame ∷ frames) = 6 + length frame.body + size_of frames
+
+-- the length of each body fits its field
+abbrev pub AreShort : List Frame → Type 0
+AreShort [] = Unit {0}
+AreShort (frame ∷ frames) = (length frame.body < 2 ^ 32) × AreShort frames
 
 -- after these frames, one with a body of this length and a closed gate fit in a half of the index
 abbrev pub Fits : Shape → List Frame → ℕ → Type 0

@@ -158,6 +158,7 @@ fn choose(shape: Shape, headers: &[u8]) -> Option<(Half, Header)>
 fn frame_at(bytes: &[u8]) -> Option<(u8, &[u8], &[u8])>
     ensures found { IfSome result (λ f. frame_at bytes.now ≡ Some (frame_of f.0 f.1.now, f.2.now)) }
     ensures spelled { IfSome result (λ f. bytes.now ≡ open_gate ∷ (frame_rest (frame_of f.0 f.1.now) ++ f.2.now)) }
+    ensures short { IfSome result (λ f. length f.1.now < 2 ^ 32) }
     ensures none { IfNone result (frame_at bytes.now ≡ None) }
 {
     let [gate, kind, a, b, c, d, rest @ ..] = bytes else {

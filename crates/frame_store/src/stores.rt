@@ -202,6 +202,7 @@ impl<D: Disk> FrameStore<D> {
     }
 
     /// Whether a frame with a body of this length, and the next gate, fit in the half of the index.
+    #[tactic(auto, using(crate::proofs::Slots::half_is))]
     pub fn fits(&self, length: usize) -> bool
         requires { is_old self.now.shape ≡ false }
         ensures { IsTrue result ↔ Fits self.now.shape self.now.frames length }
