@@ -1,7 +1,6 @@
 -- What an old store is brought over to: its blocks go to the slots from 0 on, in the order in which its live frames name them, and each once.
-use Rattle.std.specs.Prelude.{ℕ, zero, suc, Bool, not, ◌==◌, ◌||◌, if◌then◌else◌, List, [], ◌∷◌, ◌++◌, map, filter}
-use Rattle.std.specs.List.{list_any, position_or_len, flat_map}
-use Rattle.version_log.specs.declared.versions.Version.{Version}
+use Rattle.std.specs.Prelude.{ℕ, ◌*◌, not, ◌==◌, if◌then◌else◌, List, [], ◌∷◌, ◌++◌, map, filter, take, drop, replicate}
+use Rattle.std.specs.List.{position_or_len, flat_map}
 use Rattle.brick_state.specs.declared.records.Record.{Record}
 use Rattle.brick_state.specs.Entries.{Entry}
 use Rattle.brick_state.specs.States.{StripeOf, StateOf}
@@ -42,3 +41,7 @@ blocks_over block st = flat_map block (numbers_of st)
 -- The records that are written: those that bring back the state, but for the count of openings where none is kept.
 abbrev pub records_over : StateOf Entry → List Record
 records_over st = if st.boot == 0 then groups_records 0 st.groups ++ stripes_records st.stripes else live_records st
+
+-- the block of a slot, in blocks of this size that lie one after the other; that of the zero block is not among them
+abbrev pub cut_block : ℕ → List ℕ → ℕ → List ℕ
+cut_block size bytes slot = if slot == 4294967295 then replicate size 0 else take size (drop (slot * size) bytes)

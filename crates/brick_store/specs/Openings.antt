@@ -1,5 +1,5 @@
 -- What an opening reads.
-use Rattle.std.specs.Prelude.{Result, Ok, Err, ◌≡◌, ◌⊎◌, ℕ, ◌+◌, ◌-◌, ◌<◌, ◌≤◌, ◌^◌, ◌==◌, Bool, not, ◌&&◌, true, false, Option, Some, None, IsSome, option_and_then, List, [], ◌∷◌, length, IsOk}
+use Rattle.std.specs.Prelude.{Result, Ok, Err, ◌≡◌, ◌≢◌, ◌⊎◌, ℕ, ◌+◌, ◌-◌, ◌<◌, ◌≤◌, ◌^◌, ◌==◌, Bool, not, ◌&&◌, true, false, Option, Some, None, IsSome, option_and_then, List, [], ◌∷◌, ◌++◌, length, drop, IsOk}
 use Rattle.fab_base.specs.declared.faults.IoFault.{IoFault}
 use Rattle.fab_base.specs.declared.faults.NoMem.{NoMem}
 use Rattle.fab_base.specs.declared.faults.IoFault.TheVariants.{Failed}
@@ -31,8 +31,8 @@ use Rattle.brick_state.specs.States.{StateOf, empty, booted}
 use Rattle.brick_state.specs.Folds.{Limits, applied, folded}
 use Rattle.brick_state.specs.KeptStates.{IsKeptState}
 use Rattle.brick_store.specs.Blocks.{cached, resolved}
-use Rattle.brick_store.specs.Images.{record_of, records_of, limits_of, IsFound, StandsFor, StandsForEither}
-use Rattle.brick_store.specs.OldLists.{old_state_in}
+use Rattle.brick_store.specs.Images.{record_of, records_of, limits_for, limits_of, IsFound, StandsFor, StandsForEither}
+use Rattle.brick_store.specs.OldLists.{old_record_of, old_version_kind, block_start, old_state_in}
 use Rattle.brick_store.specs.Standing.{AllSlots, GroupHasMembers, IsCached, IsStored, Leads}
 use Rattle.std.specs.List.{AllByRecursion}
 
@@ -84,6 +84,26 @@ pub record IsOldFold (size records : ℕ) (frames : List Frame) (st : StateOf En
   pub kept : IsKeptState (memory_limits records) st
   pub held : AllSlots (IsCached size blocks) st
   pub members : AllByRecursion GroupHasMembers st.groups
+
+-- What taking a frame of the old format came to: the record that it is, with a number that no version had, led from one state to the other, and a block that
+-- it has is held under this number; or no number makes it a record that can be, and nothing is changed.
+pub record TakesOld (size : ℕ) (limits : Limits) (frame : Frame) (old new : StateOf Entry) (blocks_old blocks_new : SlotBlocks) (taken : Bool)
+    : Type 0 where
+  pub number : ℕ
+  pub free : AllSlots (λ other. other ≢ number) old
+  pub is_number : number < limits.slots
+  pub made : taken ≡ true → (option_and_then (λ read. applied limits read old) (old_record_of size number frame) ≡ Some new)
+      × ((frame.kind == old_version_kind) ≡ true → block_under blocks_new number ≡ Some (drop block_start frame.body))
+  pub ended : taken ≡ false → (new ≡ old) × (option_and_then (λ read. applied limits read old) (old_record_of size number frame) ≡ None)
+  pub others : (other : ℕ) → other ≢ number → block_under blocks_new other ≡ block_under blocks_old other
+  pub members : AllByRecursion GroupHasMembers old.groups → AllByRecursion GroupHasMembers new.groups
+
+-- What taking these frames, of the old format or not, came to: the state in memory is what they make, and where a frame was none that can be, none after it
+-- counts.
+abbrev pub Makes : ℕ → ℕ → Bool → List Frame → Limits → StateOf Entry → SlotBlocks → Bool → Type 0
+Makes size records false frames limits st blocks whole = (limits ≡ limits_for records) × IsFold (limits_for records) frames st whole
+Makes size records true frames limits st blocks whole = (limits ≡ memory_limits records) × IsOldFold size records frames st blocks
+    × (whole ≡ false → (rest : List Frame) → old_state_in size records (frames ++ rest) ≡ old_state_in size records frames)
 
 -- the block in the slot is held in memory; that of the zero block need not be
 abbrev pub IsHeld : SlotBlocks → ℕ → Type 0

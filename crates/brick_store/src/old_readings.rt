@@ -1,9 +1,11 @@
 //! Folding a list of the old format as it is read.
 
-ghost use Rattle.std.specs.Prelude.{◌≡◌, ◌<◌, ◌&&◌, ◌+◌, Some, IfSome, IfNone, IsOk, if◌then◌else◌};
+ghost use Rattle.std.specs.Prelude.{◌≡◌, ◌<◌, ℕ, Some, None, IfSome, IfNone, IfOk, option_map, take, drop};
 ghost use Rattle.brick_state.specs.Indexes.{state_of, limits_of};
 ghost use Rattle.brick_state.specs.States.{live};
-ghost use Rattle.brick_store.specs.OldLists.{old_block_of, place_size};
+ghost use Rattle.frame_store.specs.Listed.{frame_of};
+ghost use Rattle.brick_store.specs.OldLists.{old_block_of, old_version_of, old_version_kind, place_size};
+ghost use Rattle.brick_store.specs.Openings.{TakesOld};
 ghost use Rattle.stamp_store.specs.LogSpelling.{logged_of};
 
 use crate::block_tables::BlockTable;
@@ -26,7 +28,9 @@ struct OldVersion<'a> {
 }
 
 // What stands behind the stamp: whether all versions below are dropped, and the block, which has the store's size.
-fn block_of(size: u16, bytes: &[u8]) -> Option<(bool, &[u8])> {
+fn block_of(size: u16, bytes: &[u8]) -> Option<(bool, &[u8])>
+    ensures { option_map (λ b. (b.0, b.1.now)) result ≡ old_block_of size bytes.now }
+{
     let [flag, high, low, block @ ..] = bytes else {
         return None;
     };
@@ -38,7 +42,11 @@ fn block_of(size: u16, bytes: &[u8]) -> Option<(bool, &[u8])> {
 }
 
 // The version that a body spells, if it spells one with a block of the store's size.
-fn version_of(size: u16, body: &[u8]) -> Option<OldVersion<'_>> {
+fn version_of(size: u16, body: &[u8]) -> Option<OldVersion<'_>>
+    ensures place { IfSome result (λ v. logged_of 6 (take place_size body.now) ≡ Some v.place) }
+    ensures block { IfSome result (λ v. old_block_of size (drop place_size body.now) ≡ Some (v.bottom, v.block.now)) }
+    ensures none { IfNone result ((number : ℕ) → old_version_of size number body.now ≡ None) }
+{
     if body.len() < PLACE {
         return None;
     }
@@ -53,7 +61,7 @@ fn version_of(size: u16, body: &[u8]) -> Option<OldVersion<'_>> {
 }
 
 /// Takes a frame more of a list of the old format. False where it is no record, or one that can't be: then nothing is changed. A
-/// version's block is held under the least number that no version has.
+/// version's block is held under the least number that no version has. What was held there was the block of a version that was dropped.
 pub(crate) fn take_old_frame(
     alloc: Global,
     index: &mut Index,
@@ -63,6 +71,9 @@ pub(crate) fn take_old_frame(
     body: &[u8],
 ) -> Result<bool, NoMem>
     requires room { live (state_of index.old) < (limits_of index.old).slots }
+    ensures limits { limits_of index.new ≡ limits_of index.old }
+    ensures takes { IfOk result (λ taken. TakesOld size (limits_of index.old) (frame_of kind body.now) (state_of index.old) (state_of index.new)
+        blocks.old blocks.new taken) }
 {
     match kind {
         5 => take_version(alloc, index, blocks, size, body),
@@ -80,6 +91,9 @@ fn take_version(
     body: &[u8],
 ) -> Result<bool, NoMem>
     requires room { live (state_of index.old) < (limits_of index.old).slots }
+    ensures limits { limits_of index.new ≡ limits_of index.old }
+    ensures takes { IfOk result (λ taken. TakesOld size (limits_of index.old) (frame_of old_version_kind body.now) (state_of index.old) (state_of index.new)
+        blocks.old blocks.new taken) }
 {
     let Some(version) = version_of(size, body) else {
         return Ok(false);

@@ -1,6 +1,23 @@
 //! Making an old store go on once it was read: it is brought over.
 
-ghost use Rattle.std.specs.Prelude.{◌≡◌};
+ghost use Rattle.std.specs.Prelude.{◌≡◌, ◌≢◌, ◌+◌, ◌-◌, ◌<◌, ◌^◌, true, false, Err, IfOk, IsOk, OnOk, length};
+ghost use Rattle.frame_store.specs.Images.{AreBlocks};
+ghost use Rattle.frame_store.specs.Layouts.{IsShape, formed, is_old};
+ghost use Rattle.frame_store.specs.Listed.{Fits, size_of};
+ghost use Rattle.frame_store.specs.Stores.{IsRead};
+ghost use Rattle.brick_state.specs.States.{booted, empty, live};
+ghost use Rattle.brick_state.specs.Indexes.{state_of};
+ghost use Rattle.brick_state.specs.Indexes as indexes;
+ghost use Rattle.brick_store.specs.Blocks.{cached, resolved};
+ghost use Rattle.brick_store.specs.BringingOver.{cut_block};
+ghost use Rattle.brick_store.specs.Ends.{end_of};
+ghost use Rattle.brick_store.specs.Images.{limits_of};
+ghost use Rattle.brick_store.specs.Lengths.{IsAppended};
+ghost use Rattle.brick_store.specs.OldLists.{old_state_in};
+ghost use Rattle.brick_store.specs.Openings.{Makes, StartsOver, opening_end};
+ghost use Rattle.brick_store.specs.Sizes.{boot_size};
+ghost use Rattle.brick_store.specs.Standing.{Leads, Standing};
+ghost use Rattle.brick_store.specs.Steps.{IsSettled};
 
 use crate::bringing_over::{Brought, bring_over};
 use crate::faults::{OpenFault, StoreFault};
@@ -11,7 +28,7 @@ use crate::taking_up::{TakenUp, refusal_of};
 use brick_state::{Index, Record};
 use fab_base::Bytes;
 use fab_disk::Disk;
-use frame_store::{Frame, FrameStore};
+use frame_store::{Form, Frame, FrameStore};
 use stamp_store::Kept;
 use std::alloc::Global;
 
@@ -23,7 +40,26 @@ pub(crate) fn take_over<D: Disk>(
     folded: Folded,
     block: u16,
     records: u32,
-) -> Result<TakenUp, OpenFault> {
+) -> Result<TakenUp, OpenFault>
+    requires shape { IsShape frames.old.shape }
+    requires old { is_old frames.old.shape ≡ true }
+    requires block { block ≡ frames.old.shape.block }
+    requires records { records ≡ frames.old.shape.records }
+    requires fold { Makes block records true frames.old.frames (indexes.limits_of folded.index) (state_of folded.index) folded.blocks folded.whole }
+    requires runs { frames.old.halted ≡ false }
+    requires read { IsRead D.tells D.seen frames.old }
+    ensures standing { IfOk result (λ made. Standing D.tells D.seen D.may_leave frames.new made.index made.blocks made.zero) }
+    ensures state { let st = old_state_in block records frames.old.frames in
+        IfOk result (λ made. resolved (cached block made.blocks) (state_of made.index) ≡ booted (st.boot + 1) st) }
+    ensures listed { IsOk result → IsAppended false (live (old_state_in block records frames.old.frames)) (size_of frames.old.frames) boot_size
+        (size_of frames.new.frames) }
+    ensures still_runs { IsOk result → frames.new.halted ≡ false }
+    ensures shape { IsOk result → frames.new.shape ≡ formed Form.Moved frames.old.shape }
+    ensures starts { StartsOver D.Disk (old_state_in block records frames.old.frames) frames.old frames.new.disk (opening_end result) }
+    ensures boots { IsOk result → (old_state_in block records frames.old.frames).boot < 2 ^ 32 - 1 }
+    ensures worn { result ≡ Err OpenFault.Worn → (old_state_in block records frames.old.frames).boot ≡ 2 ^ 32 - 1 }
+    ensures a_store { result ≢ Err OpenFault.NotAStore }
+{
     if folded.index.boot() == u32::MAX {
         return Err(OpenFault::Worn);
     }
@@ -52,7 +88,22 @@ fn start_over<D: Disk>(
     index: &mut Index,
     blocks: &[u8],
     listed: Vec<Frame>,
-) -> Result<(), StoreFault> {
+) -> Result<(), StoreFault>
+    requires shape { IsShape frames.old.shape }
+    requires old { is_old frames.old.shape ≡ true }
+    requires runs { frames.old.halted ≡ false }
+    requires read { IsRead D.tells D.seen frames.old }
+    requires blocks { AreBlocks frames.old.shape (length listed.items) blocks.now }
+    requires fits { Fits frames.old.shape listed.items boot_size }
+    requires leads { Leads (limits_of frames.old.shape) listed.items empty (state_of index.old) }
+    requires boots { (state_of index.old).boot < 2 ^ 32 - 1 }
+    ensures made { OnOk result (state_of index.new ≡ booted ((state_of index.old).boot + 1) (state_of index.old)) }
+    ensures leads { OnOk result (Leads (limits_of frames.old.shape) frames.new.frames empty (state_of index.new)) }
+    ensures shape { OnOk result (frames.new.shape ≡ formed Form.Moved frames.old.shape) }
+    ensures runs { OnOk result (frames.new.halted ≡ false) }
+    ensures settled { D.tells → OnOk result (IsSettled D.Disk frames.new) }
+    ensures starts { StartsOver D.Disk (resolved (cut_block frames.old.shape.block blocks.now) (state_of index.old)) frames.old frames.new.disk (end_of result) }
+{
     let item = Record::Kept(Kept::Boot(index.boot() + 1));
     let frame = frame_of(alloc, &item)?;
     frames.reserve(&listed, frame.body.len())?;

@@ -1,7 +1,7 @@
 //! Taking up the store that a list of frames makes.
 
 ghost use Rattle.std.specs.Prelude.{◌≡◌, ◌≢◌, ◌+◌, ◌-◌, ◌<◌, ◌^◌, false, Err, IfOk, IsOk};
-ghost use Rattle.frame_store.specs.Layouts.{IsShape};
+ghost use Rattle.frame_store.specs.Layouts.{IsShape, is_old};
 ghost use Rattle.frame_store.specs.Listed.{size_of};
 ghost use Rattle.frame_store.specs.Stores.{IsRead};
 ghost use Rattle.brick_state.specs.States.{booted, empty, live};
@@ -53,6 +53,7 @@ pub(crate) fn take_up<D: Disk>(
     block: u16,
 ) -> Result<TakenUp, OpenFault>
     requires shape { IsShape frames.old.shape }
+    requires new { is_old frames.old.shape ≡ false }
     requires block { block ≡ frames.old.shape.block }
     requires limits { indexes.limits_of folded.index ≡ limits_of frames.old.shape }
     requires fold { IsFold (limits_of frames.old.shape) frames.old.frames (state_of folded.index) folded.whole }

@@ -38,8 +38,8 @@ module _ (shape : Shape) (half : Half) (number : ℕ) (other_shut : Bool) (frame
   abbrev pub list_at : ℕ
   list_at = half_at to (other half)
 
-  abbrev pub rest : List ℕ
-  rest = header_rest to (next_of number)
+  abbrev pub header : List ℕ
+  header = header_rest to (next_of number)
 
   -- the content once the other header's gate is shut, once blocks, list and header are written, and once the gate is open
   abbrev pub shut_content : List ℕ
@@ -52,7 +52,7 @@ module _ (shape : Shape) (half : Half) (number : ℕ) (other_shut : Bool) (frame
   list_content = written list_at (closed_list new) blocks_content
 
   abbrev pub behind_content : List ℕ
-  behind_content = thrice_written start_at blocks list_at (closed_list new) (gate_at + 1) rest shut_content
+  behind_content = thrice_written start_at blocks list_at (closed_list new) (gate_at + 1) header shut_content
 
   abbrev pub brought : List ℕ
   brought = written gate_at (165 ∷ []) behind_content
@@ -67,7 +67,7 @@ module _ (shape : Shape) (half : Half) (number : ℕ) (other_shut : Bool) (frame
   before : half_at shape half + half_size shape ≤ start_at
   before = old_before shape half old
 
-  blocks_before : (h : Half) → start_at + length blocks ≤ half_at to h
+  pub blocks_before : (h : Half) → start_at + length blocks ≤ half_at to h
   blocks_before A = omega (arith, few)
   blocks_before B = omega (arith, few)
 
@@ -118,7 +118,7 @@ module _ (shape : Shape) (half : Half) (number : ℕ) (other_shut : Bool) (frame
   torn_list = written_torn list_at (closed_list new) blocks_content
 
   torn_header : Torn (gate_at + 1) 31 list_content behind_content
-  torn_header = written_torn (gate_at + 1) rest list_content
+  torn_header = written_torn (gate_at + 1) header list_content
 
   whole_blocks : 64 ≤ length blocks_content
   whole_blocks = omega (arith, whole_shut, torn_blocks.no_shorter)
@@ -171,10 +171,10 @@ module _ (shape : Shape) (half : Half) (number : ℕ) (other_shut : Bool) (frame
     whole : 64 ≤ length image
     whole = omega (arith, whole_behind, torn.no_shorter)
 
-    rest_there : part (gate_at + 1) 31 image ≡ rest
+    rest_there : part (gate_at + 1) 31 image ≡ header
     rest_there =
         part_kept gate_at 1 behind_content image (gate_at + 1) 31 torn (omega (arith, within, whole_behind)) (above (omega arith))
-        ∙ part_written (gate_at + 1) rest list_content
+        ∙ part_written (gate_at + 1) header list_content
 
     own : part (header_at half) 26 image ≡ part (header_at half) 26 content
     own =
@@ -210,13 +210,13 @@ module _ (shape : Shape) (half : Half) (number : ℕ) (other_shut : Bool) (frame
 
   -- the moments: until the other header's gate is opened again
   pub bring_before : Index shape half frames content → (image : List ℕ)
-      → IsShutBefore gate_at (closing other_shut) start_at blocks list_at (closed_list new) rest content image → OpensAs shape frames true image
+      → IsShutBefore gate_at (closing other_shut) start_at blocks list_at (closed_list new) header content image → OpensAs shape frames true image
   bring_before index image (inl torn) = index_opens shape half frames image (closed image index torn)
   bring_before index image (inr staged) = index_opens shape half frames image (index_written (index_shut index) image staged)
 
   -- and while it is
   pub bring_moment : Index shape half frames content → (image : List ℕ)
-      → IsBrought gate_at (closing other_shut) start_at blocks list_at (closed_list new) rest content image
+      → IsBrought gate_at (closing other_shut) start_at blocks list_at (closed_list new) header content image
       → OpensAs shape frames true image ⊎ IsBroughtOver shape new blocks image
   bring_moment index image (inl torn) = inl (index_opens shape half frames image (closed image index torn))
   bring_moment index image (inr (inl staged)) = inl (index_opens shape half frames image (index_written (index_shut index) image staged))

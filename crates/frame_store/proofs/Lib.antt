@@ -20,3 +20,4 @@ pub mod Stills
 pub mod Formatting
 pub mod Words
 pub mod Writes
+pub mod Brought

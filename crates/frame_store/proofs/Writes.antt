@@ -32,9 +32,11 @@ module _ {D : Type 0} (d : on_disk.Ghosts D) (only_now : (disk : D) (image : Lis
       counted = counted;
       invariant = invariant;
       runs = runs;
-      slotted = subst (λ (h : Held D). is_old h.shape ≡ false) (sym view) slotted;
       rest = rest;
     }
+
+    slotted_held : is_old held.shape ≡ false
+    slotted_held = subst (λ (h : Held D). is_old h.shape ≡ false) (sym view) slotted
 
     -- an append
     module _ (p : ℕ) (frame : Frame) (line : List ℕ) (place : p ≡ half_at held.shape half + used) (fits : Fits s.shape s.frames (length frame.body))
@@ -47,9 +49,9 @@ module _ {D : Type 0} (d : on_disk.Ghosts D) (only_now : (disk : D) (image : Lis
           → Written 4 half number other_shut (used + length line) (max held.size (p + 1 + length line)) (λ h. h.frames ++ frame ∷ []) None held s new end
       appended run = record {
         change = subst (λ (h : Held D). ListChange d 4 h (h.frames ++ frame ∷ []) None new end) view
-            (append_change d held half number other_shut used mid new ready p frame line place fits_held line_is only_now counts end run);
-        counted = append_counted d held half number other_shut used mid new ready p frame line place fits_held line_is;
-        laid = λ is. append_laid d held half number other_shut used mid new ready p frame line place fits_held line_is (λ told. (run.whole is told).has);
+            (append_change d held half number other_shut used mid new ready slotted_held p frame line place fits_held line_is only_now counts end run);
+        counted = append_counted d held half number other_shut used mid new ready slotted_held p frame line place fits_held line_is;
+        laid = λ is. append_laid d held half number other_shut used mid new ready slotted_held p frame line place fits_held line_is (λ told. (run.whole is told).has);
       }
 
       pub put : (slot : ℕ) (block : List ℕ) (at : ℕ) → slot < s.shape.records → length block ≡ s.shape.block → at ≡ slot_at held.shape slot
@@ -62,10 +64,10 @@ module _ {D : Type 0} (d : on_disk.Ghosts D) (only_now : (disk : D) (image : Lis
           let long = subst (λ (h : Held D). length block ≡ h.shape.block) (sym view) whole in
           record {
             change = subst (λ (h : Held D). ListChange d 5 h (h.frames ++ frame ∷ []) (Some (slot, block)) new end) view
-                (put_change d held half number other_shut used mid new ready p frame line place fits_held line_is slot block here long at at_is only_now
+                (put_change d held half number other_shut used mid new ready slotted_held p frame line place fits_held line_is slot block here long at at_is only_now
                 counts end run);
-            counted = append_counted d held half number other_shut used mid new ready p frame line place fits_held line_is;
-            laid = λ is. put_laid d held half number other_shut used mid new ready p frame line place fits_held line_is slot block here long at at_is
+            counted = append_counted d held half number other_shut used mid new ready slotted_held p frame line place fits_held line_is;
+            laid = λ is. put_laid d held half number other_shut used mid new ready slotted_held p frame line place fits_held line_is slot block here long at at_is
                 (λ told. (run.whole is told).has);
           }
 
@@ -80,10 +82,10 @@ module _ {D : Type 0} (d : on_disk.Ghosts D) (only_now : (disk : D) (image : Lis
         let here = subst (λ (h : Held D). size_of fs + 1 ≤ index_half_size h.shape) (sym view) fits in
         record {
           change = subst (λ (h : Held D). ListChange d 7 h fs None new end) view
-              (rewrite_change d held half number other_shut used mid new ready fs gate at shut behind line here small gate_is at_is shut_is behind_is
+              (rewrite_change d held half number other_shut used mid new ready slotted_held fs gate at shut behind line here small gate_is at_is shut_is behind_is
               line_is only_now counts end run);
-          counted = rewrite_counted d held half number other_shut used mid new ready fs gate at shut behind line here small gate_is at_is shut_is
+          counted = rewrite_counted d held half number other_shut used mid new ready slotted_held fs gate at shut behind line here small gate_is at_is shut_is
               behind_is line_is;
-          laid = λ is. rewrite_laid d held half number other_shut used mid new ready fs gate at shut behind line here small gate_is at_is shut_is
+          laid = λ is. rewrite_laid d held half number other_shut used mid new ready slotted_held fs gate at shut behind line here small gate_is at_is shut_is
               behind_is line_is (λ told. (run.whole is told).has);
         }

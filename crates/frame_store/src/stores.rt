@@ -427,15 +427,17 @@ impl<D: Disk> FrameStore<D> {
         let rest = header_rest(shape, generation);
         let shut = closing(self.other_shut);
         let bytes = self.line.len() as u64;
+        let gate = other.header_at();
+        let start = shape.slot_at(0);
         let blocks = Placed {
-            at: shape.slot_at(0),
+            at: start,
             bytes: blocks,
         };
         let list = Placed {
             at,
             bytes: &self.line,
         };
-        match bring_gated(&mut self.disk, other.header_at(), shut, blocks, list, &rest, end) {
+        match bring_gated(&mut self.disk, gate, shut, blocks, list, &rest, end) {
             Ok(()) => {
                 self.shape = shape;
                 self.half = other;
