@@ -8,7 +8,9 @@ use Rattle.std.proofs.lemmas.Bool.Decides.{nat_tests}
 use Rattle.fab_disk.specs.declared.disk.Disk as on_disk
 use Rattle.fab_disk.proofs.Changing.{same as at_once}
 use Rattle.frame_store.specs.declared.shapes.Shape.{Shape}
+use Rattle.frame_store.specs.declared.shapes.Form.TheVariants.{New}
 use Rattle.frame_store.specs.Images.{StandsIn, KeepsSlots}
+use Rattle.frame_store.specs.Layouts.{formed}
 use Rattle.frame_store.specs.Listed.{size_of}
 use Rattle.frame_store.specs.Stores.{Held}
 use Rattle.version_log.specs.Versions.{Version}
@@ -214,7 +216,8 @@ module _ {D : Type 0} (d : on_disk.Ghosts D) where
       → Told d (brick_of blocks old (state_of index))
       (brick_of blocks old (state_of index)) after body true calls (Err NoMemory)
   changes_stopped only_now blocks zero_block old index after body calls standing running free = (
-    at_once d only_now calls (StandsFor old.shape (resolved (cached old.shape.block blocks) (state_of index))) _ (StandsFor old.shape after)
+    at_once d only_now calls (StandsFor (formed New old.shape) (resolved (cached old.shape.block blocks) (state_of index))) _
+        (StandsFor (formed New old.shape) after)
         (λ image at. inl at) old.disk,
     record {
       ok = tt;

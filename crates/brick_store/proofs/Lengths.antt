@@ -7,7 +7,7 @@ use Rattle.fab_disk.specs.Changing.{Cut, NotBegun}
 use Rattle.frame_store.specs.declared.frames.Frame.{Frame}
 use Rattle.frame_store.specs.declared.shapes.Shape.{Shape}
 use Rattle.frame_store.specs.Images.{OpensAs}
-use Rattle.frame_store.specs.Layouts.{half_size}
+use Rattle.frame_store.specs.Layouts.{index_half_size}
 use Rattle.frame_store.specs.Listed.{size_of}
 use Rattle.frame_store.specs.Stores.{Held, IsSame}
 use Rattle.frame_store.proofs.Openings.{opens_once}
@@ -44,10 +44,10 @@ pub room_made : {room : Bool} {live before after : ℕ} → room ≡ false → a
 room_made none few = record { kept = λ is. differ (sym is ∙ none); rewritten = λ is. few }
 
 -- the half has room for a frame that fits, and for no other
-pub fits_there : (shape : Shape) (listed body : ℕ) → listed + 6 + body + 1 ≤ half_size shape → has_room_for shape listed body ≡ true
-fits_there shape listed body fits = le-leb (listed + 6 + body + 1) (half_size shape) fits
+pub fits_there : (shape : Shape) (listed body : ℕ) → listed + 6 + body + 1 ≤ index_half_size shape → has_room_for shape listed body ≡ true
+fits_there shape listed body fits = le-leb (listed + 6 + body + 1) (index_half_size shape) fits
 
-pub fits_not : (shape : Shape) (listed body : ℕ) → (listed + 6 + body + 1 ≤ half_size shape → ⊥) → has_room_for shape listed body ≡ false
+pub fits_not : (shape : Shape) (listed body : ℕ) → (listed + 6 + body + 1 ≤ index_half_size shape → ⊥) → has_room_for shape listed body ≡ false
 fits_not shape listed body full = by (has_room_for shape listed body) refl
   where
     by : (b : Bool) → has_room_for shape listed body ≡ b → b ≡ false

@@ -9,7 +9,7 @@ use Rattle.frame_store.specs.declared.shapes.Shape.{Shape}
 use Rattle.frame_store.specs.declared.faults.FrameFault.{FrameFault}
 use Rattle.frame_store.specs.declared.faults.FrameFault.TheVariants as frames
 use Rattle.frame_store.specs.Images.{KeepsSlots}
-use Rattle.frame_store.specs.Layouts.{store_end}
+use Rattle.frame_store.specs.Layouts.{is_old, store_end}
 use Rattle.frame_store.specs.Listed.{size_of}
 use Rattle.frame_store.specs.Stores.{Held, IsRead, IsSame, HasNow, HasRoom}
 use Rattle.frame_store.specs.Stores as held
@@ -178,6 +178,7 @@ module _ {D : Type 0} (d : on_disk.Ghosts D) where
       let runs : new.halted ≡ false = halts ∙ may.runs in
       record {
         runs = runs;
+        slotted = subst (λ (s : Shape). is_old s ≡ false) (sym same.shape) may.slotted;
         leads = subst (λ (s : Shape). Leads (limits_of s) new.frames empty before) (sym same.shape)
             (subst (λ (fs : List Frame). Leads (limits_of old.shape) fs empty before) (sym same.frames) may.leads);
         settled = λ told. record {

@@ -1,5 +1,5 @@
 -- How many calls of the disk's `write_at` and `sync` a call of a brick's store makes.
-use Rattle.std.specs.Prelude.{◌≡◌, ℕ, ◌+◌, Bool, not, ◌&&◌, nat_le, if◌then◌else◌, Option, Some, None}
+use Rattle.std.specs.Prelude.{◌≡◌, ℕ, ◌+◌, Bool, ◌&&◌, nat_le, if◌then◌else◌, Option, Some, None}
 use Rattle.frame_store.specs.declared.shapes.Shape.{Shape}
 use Rattle.frame_store.specs.Layouts.{index_half_size, is_old}
 use Rattle.frame_store.specs.Listed.{size_of}
@@ -19,11 +19,10 @@ calls_with shape listed body calls = if has_room_for shape listed body then call
 abbrev pub calls_of : {D : Type 0} → Brick D → ℕ → ℕ → ℕ
 calls_of store body calls = calls_with store.shape store.listed body calls
 
--- A list that was read can be appended to: it is of the new format, each frame of it counts, a closed gate stands behind it, and it has room for a frame
+-- A list of the new format that was read can be appended to: each frame of it counts, a closed gate stands behind it, and it has room for a frame
 -- with a body of this length.
 abbrev pub is_appendable : {D : Type 0} → Bool → Held D → ℕ → Bool
-is_appendable whole frames body =
-    not (is_old frames.shape) && ((whole && frames.closed) && has_room_for frames.shape (size_of frames.frames) body)
+is_appendable whole frames body = (whole && frames.closed) && has_room_for frames.shape (size_of frames.frames) body
 
 -- an opening syncs the disk and appends its count, and rewrites before a list that can't be appended to
 abbrev pub opening_calls : Bool → ℕ
