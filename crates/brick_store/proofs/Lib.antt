@@ -2,6 +2,7 @@ pub mod BlockTables
 pub mod EmptyStores
 pub mod Resolving
 pub mod Reading
+pub mod OldReading
 pub mod Taking
 pub mod Members
 pub mod Framing
@@ -23,6 +24,8 @@ pub mod Adding
 pub mod Opened
 pub mod CutOpenings
 pub mod OpeningLaws
+pub mod OldOpenings
+pub mod OldStarts
 pub mod HeldLogs
 pub mod Counting
 pub mod KeptLogs

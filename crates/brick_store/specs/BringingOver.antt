@@ -1,5 +1,5 @@
 -- What an old store is brought over to: its blocks go to the slots from 0 on, in the order in which its live frames name them, and each once.
-use Rattle.std.specs.Prelude.{ℕ, ◌*◌, not, ◌==◌, if◌then◌else◌, List, [], ◌∷◌, ◌++◌, map, filter, take, drop, replicate}
+use Rattle.std.specs.Prelude.{◌≡◌, ◌⊎◌, ℕ, ◌+◌, ◌*◌, ◌≤◌, true, not, ◌==◌, if◌then◌else◌, List, [], ◌∷◌, ◌++◌, map, filter, take, drop, replicate}
 use Rattle.std.specs.List.{position_or_len, flat_map}
 use Rattle.brick_state.specs.declared.records.Record.{Record}
 use Rattle.brick_state.specs.Entries.{Entry}
@@ -45,3 +45,7 @@ records_over st = if st.boot == 0 then groups_records 0 st.groups ++ stripes_rec
 -- the block of a slot, in blocks of this size that lie one after the other; that of the zero block is not among them
 abbrev pub cut_block : ℕ → List ℕ → ℕ → List ℕ
 cut_block size bytes slot = if slot == 4294967295 then replicate size 0 else take size (drop (slot * size) bytes)
+
+-- the slot is one of so many bytes of blocks of this size, or that of the zero block
+abbrev pub IsAmong : ℕ → ℕ → ℕ → Type 0
+IsAmong size bytes slot = ((slot == 4294967295) ≡ true) ⊎ (slot * size + size ≤ bytes)

@@ -9,6 +9,7 @@ use Rattle.fab_disk.specs.Disk.{IsUntouched, LeavesOnly, Kept}
 use Rattle.fab_disk.specs.Plan.{IsRun}
 use Rattle.fab_disk.specs.Changing.{End, Whole, Cut, NotBegun}
 use Rattle.frame_store.specs.declared.shapes.Form.{Form}
+use Rattle.frame_store.specs.declared.shapes.Form.TheVariants.{New}
 use Rattle.frame_store.specs.declared.shapes.Shape.{Shape}
 use Rattle.frame_store.specs.Layouts.{formed, is_old}
 use Rattle.frame_store.specs.Listed.{size_of}
@@ -250,11 +251,12 @@ module _ {D : Type 0} (d : on_disk.Ghosts D) where
   -- An old store that was read was brought over and counted, by how that ended: until the new gate is open, each image opens as this state.
   pub record StartsOver (st : StateOf Version) (old : Held D) (new : D) (end : End) : Type 0 where
     pub moments : d.tells → old.closed ≡ true → LeavesOnly d.moment d.left_since old.disk new
-        (IsAllowedOr (d.may_leave old.disk) (StandsForEither old.shape st (booted (st.boot + 1) st)))
+        (IsAllowedOr (d.may_leave old.disk) (StandsForEither (formed New old.shape) st (booted (st.boot + 1) st)))
     pub run : IsRun d.tells d.moment d.plan d.unlisted 13 old.disk new (end ≡ Whole) (end ≡ Cut)
     pub not_worn : end ≡ Cut → d.unlisted old.disk → st.boot < 2 ^ 32 - 1
     pub cut : end ≡ Cut → d.tells → d.unlisted old.disk → old.closed ≡ true
-        → StopsOpening d.seen d.certain d.moment 13 old.disk new (StandsFor old.shape st) (StandsFor old.shape (booted (st.boot + 1) st))
+        → StopsOpening d.seen d.certain d.moment 13 old.disk new (StandsFor (formed New old.shape) st)
+        (StandsFor (formed New old.shape) (booted (st.boot + 1) st))
     pub not_begun : end ≡ NotBegun → IsUntouched d.seen d.may_leave d.moment d.left_since old.disk new
     pub cause : Kept (d.faults old.disk) (d.faults new) (d.sound old.disk) (d.sound new) (end ≡ Cut)
 

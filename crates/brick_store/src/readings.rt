@@ -1,12 +1,12 @@
 //! Folding a list of frames as it is read.
 
-ghost use Rattle.std.specs.Prelude.{◌≡◌, [], IfOk, IfSome};
+ghost use Rattle.std.specs.Prelude.{◌≡◌, ◌<◌, IfOk, IfSome};
 ghost use Rattle.stamp_store.specs.Reading.{read_of};
 ghost use Rattle.frame_store.specs.Listed.{frame_of};
 ghost use Rattle.brick_state.specs.Indexes.{state_of, limits_of};
-ghost use Rattle.brick_store.specs.Images.{or_logged, limits_for};
+ghost use Rattle.brick_store.specs.Images.{or_logged};
 ghost use Rattle.brick_store.specs.Steps.{RecordHasMembers};
-ghost use Rattle.brick_store.specs.Openings.{TakesOrEnds, IsFold};
+ghost use Rattle.brick_store.specs.Openings.{TakesOrEnds};
 
 use crate::block_tables::BlockTable;
 use crate::old_readings::take_old_frame;
@@ -102,14 +102,20 @@ pub(crate) struct Folded {
     pub(crate) index: Index,
     pub(crate) blocks: BlockTable,
     pub(crate) whole: bool,
+    ghost few: { records < 4294967295 },
 }
 
 impl Folded {
-    /// Before the first frame, for blocks of this size and so many records.
+    ghost use Rattle.std.specs.Prelude.{◌≡◌, ◌≤◌, ◌++◌, ◌∷◌, [], true, List, OnOk};
+    ghost use Rattle.frame_store.specs.declared.frames.Frame.{Frame};
+    ghost use Rattle.frame_store.specs.Listed.{frame_of};
+    ghost use Rattle.brick_state.specs.Indexes.{state_of, limits_of};
+    ghost use Rattle.brick_store.specs.Openings.{Makes};
+
+    /// No list was begun yet, of blocks of this size and so many records at most.
     pub(crate) fn new(alloc: Global, block: u16, records: u32) -> Result<Folded, NoMem>
-        requires { records < 4294967295 }
-        ensures limits { IfOk result (λ made. limits_of made.index ≡ limits_for records) }
-        ensures none { IfOk result (λ made. IsFold (limits_for records) [] (state_of made.index) made.whole) }
+        requires { records ≤ 1048576 }
+        ensures sizes { IfOk result (λ made. (made.block ≡ block) × (made.records ≡ records)) }
     {
         let index = Index::new(alloc, records, records)?;
         let blocks = BlockTable::with_room(alloc, 0)?;
@@ -123,22 +129,43 @@ impl Folded {
             whole: true,
         })
     }
+
+    // Takes a frame more of a list of the old format.
+    fn take_old(&mut self, kind: u8, body: &[u8]) -> Result<(), NoMem>
+        requires whole { self.old.whole ≡ true }
+        ensures sizes { (self.new.block ≡ self.old.block) × (self.new.records ≡ self.old.records) × (self.new.old ≡ self.old.old) }
+        ensures makes { OnOk result ((frames : List Frame) → Makes self.old.block self.old.records true frames (limits_of self.old.index)
+            (state_of self.old.index) self.old.blocks true → Makes self.old.block self.old.records true (frames ++ frame_of kind body.now ∷ [])
+            (limits_of self.new.index) (state_of self.new.index) self.new.blocks self.new.whole) }
+    {
+        self.whole = take_old_frame(
+            self.alloc,
+            &mut self.index,
+            &mut self.blocks,
+            self.block,
+            kind,
+            body,
+        )?;
+        Ok(())
+    }
 }
 
 impl TakesFrames for Folded {
     ghost use Rattle.std.specs.Prelude.{◌≡◌};
     ghost use Rattle.brick_state.specs.Indexes.{state_of, limits_of};
-    ghost use Rattle.brick_store.specs.Openings.{IsFold, Makes};
+    ghost use Rattle.brick_store.specs.Openings.{Makes};
 
-    ghost makes = { λ first old frames now. Makes first.block first.records old frames (limits_of now.index) (state_of now.index) now.blocks now.whole };
+    ghost makes = { λ first old frames now. (now.old ≡ old) × (now.block ≡ first.block) × (now.records ≡ first.records)
+        × Makes first.block first.records old frames (limits_of now.index) (state_of now.index) now.blocks now.whole };
 
-    // A version that takes the place of all below it in a full store has a number of its own before they are dropped: so there is one
-    // number more than live records.
+    // What was taken before is forgotten. A version that takes the place of all below it in a full store has a number of its own before
+    // they are dropped: so an old list has one number more than live records.
     fn begin(&mut self, old: bool) -> Result<(), NoMem> {
+        let slots = if old { self.records + 1 } else { self.records };
+        self.index = Index::new(self.alloc, self.records, slots)?;
+        self.blocks = BlockTable::with_room(self.alloc, 0)?;
         self.old = old;
-        if old {
-            self.index = Index::new(self.alloc, self.records, self.records + 1)?;
-        }
+        self.whole = true;
         Ok(())
     }
 
@@ -146,11 +173,10 @@ impl TakesFrames for Folded {
         if !self.whole {
             return Ok(());
         }
-        self.whole = if self.old {
-            take_old_frame(self.alloc, &mut self.index, &mut self.blocks, self.block, kind, body)?
-        } else {
-            take_frame(&mut self.index, kind, body)?
-        };
+        if self.old {
+            return self.take_old(kind, body);
+        }
+        self.whole = take_frame(&mut self.index, kind, body)?;
         Ok(())
     }
 }

@@ -9,14 +9,14 @@ ghost use Rattle.brick_state.specs.States.{booted, empty, live};
 ghost use Rattle.brick_state.specs.Indexes.{state_of};
 ghost use Rattle.brick_state.specs.Indexes as indexes;
 ghost use Rattle.brick_store.specs.Blocks.{cached, resolved};
-ghost use Rattle.brick_store.specs.BringingOver.{cut_block};
+ghost use Rattle.brick_store.specs.BringingOver.{cut_block, IsAmong};
 ghost use Rattle.brick_store.specs.Ends.{end_of};
 ghost use Rattle.brick_store.specs.Images.{limits_of};
 ghost use Rattle.brick_store.specs.Lengths.{IsAppended};
 ghost use Rattle.brick_store.specs.OldLists.{old_state_in};
 ghost use Rattle.brick_store.specs.Openings.{Makes, StartsOver, opening_end};
 ghost use Rattle.brick_store.specs.Sizes.{boot_size};
-ghost use Rattle.brick_store.specs.Standing.{Leads, Standing};
+ghost use Rattle.brick_store.specs.Standing.{AllSlots, Leads, Standing};
 ghost use Rattle.brick_store.specs.Steps.{IsSettled};
 
 use crate::bringing_over::{Brought, bring_over};
@@ -96,13 +96,17 @@ fn start_over<D: Disk>(
     requires blocks { AreBlocks frames.old.shape (length listed.items) blocks.now }
     requires fits { Fits frames.old.shape listed.items boot_size }
     requires leads { Leads (limits_of frames.old.shape) listed.items empty (state_of index.old) }
+    requires slots { AllSlots (IsAmong frames.old.shape.block (length blocks.now)) (state_of index.old) }
+    requires state { resolved (cut_block frames.old.shape.block blocks.now) (state_of index.old)
+        ≡ old_state_in frames.old.shape.block frames.old.shape.records frames.old.frames }
     requires boots { (state_of index.old).boot < 2 ^ 32 - 1 }
     ensures made { OnOk result (state_of index.new ≡ booted ((state_of index.old).boot + 1) (state_of index.old)) }
     ensures leads { OnOk result (Leads (limits_of frames.old.shape) frames.new.frames empty (state_of index.new)) }
     ensures shape { OnOk result (frames.new.shape ≡ formed Form.Moved frames.old.shape) }
     ensures runs { OnOk result (frames.new.halted ≡ false) }
     ensures settled { D.tells → OnOk result (IsSettled D.Disk frames.new) }
-    ensures starts { StartsOver D.Disk (resolved (cut_block frames.old.shape.block blocks.now) (state_of index.old)) frames.old frames.new.disk (end_of result) }
+    ensures starts { StartsOver D.Disk (old_state_in frames.old.shape.block frames.old.shape.records frames.old.frames) frames.old frames.new.disk
+        (end_of result) }
 {
     let item = Record::Kept(Kept::Boot(index.boot() + 1));
     let frame = frame_of(alloc, &item)?;

@@ -206,12 +206,12 @@ fn write_thrice_synced<D: Disk>(
     requires third { third.at + length third.bytes.now ≤ end }
     requires room { D.has_room disk.old 4 (length first.bytes.now + (length second.bytes.now + length third.bytes.now)) end }
     ensures change { Run D.Disk 4
-        (IsStagedThrice first.at (length first.bytes.now) second.at (length second.bytes.now) third.at (length third.bytes.now) (D.seen disk.old))
-        (IsStagedThrice first.at (length first.bytes.now) second.at (length second.bytes.now) third.at (length third.bytes.now) (D.seen disk.old))
-        (λ image. image ≡ thrice_written first.at first.bytes.now second.at second.bytes.now third.at third.bytes.now (D.seen disk.old))
+        (IsStagedThrice first.entry.at (length first.entry.bytes.now) second.entry.at (length second.entry.bytes.now) third.entry.at (length third.entry.bytes.now) (D.seen disk.old))
+        (IsStagedThrice first.entry.at (length first.entry.bytes.now) second.entry.at (length second.entry.bytes.now) third.entry.at (length third.entry.bytes.now) (D.seen disk.old))
+        (λ image. image ≡ thrice_written first.entry.at first.entry.bytes.now second.entry.at second.entry.bytes.now third.entry.at third.entry.bytes.now (D.seen disk.old))
         disk.old disk.new (end_of result) }
     ensures left { OnOk result ((calls room : ℕ) → D.has_room disk.old (calls + 4)
-        (room + (length first.bytes.now + (length second.bytes.now + length third.bytes.now))) end → D.has_room disk.new calls room end) }
+        (room + (length first.entry.bytes.now + (length second.entry.bytes.now + length third.entry.bytes.now))) end → D.has_room disk.new calls room end) }
     ensures only { IsOkUnless result FrameFault.Disk }
 {
     write(disk, first.at, first.bytes)?;
@@ -236,13 +236,13 @@ fn write_thrice_gated<D: Disk>(
     requires gate { gate + 1 ≤ end }
     requires room { D.has_room disk.old 6 (length first.bytes.now + (length second.bytes.now + length third.bytes.now) + 1) end }
     ensures change { Run D.Disk 6
-        (IsStagedThrice first.at (length first.bytes.now) second.at (length second.bytes.now) third.at (length third.bytes.now) (D.seen disk.old))
-        (IsThriceGated first.at first.bytes.now second.at second.bytes.now third.at third.bytes.now gate (D.seen disk.old))
+        (IsStagedThrice first.entry.at (length first.entry.bytes.now) second.entry.at (length second.entry.bytes.now) third.entry.at (length third.entry.bytes.now) (D.seen disk.old))
+        (IsThriceGated first.entry.at first.entry.bytes.now second.entry.at second.entry.bytes.now third.entry.at third.entry.bytes.now gate (D.seen disk.old))
         (λ image. image ≡ written gate (open_gate ∷ [])
-        (thrice_written first.at first.bytes.now second.at second.bytes.now third.at third.bytes.now (D.seen disk.old)))
+        (thrice_written first.entry.at first.entry.bytes.now second.entry.at second.entry.bytes.now third.entry.at third.entry.bytes.now (D.seen disk.old)))
         disk.old disk.new (end_of result) }
     ensures left { OnOk result ((calls room : ℕ) → D.has_room disk.old (calls + 6)
-        (room + (length first.bytes.now + (length second.bytes.now + length third.bytes.now) + 1)) end → D.has_room disk.new calls room end) }
+        (room + (length first.entry.bytes.now + (length second.entry.bytes.now + length third.entry.bytes.now) + 1)) end → D.has_room disk.new calls room end) }
     ensures only { IsOkUnless result FrameFault.Disk }
 {
     write_thrice_synced(disk, first, second, third, end)?;
@@ -265,13 +265,13 @@ pub(crate) fn bring_gated<D: Disk>(
     requires list { list.at + length list.bytes.now ≤ end }
     requires rest { gate + 1 + length rest.now ≤ end }
     requires room { D.has_room disk.old 8 (length shut.now + (length blocks.bytes.now + (length list.bytes.now + length rest.now) + 1)) end }
-    ensures change { Run D.Disk 8 (IsShutBefore gate shut.now blocks.at blocks.bytes.now list.at list.bytes.now rest.now (D.seen disk.old))
-        (IsBrought gate shut.now blocks.at blocks.bytes.now list.at list.bytes.now rest.now (D.seen disk.old))
+    ensures change { Run D.Disk 8 (IsShutBefore gate shut.now blocks.entry.at blocks.entry.bytes.now list.entry.at list.entry.bytes.now rest.now (D.seen disk.old))
+        (IsBrought gate shut.now blocks.entry.at blocks.entry.bytes.now list.entry.at list.entry.bytes.now rest.now (D.seen disk.old))
         (λ image. image ≡ written gate (open_gate ∷ [])
-        (thrice_written blocks.at blocks.bytes.now list.at list.bytes.now (gate + 1) rest.now (written gate shut.now (D.seen disk.old))))
+        (thrice_written blocks.entry.at blocks.entry.bytes.now list.entry.at list.entry.bytes.now (gate + 1) rest.now (written gate shut.now (D.seen disk.old))))
         disk.old disk.new (end_of result) }
     ensures left { OnOk result ((calls room : ℕ) → D.has_room disk.old (calls + 8)
-        (room + (length shut.now + (length blocks.bytes.now + (length list.bytes.now + length rest.now) + 1))) end → D.has_room disk.new calls room end) }
+        (room + (length shut.now + (length blocks.entry.bytes.now + (length list.entry.bytes.now + length rest.now) + 1))) end → D.has_room disk.new calls room end) }
     ensures only { IsOkUnless result FrameFault.Disk }
 {
     write_synced(disk, gate, shut)?;
