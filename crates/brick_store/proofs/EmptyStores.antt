@@ -15,12 +15,12 @@ use Rattle.brick_state.specs.States.{empty}
 use Rattle.brick_state.specs.Folds.{folded}
 use Rattle.brick_store.specs.Blocks.{resolved}
 use Rattle.brick_store.specs.Images.{StandsFor, records_of, state_by}
-use Rattle.brick_store.specs.OldLists.{old_records}
+use Rattle.brick_store.specs.OldLists.{old_folded}
 use Rattle.brick_store.specs.Openings.{making_end, write_fault_of}
 use Rattle.brick_store.proofs.Stepping.{refused}
 
 empty_in : (form : Form) (shape : Shape) (image : List ℕ) → state_by form shape [] image ≡ empty
-unfolding records_of old_records folded resolved
+unfolding records_of old_folded folded resolved
 empty_in Old shape image = refl
 empty_in New shape image = refl
 empty_in Moved shape image = refl

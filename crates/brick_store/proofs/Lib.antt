@@ -3,6 +3,7 @@ pub mod EmptyStores
 pub mod Resolving
 pub mod Reading
 pub mod OldReading
+pub mod OldTaking
 pub mod Taking
 pub mod Members
 pub mod Framing

@@ -1,19 +1,25 @@
 -- What a list of the old format makes. Its frames are those of the new one, but a version's frame has the block in it, where one of the new format names a slot.
--- Each such block is numbered by its frame's place in the list, and the state that the list makes names blocks by these numbers.
-use Rattle.std.specs.Prelude.{ℕ, suc, Bool, ◌==◌, ◌&&◌, nat_le, if◌then◌else◌, Option, Some, None, option_map, option_and_then, unwrap_or, List, [], ◌∷◌, length, take, drop, replicate, slice_get}
+use Rattle.std.specs.Prelude.{◌≡◌, ℕ, Bool, true, false, not, ◌==◌, ◌&&◌, ◌||◌, nat_le, nat_lt, if◌then◌else◌, Option, Some, None, option_and_then, List, [], ◌∷◌, length, take, drop}
 use Rattle.std.specs.Int.{w16, from_be_bytes}
-use Rattle.stamp_store.specs.declared.log_records.LogChange.TheVariants.{Slot}
+use Rattle.std.specs.List.{list_any}
+use Rattle.fab_base.specs.Layouts.{most_groups}
+use Rattle.fab_base.specs.Stamps.{stamp_below}
+use Rattle.fab_base.specs.declared.stamps.Stamp.{Stamp}
+use Rattle.stamp_store.specs.declared.kept_records.Kept.{Kept}
+use Rattle.stamp_store.specs.declared.kept_records.Kept.TheVariants.{Boot, Ballots, Order}
+use Rattle.stamp_store.specs.declared.kept_records.Kept.TheVariants as kinds
+use Rattle.stamp_store.specs.declared.log_records.LogChange.{LogChange}
+use Rattle.stamp_store.specs.declared.log_records.LogChange.TheVariants.{Same, Collect, Slot}
 use Rattle.stamp_store.specs.declared.log_records.Logged.{Logged}
 use Rattle.stamp_store.specs.LogSpelling.{logged_of}
-use Rattle.version_log.specs.Versions.{Version}
+use Rattle.version_log.specs.Versions.{Version, version, newest, block_of, has_stamp}
 use Rattle.frame_store.specs.declared.frames.Frame.{Frame}
 use Rattle.brick_state.specs.declared.records.Record.{Record}
 use Rattle.brick_state.specs.declared.records.Record.TheVariants as forms
-use Rattle.brick_state.specs.Entries.{Entry}
-use Rattle.brick_state.specs.States.{StateOf, empty}
-use Rattle.brick_state.specs.Folds.{Limits, applied, folded}
-use Rattle.brick_store.specs.Blocks.{resolved}
-use Rattle.brick_store.specs.Records.{record_of, onto_record}
+use Rattle.brick_state.specs.States.{Place, StripeOf, StateOf, stripe_at, with_stripe, with_added, with_bottom, with_collected, ordered, booted, viewed, balloted, live, empty}
+use Rattle.brick_state.specs.Folds.{place}
+use Rattle.brick_store.specs.Blocks.{log_of, adds_stamp, version_stamp}
+use Rattle.brick_store.specs.Records.{record_of}
 
 -- the kind of a version's frame of the old format, and that of the new one
 abbrev pub old_version_kind : ℕ
@@ -22,12 +28,9 @@ old_version_kind = 5
 abbrev pub slot_kind : ℕ
 slot_kind = 8
 
--- how many bytes of a version's frame name its stripe and its stamp, as in the frames of all changes of a log, and how many stand before the block
+-- how many bytes of a version's frame name its stripe and its stamp, as in the frames of all changes of a log
 abbrev pub place_size : ℕ
 place_size = 30
-
-abbrev pub block_start : ℕ
-block_start = 33
 
 -- What stands behind the stamp: a byte that says whether all versions below are dropped, the block's length in two bytes, and the block, which is as long as
 -- each block of the store.
@@ -36,41 +39,84 @@ old_block_of size (flag ∷ high ∷ low ∷ block) =
     if (nat_le flag 1) && ((from_be_bytes w16 (high ∷ low ∷ []) == size) && (length block == size)) then Some (flag == 1, block) else None
 old_block_of size bytes = None
 
--- a version of this number, with what stands behind its stamp
-abbrev pub old_version : ℕ → Logged → Bool × List ℕ → Record
-old_version number r told =
-    forms.Logged (record { group = r.group; view = r.view; stripe = r.stripe; stamp = r.stamp; change = Slot told.0 number })
+-- there are as many live records as there may be
+abbrev pub has_most : ℕ → StateOf Version → Bool
+has_most records st = nat_le records (live st)
 
-abbrev pub old_version_of : ℕ → ℕ → List ℕ → Option Record
-old_version_of size number body =
-    option_and_then (λ r. option_map (old_version number r) (old_block_of size (drop place_size body))) (logged_of 6 (take place_size body))
+-- the stripe is put in its place, if it can be
+abbrev pub at_place : Place → StateOf Version → Option (StripeOf Version) → Option (StateOf Version)
+at_place p st None = None
+at_place p st (Some s) = Some (with_stripe p s st)
 
--- The record that a frame of the old format is, if it is one, with blocks of this size, where it has this number. A frame that names a slot is none.
-abbrev pub old_record_of : ℕ → ℕ → Frame → Option Record
-old_record_of size number frame =
-    if frame.kind == old_version_kind then old_version_of size number frame.body
-    else (if frame.kind == slot_kind then None else record_of frame)
+-- a stamp above that of the newest version, if there is one
+abbrev pub is_above_newest : Option Version → Stamp → Bool
+is_above_newest None t = true
+is_above_newest (Some top) t = stamp_below top.stamp t
 
--- the records from the front on, up to the first frame that is none; the first frame has this number
-unfoldable pub old_records : ℕ → ℕ → List Frame → List Record
-old_records size number [] = []
-old_records size number (frame ∷ frames) = onto_record (old_record_of size number frame) (old_records size (suc number) frames)
+-- A version is added with its block, or takes the place of all that are there. None where it can't be: one live record too many, or not above the newest.
+abbrev pub block_put : ℕ → Bool → Bool → Stamp → List ℕ → StripeOf Version → Option (StripeOf Version)
+block_put size full true t block s = if (length s.added == 0) && full then None else Some (with_bottom (version t block) s)
+block_put size full false t block s =
+    if full || not (is_above_newest (newest (log_of size s)) t) then None else Some (with_added (version t block) s)
 
--- the block of this number in a list
-abbrev pub body_of_frame : Frame → List ℕ
-body_of_frame frame = frame.body
+-- a version with the block of the newest one
+abbrev pub newest_again : Option Version → Stamp → StripeOf Version → Option (StripeOf Version)
+newest_again None t s = None
+newest_again (Some top) t s = if stamp_below top.stamp t then Some (with_added (version t (block_of top)) s) else None
 
-abbrev pub old_block_in : ℕ → List Frame → ℕ → List ℕ
-old_block_in size frames number =
-    if number == 4294967295 then replicate size 0 else drop block_start (unwrap_or (option_map body_of_frame (slice_get frames number)) [])
+-- Another change of a log. None where it can't be: no version below it or one live record too many, or no version of the stamp to keep.
+abbrev pub log_put : ℕ → Bool → LogChange → Stamp → StripeOf Version → Option (StripeOf Version)
+log_put size full Same t s = if full then None else newest_again (newest (log_of size s)) t s
+log_put size full Collect t s = if list_any (has_stamp t) (log_of size s) then Some (with_collected version_stamp t s) else None
+log_put size full (Slot bottom slot) t s = None
 
--- as many live records as the store may have, and as many numbers as frames
-abbrev pub old_limits : ℕ → List Frame → Limits
-old_limits records frames = record { records = records; slots = length frames }
+-- what a version's frame makes of a state, of blocks of this size and so many live records at most
+abbrev pub version_put : ℕ → ℕ → Logged → Bool × List ℕ → StateOf Version → Option (StateOf Version)
+version_put size records r told st =
+    if nat_lt r.group.0 most_groups
+    then at_place (place r.group r.view r.stripe) st
+    (block_put size (has_most records st) told.0 r.stamp told.1 (stripe_at st (place r.group r.view r.stripe)))
+    else None
 
--- what the frames make of a brick that keeps nothing, with numbers, and with the blocks themselves
-abbrev pub old_found : ℕ → ℕ → List Frame → StateOf Entry
-old_found size records frames = folded (old_limits records frames) (old_records size 0 frames) empty
+-- and each other record
+unfoldable pub record_put : ℕ → ℕ → Record → StateOf Version → Option (StateOf Version)
+record_put size records (forms.Kept (Boot count)) st = Some (booted count st)
+record_put size records (forms.Kept (kinds.View g view synced)) st =
+    if nat_lt g.0 most_groups && nat_le 2 view.number.0 then Some (viewed g.0 view synced st) else None
+record_put size records (forms.Kept (Ballots g v promised accepted)) st = if nat_lt g.0 most_groups then Some (balloted g.0 promised accepted st) else None
+record_put size records (forms.Kept (Order g v s t)) st =
+    if nat_lt g.0 most_groups
+    then (if adds_stamp t (stripe_at st (place g v s)).order && has_most records st then None else Some (ordered (place g v s) t st))
+    else None
+record_put size records (forms.Logged r) st =
+    if nat_lt r.group.0 most_groups
+    then at_place (place r.group r.view r.stripe) st
+    (log_put size (has_most records st) r.change r.stamp (stripe_at st (place r.group r.view r.stripe)))
+    else None
 
+-- What a frame of the old format makes of a state: nothing where it is no record, or one that can't be. A frame that names a slot is none.
+abbrev pub old_taken : ℕ → ℕ → Frame → StateOf Version → Option (StateOf Version)
+old_taken size records frame st =
+    if frame.kind == old_version_kind
+    then option_and_then (λ r. option_and_then (λ told. version_put size records r told st) (old_block_of size (drop place_size frame.body)))
+    (logged_of 6 (take place_size frame.body))
+    else (if frame.kind == slot_kind then None else option_and_then (λ r. record_put size records r st) (record_of frame))
+
+-- frames one after the other, up to the first that can't be
+abbrev pub old_onward : Option (StateOf Version) → StateOf Version → (StateOf Version → StateOf Version) → StateOf Version
+old_onward None st more = st
+old_onward (Some next) st more = more next
+
+unfoldable pub old_folded : ℕ → ℕ → List Frame → StateOf Version → StateOf Version
+old_folded size records [] st = st
+old_folded size records (frame ∷ frames) st = old_onward (old_taken size records frame st) st (old_folded size records frames)
+
+-- what the frames make of a brick that keeps nothing
 abbrev pub old_state_in : ℕ → ℕ → List Frame → StateOf Version
-old_state_in size records frames = resolved (old_block_in size frames) (old_found size records frames)
+old_state_in size records frames = old_folded size records frames empty
+
+-- each of these frames can be, and together they lead from one state to the other
+unfoldable pub OldLeads : ℕ → ℕ → List Frame → StateOf Version → StateOf Version → Type 0
+OldLeads size records [] old new = old ≡ new
+OldLeads size records (frame ∷ frames) old new =
+    (mid : StateOf Version) × (old_taken size records frame old ≡ Some mid) × OldLeads size records frames mid new

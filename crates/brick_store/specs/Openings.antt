@@ -33,7 +33,7 @@ use Rattle.brick_state.specs.Folds.{Limits, applied, folded}
 use Rattle.brick_state.specs.KeptStates.{IsKeptState}
 use Rattle.brick_store.specs.Blocks.{cached, resolved}
 use Rattle.brick_store.specs.Images.{record_of, records_of, limits_for, limits_of, IsFound, StandsFor, StandsForEither}
-use Rattle.brick_store.specs.OldLists.{old_record_of, old_version_kind, block_start, old_state_in}
+use Rattle.brick_store.specs.OldLists.{old_taken, old_state_in, OldLeads}
 use Rattle.brick_store.specs.Standing.{AllSlots, GroupHasMembers, IsCached, IsStored, Leads}
 use Rattle.std.specs.List.{AllByRecursion}
 
@@ -80,31 +80,31 @@ pub record IsFold (limits : Limits) (frames : List Frame) (st : StateOf Entry) (
 abbrev pub memory_limits : ℕ → Limits
 memory_limits records = record { records = records; slots = records + 1 }
 
-pub record IsOldFold (size records : ℕ) (frames : List Frame) (st : StateOf Entry) (blocks : SlotBlocks) : Type 0 where
-  pub found : resolved (cached size blocks) st ≡ old_state_in size records frames
+pub record IsOldFold (size records : ℕ) (frames : List Frame) (st : StateOf Entry) (blocks : SlotBlocks) (whole : Bool) : Type 0 where
+  pub found : old_state_in size records frames ≡ resolved (cached size blocks) st
+  pub leads : whole ≡ true → OldLeads size records frames empty (resolved (cached size blocks) st)
+  pub ended : whole ≡ false → (rest : List Frame) → old_state_in size records (frames ++ rest) ≡ resolved (cached size blocks) st
   pub kept : IsKeptState (memory_limits records) st
   pub held : AllSlots (IsCached size blocks) st
   pub members : AllByRecursion GroupHasMembers st.groups
 
--- What taking a frame of the old format came to: the record that it is, with a number that no version had, led from one state to the other, and a block that
--- it has is held under this number; or no number makes it a record that can be, and nothing is changed.
-pub record TakesOld (size : ℕ) (limits : Limits) (frame : Frame) (old new : StateOf Entry) (blocks_old blocks_new : SlotBlocks) (taken : Bool)
-    : Type 0 where
-  pub number : ℕ
-  pub free : AllSlots (λ other. other ≢ number) old
-  pub is_number : number < limits.slots
-  pub made : taken ≡ true → (option_and_then (λ read. applied limits read old) (old_record_of size number frame) ≡ Some new)
-      × ((frame.kind == old_version_kind) ≡ true → block_under blocks_new number ≡ Some (drop block_start frame.body))
-  pub ended : taken ≡ false → (new ≡ old) × (option_and_then (λ read. applied limits read old) (old_record_of size number frame) ≡ None)
-  pub others : (other : ℕ) → other ≢ number → block_under blocks_new other ≡ block_under blocks_old other
+-- the answer of a change: it was made, or it can't be
+abbrev pub OldAnswers : StateOf Version → StateOf Version → Option (StateOf Version) → Bool → Type 0
+OldAnswers old now None answer = (answer ≡ false) × (now ≡ old)
+OldAnswers old now (Some st) answer = (answer ≡ true) × (now ≡ st)
+
+-- What taking a frame of the old format came to: it makes of the state with its blocks what it is to make, or ends the list.
+pub record TakesOld (size records : ℕ) (frame : Frame) (old new : StateOf Entry) (blocks_old blocks_new : SlotBlocks) (taken : Bool) : Type 0 where
+  pub answers : OldAnswers (resolved (cached size blocks_old) old) (resolved (cached size blocks_new) new)
+      (old_taken size records frame (resolved (cached size blocks_old) old)) taken
+  pub kept : IsKeptState (memory_limits records) new
+  pub held : AllSlots (IsCached size blocks_new) new
   pub members : AllByRecursion GroupHasMembers old.groups → AllByRecursion GroupHasMembers new.groups
 
--- What taking these frames, of the old format or not, came to: the state in memory is what they make, and where a frame was none that can be, none after it
--- counts.
+-- What taking these frames, of the old format or not, came to: the state in memory is what they make.
 abbrev pub Makes : ℕ → ℕ → Bool → List Frame → Limits → StateOf Entry → SlotBlocks → Bool → Type 0
 Makes size records false frames limits st blocks whole = (limits ≡ limits_for records) × IsFold (limits_for records) frames st whole
-Makes size records true frames limits st blocks whole = (limits ≡ memory_limits records) × IsOldFold size records frames st blocks
-    × (whole ≡ false → (rest : List Frame) → old_state_in size records (frames ++ rest) ≡ old_state_in size records frames)
+Makes size records true frames limits st blocks whole = (limits ≡ memory_limits records) × IsOldFold size records frames st blocks whole
 
 -- the block in the slot is held in memory; that of the zero block need not be
 abbrev pub IsHeld : SlotBlocks → ℕ → Type 0

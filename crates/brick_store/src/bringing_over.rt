@@ -65,22 +65,24 @@ impl Slots {
 pub(crate) fn bring_over(
     alloc: Global,
     folded: Folded,
-    records: u32,
 ) -> Result<Brought, NoMem>
-    requires kept { IsKeptState (memory_limits records) (state_of folded.index) }
-    requires held { AllSlots (IsCached folded.block folded.blocks) (state_of folded.index) }
+    requires kept { IsKeptState (memory_limits folded.sizes.records) (state_of folded.index) }
+    requires held { AllSlots (IsCached folded.sizes.block folded.blocks) (state_of folded.index) }
     requires members { AllByRecursion GroupHasMembers (state_of folded.index).groups }
-    ensures limits { IfOk result (λ made. limits_of made.index ≡ limits_for records) }
+    ensures limits { IfOk result (λ made. limits_of made.index ≡ limits_for folded.sizes.records) }
     ensures state { IfOk result (λ made. state_of made.index ≡ brought (state_of folded.index)) }
     // The frames are those that bring back this state, and the blocks lie one after the other, as they do in memory.
     ensures frames { IfOk result (λ made. map record_of made.frames.items ≡ map Some (records_over (brought (state_of folded.index)))) }
     ensures size { IfOk result (λ made. size_of made.frames.items ≤ most_listed (live (state_of folded.index))) }
-    ensures bytes { IfOk result (λ made. made.bytes.items ≡ blocks_over (cached folded.block folded.blocks) (state_of folded.index)) }
-    ensures blocks { IfOk result (λ made. resolved (cached folded.block made.blocks) (state_of made.index)
-        ≡ resolved (cached folded.block folded.blocks) (state_of folded.index)) }
+    ensures bytes { IfOk result (λ made. made.bytes.items ≡ blocks_over (cached folded.sizes.block folded.blocks) (state_of folded.index)) }
+    ensures blocks { IfOk result (λ made. resolved (cached folded.sizes.block made.blocks) (state_of made.index)
+        ≡ resolved (cached folded.sizes.block folded.blocks) (state_of folded.index)) }
 {
     let Folded {
-        index, mut blocks, ..
+        index,
+        mut blocks,
+        sizes,
+        ..
     } = folded;
     let named = index.named_end();
     let room = index.live() as usize;
@@ -89,7 +91,7 @@ pub(crate) fn bring_over(
     drop(index);
     let mut slots = Slots::new(alloc, named)?;
     let mut brought = Brought {
-        index: Index::new(alloc, records, records)?,
+        index: Index::new(alloc, sizes.records, sizes.records)?,
         blocks: BlockTable::with_room(alloc, room)?,
         bytes: Vec::new(alloc),
         frames: Vec::with_capacity(alloc, listed.len())?,

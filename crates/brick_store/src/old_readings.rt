@@ -1,11 +1,12 @@
 //! Folding a list of the old format as it is read.
 
-ghost use Rattle.std.specs.Prelude.{◌≡◌, ◌<◌, ℕ, Some, None, IfSome, IfNone, IfOk, option_map, take, drop};
+ghost use Rattle.std.specs.Prelude.{◌≡◌, Some, None, IfSome, IfNone, IfOk, option_map, option_and_then, take, drop};
 ghost use Rattle.brick_state.specs.Indexes.{state_of, limits_of};
-ghost use Rattle.brick_state.specs.States.{live};
 ghost use Rattle.frame_store.specs.Listed.{frame_of};
-ghost use Rattle.brick_store.specs.OldLists.{old_block_of, old_version_of, old_version_kind, place_size};
-ghost use Rattle.brick_store.specs.Openings.{TakesOld};
+ghost use Rattle.brick_store.specs.OldLists.{old_block_of, old_version_kind, place_size};
+ghost use Rattle.brick_state.specs.KeptStates.{IsKeptState};
+ghost use Rattle.brick_store.specs.Openings.{TakesOld, memory_limits};
+ghost use Rattle.brick_store.specs.Standing.{AllSlots, IsCached};
 ghost use Rattle.stamp_store.specs.LogSpelling.{logged_of};
 
 use crate::block_tables::BlockTable;
@@ -17,6 +18,13 @@ use std::alloc::Global;
 
 // How many bytes of a version's frame name its stripe and its stamp, as in the frames of all changes of a log.
 const PLACE: usize = 30;
+
+/// The size of a store's blocks, and how many live records it may have.
+#[derive(Clone, Copy)]
+pub(crate) struct Sizes {
+    pub(crate) block: u16,
+    pub(crate) records: u32,
+}
 
 // What a version's frame of the old format spells: whose version it is and its stamp, whether all versions below it are dropped,
 // and its block.
@@ -45,7 +53,8 @@ fn block_of(size: u16, bytes: &[u8]) -> Option<(bool, &[u8])>
 fn version_of(size: u16, body: &[u8]) -> Option<OldVersion<'_>>
     ensures place { IfSome result (λ v. logged_of 6 (take place_size body.now) ≡ Some v.place) }
     ensures block { IfSome result (λ v. old_block_of size (drop place_size body.now) ≡ Some (v.bottom, v.block.now)) }
-    ensures none { IfNone result ((number : ℕ) → old_version_of size number body.now ≡ None) }
+    ensures none { IfNone result (option_and_then (λ r. option_map (λ told. (r, told)) (old_block_of size (drop place_size body.now)))
+        (logged_of 6 (take place_size body.now)) ≡ None) }
 {
     if body.len() < PLACE {
         return None;
@@ -66,17 +75,19 @@ pub(crate) fn take_old_frame(
     alloc: Global,
     index: &mut Index,
     blocks: &mut BlockTable,
-    size: u16,
+    sizes: Sizes,
     kind: u8,
     body: &[u8],
 ) -> Result<bool, NoMem>
-    requires room { live (state_of index.old) < (limits_of index.old).slots }
+    requires limits { limits_of index.old ≡ memory_limits sizes.records }
+    requires kept { IsKeptState (memory_limits sizes.records) (state_of index.old) }
+    requires held { AllSlots (IsCached sizes.block blocks.old) (state_of index.old) }
     ensures limits { limits_of index.new ≡ limits_of index.old }
-    ensures takes { IfOk result (λ taken. TakesOld size (limits_of index.old) (frame_of kind body.now) (state_of index.old) (state_of index.new)
+    ensures takes { IfOk result (λ taken. TakesOld sizes.block sizes.records (frame_of kind body.now) (state_of index.old) (state_of index.new)
         blocks.old blocks.new taken) }
 {
     match kind {
-        5 => take_version(alloc, index, blocks, size, body),
+        5 => take_version(alloc, index, blocks, sizes, body),
         8 => Ok(false),
         _ => take_frame(index, kind, body),
     }
@@ -87,15 +98,17 @@ fn take_version(
     alloc: Global,
     index: &mut Index,
     blocks: &mut BlockTable,
-    size: u16,
+    sizes: Sizes,
     body: &[u8],
 ) -> Result<bool, NoMem>
-    requires room { live (state_of index.old) < (limits_of index.old).slots }
+    requires limits { limits_of index.old ≡ memory_limits sizes.records }
+    requires kept { IsKeptState (memory_limits sizes.records) (state_of index.old) }
+    requires held { AllSlots (IsCached sizes.block blocks.old) (state_of index.old) }
     ensures limits { limits_of index.new ≡ limits_of index.old }
-    ensures takes { IfOk result (λ taken. TakesOld size (limits_of index.old) (frame_of old_version_kind body.now) (state_of index.old) (state_of index.new)
+    ensures takes { IfOk result (λ taken. TakesOld sizes.block sizes.records (frame_of old_version_kind body.now) (state_of index.old) (state_of index.new)
         blocks.old blocks.new taken) }
 {
-    let Some(version) = version_of(size, body) else {
+    let Some(version) = version_of(sizes.block, body) else {
         return Ok(false);
     };
     let block = Bytes::from_slice(alloc, version.block)?;

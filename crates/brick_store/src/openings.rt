@@ -63,7 +63,7 @@ pub fn open_store<D: Disk>(
         Err((fault, disk)) => return Err((OpenFault::from(fault), disk)),
     };
     if frames.is_old() {
-        return open_over(alloc, frames, folded, block, records);
+        return open_over(alloc, frames, folded);
     }
     match take_up(alloc, &mut frames, folded, block) {
         Ok(taken) => Ok(BrickStore {
@@ -82,28 +82,26 @@ fn open_over<D: Disk>(
     alloc: Global,
     frames: FrameStore<D>,
     folded: Folded,
-    block: u16,
-    records: u32,
 ) -> Result<BrickStore<D>, (OpenFault, D)>
     requires shape { IsShape frames.shape }
     requires old { is_old frames.shape ≡ true }
-    requires block { block ≡ frames.shape.block }
-    requires records { records ≡ frames.shape.records }
-    requires fold { Makes block records true frames.frames (limits_of folded.index) (state_of folded.index) folded.blocks folded.whole }
+    requires block { folded.sizes.block ≡ frames.shape.block }
+    requires records { folded.sizes.records ≡ frames.shape.records }
+    requires fold { Makes frames.shape.block frames.shape.records true frames.frames (limits_of folded.index) (state_of folded.index) folded.blocks folded.whole }
     requires runs { frames.halted ≡ false }
     requires read { IsRead D.tells D.seen frames }
     ensures shape { IfOk result (λ store. store.shape ≡ formed Form.New frames.shape) }
     ensures runs { IfOk result (λ store. store.halted ≡ false) }
-    ensures state { let st = old_state_in block records frames.frames in IfOk result (λ store. store.state ≡ booted (st.boot + 1) st) }
-    ensures boots { IfOk result (λ store. (old_state_in block records frames.frames).boot < 2 ^ 32 - 1) }
+    ensures state { let st = old_state_in frames.shape.block frames.shape.records frames.frames in IfOk result (λ store. store.state ≡ booted (st.boot + 1) st) }
+    ensures boots { IfOk result (λ store. (old_state_in frames.shape.block frames.shape.records frames.frames).boot < 2 ^ 32 - 1) }
     ensures stands { IfOk result (λ store. D.tells → Stands D.Disk (StandsFor store.shape store.state) store.disk) }
-    ensures listed { IfOk result (λ store. IsAppended false (live (old_state_in block records frames.frames)) (size_of frames.frames) boot_size store.listed) }
-    ensures starts { StartsOver D.Disk (old_state_in block records frames.frames) frames (disk_in result) (end_in result) }
-    ensures worn { IfErr result (λ e. e.0 ≡ OpenFault.Worn → (old_state_in block records frames.frames).boot ≡ 2 ^ 32 - 1) }
+    ensures listed { IfOk result (λ store. IsAppended false (live (old_state_in frames.shape.block frames.shape.records frames.frames)) (size_of frames.frames) boot_size store.listed) }
+    ensures starts { StartsOver D.Disk (old_state_in frames.shape.block frames.shape.records frames.frames) frames (disk_in result) (end_in result) }
+    ensures worn { IfErr result (λ e. e.0 ≡ OpenFault.Worn → (old_state_in frames.shape.block frames.shape.records frames.frames).boot ≡ 2 ^ 32 - 1) }
     ensures a_store { IfErr result (λ e. e.0 ≢ OpenFault.NotAStore) }
 {
     let mut frames = frames;
-    match take_over(alloc, &mut frames, folded, block, records) {
+    match take_over(alloc, &mut frames, folded) {
         Ok(taken) => Ok(BrickStore {
             alloc,
             frames,

@@ -9,7 +9,7 @@ ghost use Rattle.brick_store.specs.Steps.{RecordHasMembers};
 ghost use Rattle.brick_store.specs.Openings.{TakesOrEnds};
 
 use crate::block_tables::BlockTable;
-use crate::old_readings::take_old_frame;
+use crate::old_readings::{Sizes, take_old_frame};
 use brick_state::{Index, Record};
 use fab_base::NoMem;
 use frame_store::TakesFrames;
@@ -96,13 +96,12 @@ fn take_any(index: &mut Index, kind: u8, body: &[u8]) -> Result<bool, NoMem>
 #[derive(Drop)]
 pub(crate) struct Folded {
     alloc: Global,
-    block: u16,
-    records: u32,
+    pub(crate) sizes: Sizes,
     old: bool,
     pub(crate) index: Index,
     pub(crate) blocks: BlockTable,
     pub(crate) whole: bool,
-    ghost few: { records < 4294967295 },
+    ghost few: { sizes.records < 4294967295 },
 }
 
 impl Folded {
@@ -115,14 +114,13 @@ impl Folded {
     /// No list was begun yet, of blocks of this size and so many records at most.
     pub(crate) fn new(alloc: Global, block: u16, records: u32) -> Result<Folded, NoMem>
         requires { records ≤ 1048576 }
-        ensures sizes { IfOk result (λ made. (made.block ≡ block) × (made.records ≡ records)) }
+        ensures sizes { IfOk result (λ made. (made.sizes.block ≡ block) × (made.sizes.records ≡ records)) }
     {
         let index = Index::new(alloc, records, records)?;
         let blocks = BlockTable::with_room(alloc, 0)?;
         Ok(Folded {
             alloc,
-            block,
-            records,
+            sizes: Sizes { block, records },
             old: false,
             index,
             blocks,
@@ -133,16 +131,16 @@ impl Folded {
     // Takes a frame more of a list of the old format.
     fn take_old(&mut self, kind: u8, body: &[u8]) -> Result<(), NoMem>
         requires whole { self.old.whole ≡ true }
-        ensures sizes { (self.new.block ≡ self.old.block) × (self.new.records ≡ self.old.records) × (self.new.old ≡ self.old.old) }
-        ensures makes { OnOk result ((frames : List Frame) → Makes self.old.block self.old.records true frames (limits_of self.old.index)
-            (state_of self.old.index) self.old.blocks true → Makes self.old.block self.old.records true (frames ++ frame_of kind body.now ∷ [])
+        ensures sizes { (self.new.sizes ≡ self.old.sizes) × (self.new.old ≡ self.old.old) }
+        ensures makes { OnOk result ((frames : List Frame) → Makes self.old.sizes.block self.old.sizes.records true frames (limits_of self.old.index)
+            (state_of self.old.index) self.old.blocks true → Makes self.old.sizes.block self.old.sizes.records true (frames ++ frame_of kind body.now ∷ [])
             (limits_of self.new.index) (state_of self.new.index) self.new.blocks self.new.whole) }
     {
         self.whole = take_old_frame(
             self.alloc,
             &mut self.index,
             &mut self.blocks,
-            self.block,
+            self.sizes,
             kind,
             body,
         )?;
@@ -155,14 +153,15 @@ impl TakesFrames for Folded {
     ghost use Rattle.brick_state.specs.Indexes.{state_of, limits_of};
     ghost use Rattle.brick_store.specs.Openings.{Makes};
 
-    ghost makes = { λ first old frames now. (now.old ≡ old) × (now.block ≡ first.block) × (now.records ≡ first.records)
-        × Makes first.block first.records old frames (limits_of now.index) (state_of now.index) now.blocks now.whole };
+    ghost makes = { λ first old frames now. (now.old ≡ old) × (now.sizes ≡ first.sizes)
+        × Makes first.sizes.block first.sizes.records old frames (limits_of now.index) (state_of now.index) now.blocks now.whole };
 
     // What was taken before is forgotten. A version that takes the place of all below it in a full store has a number of its own before
     // they are dropped: so an old list has one number more than live records.
     fn begin(&mut self, old: bool) -> Result<(), NoMem> {
-        let slots = if old { self.records + 1 } else { self.records };
-        self.index = Index::new(self.alloc, self.records, slots)?;
+        let records = self.sizes.records;
+        let slots = if old { records + 1 } else { records };
+        self.index = Index::new(self.alloc, records, slots)?;
         self.blocks = BlockTable::with_room(self.alloc, 0)?;
         self.old = old;
         self.whole = true;

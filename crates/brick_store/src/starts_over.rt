@@ -38,38 +38,36 @@ pub(crate) fn take_over<D: Disk>(
     alloc: Global,
     frames: &mut FrameStore<D>,
     folded: Folded,
-    block: u16,
-    records: u32,
 ) -> Result<TakenUp, OpenFault>
     requires shape { IsShape frames.old.shape }
     requires old { is_old frames.old.shape ≡ true }
-    requires block { block ≡ frames.old.shape.block }
-    requires records { records ≡ frames.old.shape.records }
-    requires fold { Makes block records true frames.old.frames (indexes.limits_of folded.index) (state_of folded.index) folded.blocks folded.whole }
+    requires block { folded.sizes.block ≡ frames.old.shape.block }
+    requires records { folded.sizes.records ≡ frames.old.shape.records }
+    requires fold { Makes frames.old.shape.block frames.old.shape.records true frames.old.frames (indexes.limits_of folded.index) (state_of folded.index) folded.blocks folded.whole }
     requires runs { frames.old.halted ≡ false }
     requires read { IsRead D.tells D.seen frames.old }
     ensures standing { IfOk result (λ made. Standing D.tells D.seen D.may_leave frames.new made.index made.blocks made.zero) }
-    ensures state { let st = old_state_in block records frames.old.frames in
-        IfOk result (λ made. resolved (cached block made.blocks) (state_of made.index) ≡ booted (st.boot + 1) st) }
-    ensures listed { IsOk result → IsAppended false (live (old_state_in block records frames.old.frames)) (size_of frames.old.frames) boot_size
+    ensures state { let st = old_state_in frames.old.shape.block frames.old.shape.records frames.old.frames in
+        IfOk result (λ made. resolved (cached frames.old.shape.block made.blocks) (state_of made.index) ≡ booted (st.boot + 1) st) }
+    ensures listed { IsOk result → IsAppended false (live (old_state_in frames.old.shape.block frames.old.shape.records frames.old.frames)) (size_of frames.old.frames) boot_size
         (size_of frames.new.frames) }
     ensures still_runs { IsOk result → frames.new.halted ≡ false }
     ensures shape { IsOk result → frames.new.shape ≡ formed Form.Moved frames.old.shape }
-    ensures starts { StartsOver D.Disk (old_state_in block records frames.old.frames) frames.old frames.new.disk (opening_end result) }
-    ensures boots { IsOk result → (old_state_in block records frames.old.frames).boot < 2 ^ 32 - 1 }
-    ensures worn { result ≡ Err OpenFault.Worn → (old_state_in block records frames.old.frames).boot ≡ 2 ^ 32 - 1 }
+    ensures starts { StartsOver D.Disk (old_state_in frames.old.shape.block frames.old.shape.records frames.old.frames) frames.old frames.new.disk (opening_end result) }
+    ensures boots { IsOk result → (old_state_in frames.old.shape.block frames.old.shape.records frames.old.frames).boot < 2 ^ 32 - 1 }
+    ensures worn { result ≡ Err OpenFault.Worn → (old_state_in frames.old.shape.block frames.old.shape.records frames.old.frames).boot ≡ 2 ^ 32 - 1 }
     ensures a_store { result ≢ Err OpenFault.NotAStore }
 {
     if folded.index.boot() == u32::MAX {
         return Err(OpenFault::Worn);
     }
-    let zero = Bytes::from_vec(vec![in alloc; 0u8; block as usize]?);
+    let zero = Bytes::from_vec(vec![in alloc; 0u8; folded.sizes.block as usize]?);
     let Brought {
         mut index,
         blocks,
         bytes,
         frames: listed,
-    } = bring_over(alloc, folded, records)?;
+    } = bring_over(alloc, folded)?;
     match start_over(alloc, frames, &mut index, &bytes, listed) {
         Ok(()) => Ok(TakenUp {
             index,
