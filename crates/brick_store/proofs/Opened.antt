@@ -53,7 +53,7 @@ kept_at shape content image kept slot (inr has) = ap (λ (bytes : List ℕ). con
     (kept.same slot has tt)
 
 -- An image of the same slots and of frames of this state stands for what is read of the content.
-kept_stands : (shape : Shape) (st : StateOf Entry) (content image : List ℕ) → is_old shape ≡ false → AllSlots (IsInside shape (length content)) st
+pub kept_stands : (shape : Shape) (st : StateOf Entry) (content image : List ℕ) → is_old shape ≡ false → AllSlots (IsInside shape (length content)) st
     → IsKeptIn shape st content image → StandsFor (formed New shape) (resolved (block_at shape content) st) image
 kept_stands shape st content image slotted inside kept = record {
   form = shape.form;
@@ -68,7 +68,7 @@ kept_stands shape st content image slotted inside kept = record {
 }
 
 -- a state read with its blocks, counted
-counted_seen : (block : ℕ → List ℕ) (st : StateOf Entry) → resolved block (booted (st.boot + 1) st) ≡ booted ((resolved block st).boot + 1)
+pub counted_seen : (block : ℕ → List ℕ) (st : StateOf Entry) → resolved block (booted (st.boot + 1) st) ≡ booted ((resolved block st).boot + 1)
     (resolved block st)
 counted_seen block st = booted-resolved block (st.boot + 1) st ∙ ap (λ (n : ℕ). booted (n + 1) (resolved block st)) (sym (boot-resolved block st))
 

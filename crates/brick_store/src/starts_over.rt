@@ -80,6 +80,7 @@ pub(crate) fn take_over<D: Disk>(
 
 // Syncs the disk, brings the store over with these blocks and frames, and counts the opening. Memory is refused before the disk is
 // touched.
+#[tactic(auto, unfolding(brick_state::specs::Folds::applied))]
 fn start_over<D: Disk>(
     alloc: Global,
     frames: &mut FrameStore<D>,
@@ -89,6 +90,7 @@ fn start_over<D: Disk>(
 ) -> Result<(), StoreFault>
     requires shape { IsShape frames.old.shape }
     requires old { is_old frames.old.shape ≡ true }
+    requires limits { indexes.limits_of index.old ≡ limits_of frames.old.shape }
     requires runs { frames.old.halted ≡ false }
     requires read { IsRead D.tells D.seen frames.old }
     requires blocks { AreBlocks frames.old.shape (length listed.items) blocks.now }
@@ -99,6 +101,7 @@ fn start_over<D: Disk>(
         ≡ old_state_in frames.old.shape.block frames.old.shape.records frames.old.frames }
     requires boots { (state_of index.old).boot < 2 ^ 32 - 1 }
     ensures made { OnOk result (state_of index.new ≡ booted ((state_of index.old).boot + 1) (state_of index.old)) }
+    ensures limits { indexes.limits_of index.new ≡ indexes.limits_of index.old }
     ensures leads { OnOk result (Leads (limits_of frames.old.shape) frames.new.frames empty (state_of index.new)) }
     ensures shape { OnOk result (frames.new.shape ≡ formed Form.Moved frames.old.shape) }
     ensures runs { OnOk result (frames.new.halted ≡ false) }
