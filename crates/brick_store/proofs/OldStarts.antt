@@ -1,6 +1,6 @@
 -- An old store that is brought over and counted.
 use Rattle.std.proofs.Common.{◌≡◌, ◌≢◌, ◌⊎◌, inl, inr, ⊎_elim, ℕ, ◌+◌, ◌*◌, ◌<◌, ◌≤◌, Bool, true, false, if◌then◌else◌, cond, eqb, None, List, length, Result, refl, sym, ap, subst, ◌∙◌, arith}
-use Rattle.std.specs.Prelude.{replicate, min, max, IsOk}
+use Rattle.std.specs.Prelude.{replicate, take, drop, min, max, IsOk}
 use Rattle.std.proofs.Math.Nat.{mul-le-mul_right}
 use Rattle.std.proofs.lemmas.Bool.{cases_lt}
 use Rattle.fab_disk.specs.declared.disk.Disk as on_disk
@@ -15,7 +15,7 @@ use Rattle.frame_store.specs.declared.frames.Frame.{Frame}
 use Rattle.frame_store.specs.declared.shapes.Form.TheVariants.{New, Moved}
 use Rattle.frame_store.specs.declared.shapes.Shape.{Shape}
 use Rattle.frame_store.specs.Ends as lists
-use Rattle.frame_store.specs.Images.{part, AreBlocks, IsBroughtOver, KeepsSlots, OpensAs}
+use Rattle.frame_store.specs.Images.{part, block_in, AreBlocks, IsBroughtOver, KeepsSlots, OpensAs}
 use Rattle.frame_store.specs.Layouts.{IsShape, formed, is_old, slot_at}
 use Rattle.frame_store.specs.Listed.{size_of}
 use Rattle.frame_store.specs.Stores.{Held, HasRoom, HasRoomAhead, Shows}
@@ -26,7 +26,7 @@ use Rattle.brick_state.specs.Entries.{Entry}
 use Rattle.brick_state.specs.States.{StateOf, booted, empty}
 use Rattle.brick_store.specs.Blocks.{resolved}
 use Rattle.brick_store.specs.Bricks.{fault_of}
-use Rattle.brick_store.specs.BringingOver.{IsAmong, cut_block}
+use Rattle.brick_store.specs.BringingOver.{IsAmong, LiesIn, cut_block}
 use Rattle.brick_store.specs.Ends.{end_of}
 use Rattle.brick_store.specs.Images.{block_at, limits_of, StandsFor, StandsForEither}
 use Rattle.brick_store.specs.OldLists.{old_state_in}
@@ -109,6 +109,38 @@ moved_stands shape blocks content image count st limits long few stand among slo
     (slots_imply (IsAmong shape.block (length blocks)) (IsInside over (length content))
     (λ slot. among_inside shape blocks content count slot limits long few stand) st among)
     (kept_leads over st content content image (slots_same over None content content refl) slots leads))
+
+-- and each block lies in its slot
+pub lies : (shape : Shape) (blocks content image : List ℕ) (count slot : ℕ) → IsShape shape → length blocks ≡ count * shape.block → count ≤ shape.records
+    → part (slot_at (formed Moved shape) 0) (length blocks) content ≡ blocks → KeepsSlots (formed Moved shape) None content image
+    → IsAmong shape.block (length blocks) slot → LiesIn (formed Moved shape) blocks image slot
+lies shape blocks content image count slot limits long few stand kept among =
+    by (eqb slot 4294967295) refl (among_inside shape blocks content count slot limits long few stand among)
+  where
+    over : Shape
+    over = formed Moved shape
+
+    zeros : List ℕ
+    zeros = replicate shape.block 0
+
+    cut : List ℕ
+    cut = take shape.block (drop (slot * shape.block) blocks)
+
+    same : cond (eqb slot 4294967295) zeros (block_in over slot content) ≡ cond (eqb slot 4294967295) zeros cut
+    same = over_block shape blocks content slot limits stand among
+
+    differ : {A : Type 0} → true ≡ false → A
+    differ e = cc
+
+    by : (b : Bool) → eqb slot 4294967295 ≡ b → IsInside over (length content) slot → LiesIn over blocks image slot
+    by true is inside = inl is
+    by false is (inl zero_block) = differ (sym zero_block ∙ is)
+    by false is (inr has) =
+        let there : block_in over slot content ≡ cut = subst (λ (e : Bool). cond e zeros (block_in over slot content) ≡ cond e zeros cut) is same in
+        inr (
+          record { is_slot = has.is_slot; inside = omega (arith, has.inside, kept.size) },
+          kept.same slot has tt ∙ there ∙ ap (λ (e : Bool). cond e zeros cut) (sym is),
+        )
 
 -- ---- room
 

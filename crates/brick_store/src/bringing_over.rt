@@ -1,16 +1,13 @@
 //! What an old store is brought over to: its blocks in the slots from 0 on, and the frames that name them.
 
-ghost use Rattle.std.specs.Prelude.{◌≡◌, ◌≤◌, Some, IfOk, map};
+ghost use Rattle.std.specs.Prelude.{◌≡◌, Some, IfOk, map};
 ghost use Rattle.std.specs.List.{AllByRecursion};
 ghost use Rattle.brick_state.specs.Indexes.{state_of, limits_of};
 ghost use Rattle.brick_state.specs.KeptStates.{IsKeptState};
-ghost use Rattle.frame_store.specs.Listed.{size_of};
-ghost use Rattle.brick_state.specs.States.{live};
 ghost use Rattle.brick_store.specs.Blocks.{cached, resolved};
-ghost use Rattle.brick_store.specs.BringingOver.{brought, records_over, blocks_over};
-ghost use Rattle.brick_store.specs.Images.{record_of, limits_for};
+ghost use Rattle.brick_store.specs.BringingOver.{brought, records_over, blocks_over, IsBroughtTo};
+ghost use Rattle.brick_store.specs.Images.{record_of};
 ghost use Rattle.brick_store.specs.Openings.{memory_limits};
-ghost use Rattle.brick_store.specs.Sizes.{most_listed};
 ghost use Rattle.brick_store.specs.Standing.{AllSlots, GroupHasMembers, IsCached};
 
 use crate::block_tables::BlockTable;
@@ -69,14 +66,13 @@ pub(crate) fn bring_over(
     requires kept { IsKeptState (memory_limits folded.sizes.records) (state_of folded.index) }
     requires held { AllSlots (IsCached folded.sizes.block folded.blocks) (state_of folded.index) }
     requires members { AllByRecursion GroupHasMembers (state_of folded.index).groups }
-    ensures limits { IfOk result (λ made. limits_of made.index ≡ limits_for folded.sizes.records) }
     ensures state { IfOk result (λ made. state_of made.index ≡ brought (state_of folded.index)) }
     // The frames are those that bring back this state, and the blocks lie one after the other, as they do in memory.
     ensures frames { IfOk result (λ made. map record_of made.frames.items ≡ map Some (records_over (brought (state_of folded.index)))) }
-    ensures size { IfOk result (λ made. size_of made.frames.items ≤ most_listed (live (state_of folded.index))) }
     ensures bytes { IfOk result (λ made. made.bytes.items ≡ blocks_over (cached folded.sizes.block folded.blocks) (state_of folded.index)) }
-    ensures blocks { IfOk result (λ made. resolved (cached folded.sizes.block made.blocks) (state_of made.index)
-        ≡ resolved (cached folded.sizes.block folded.blocks) (state_of folded.index)) }
+    // And the state with its blocks is the one that the old list made.
+    ensures over { IfOk result (λ made. IsBroughtTo folded.sizes.block folded.sizes.records (resolved (cached folded.sizes.block folded.blocks) (state_of folded.index))
+        (limits_of made.index) (state_of made.index) made.blocks made.bytes.items made.frames.items) }
 {
     let Folded {
         index,

@@ -9,13 +9,13 @@ ghost use Rattle.brick_state.specs.States.{booted, empty, live};
 ghost use Rattle.brick_state.specs.Indexes.{state_of};
 ghost use Rattle.brick_state.specs.Indexes as indexes;
 ghost use Rattle.brick_store.specs.Blocks.{cached, resolved};
-ghost use Rattle.brick_store.specs.BringingOver.{cut_block, IsAmong};
+ghost use Rattle.brick_store.specs.BringingOver.{cut_block, IsAmong, LiesIn};
 ghost use Rattle.brick_store.specs.Ends.{end_of};
 ghost use Rattle.brick_store.specs.Images.{limits_of};
 ghost use Rattle.brick_store.specs.Lengths.{IsAppended};
 ghost use Rattle.brick_store.specs.OldLists.{old_state_in};
 ghost use Rattle.brick_store.specs.Openings.{Makes, StartsOver, opening_end};
-ghost use Rattle.brick_store.specs.Sizes.{boot_size};
+ghost use Rattle.brick_store.specs.Sizes.{boot_size, framed};
 ghost use Rattle.brick_store.specs.Standing.{AllSlots, Leads, Standing};
 ghost use Rattle.brick_store.specs.Steps.{IsSettled};
 
@@ -103,6 +103,8 @@ fn start_over<D: Disk>(
     ensures made { OnOk result (state_of index.new ≡ booted ((state_of index.old).boot + 1) (state_of index.old)) }
     ensures limits { indexes.limits_of index.new ≡ indexes.limits_of index.old }
     ensures leads { OnOk result (Leads (limits_of frames.old.shape) frames.new.frames empty (state_of index.new)) }
+    ensures listed { OnOk result (size_of frames.new.frames ≡ size_of listed.items + framed boot_size) }
+    ensures lie { D.tells → OnOk result (AllSlots (LiesIn (formed Form.Moved frames.old.shape) blocks.now (D.seen frames.new.disk)) (state_of index.old)) }
     ensures shape { OnOk result (frames.new.shape ≡ formed Form.Moved frames.old.shape) }
     ensures runs { OnOk result (frames.new.halted ≡ false) }
     ensures settled { D.tells → OnOk result (IsSettled D.Disk frames.new) }

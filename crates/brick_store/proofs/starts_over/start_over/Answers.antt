@@ -1,5 +1,5 @@
 -- The store is brought over, and its opening is counted.
-use Rattle.std.proofs.Common.{◌≡◌, ℕ, ◌+◌, ◌≤◌, Bool, true, false, List, None, Ok, Err, OnOk, refl, sym, ap, subst, ◌∙◌, length, arith, rules}
+use Rattle.std.proofs.Common.{◌≡◌, ℕ, ◌+◌, ◌≤◌, Bool, true, false, List, None, Result, Ok, Err, OnOk, refl, sym, ap, subst, ◌∙◌, length, arith, rules}
 use Rattle.std.specs.Prelude.{IsOk}
 use Rattle.std.proofs.lemmas.Result.{err_from_is_err_and}
 use Rattle.fab_disk.specs.Changing.{Change, End, Cut, NotBegun, Whole, Stands}
@@ -23,19 +23,21 @@ use Rattle.brick_state.specs.Indexes.{state_of}
 use Rattle.brick_state.specs.Indexes as indexes
 use Rattle.brick_store.specs.Blocks.{resolved}
 use Rattle.brick_store.specs.Bricks.{fault_of}
-use Rattle.brick_store.specs.BringingOver.{IsAmong, cut_block}
+use Rattle.brick_store.specs.BringingOver.{IsAmong, LiesIn, cut_block}
 use Rattle.brick_store.specs.Ends.{end_of}
 use Rattle.brick_store.specs.Images.{limits_of, StandsFor}
 use Rattle.brick_store.specs.OldLists.{old_state_in}
+use Rattle.brick_store.specs.Sizes.{framed}
 use Rattle.brick_store.specs.Standing.{AllSlots, Leads}
 use Rattle.brick_store.specs.Steps.{IsUnchanged, IsChanged, CanChange, changed}
 use Rattle.brick_store.proofs.Counting.{disk_failed}
 use Rattle.brick_store.proofs.Opened.{counted_seen}
-use Rattle.brick_store.proofs.OldStarts.{after_over, ahead_old, bring_cut, count_over, moved_stands, refused_over, sync_over}
+use Rattle.brick_store.proofs.OldStarts.{after_over, ahead_old, bring_cut, count_over, lies, moved_stands, refused_over, sync_over}
 use Rattle.brick_store.proofs.OpeningLaws.{tried_ends}
 use Rattle.brick_store.proofs.Starting.{counted}
-use Rattle.brick_store.proofs.StateChanges.{cut_means, not_whole, settled_after, stands_before}
-use Rattle.brick_store.proofs.Stepping.{refused, room_less}
+use Rattle.brick_store.proofs.StateChanges.{cut_means, not_whole, settled_after, slots_after, stands_before}
+use Rattle.brick_store.proofs.Stepping.{refused, room_less, slots_same}
+use Rattle.brick_store.proofs.Resolving.{slots_imply}
 use Rattle.brick_store.proofs.starts_over.start_over.Goals as goal
 
 pub returns-in_err-frame-clause-starts : goal.returns-in_err-frame-clause-starts
@@ -158,6 +160,41 @@ returns-clause-made g c =
     counted (indexes.limits_of c.args.index.now) (c.boot.result + 1) st ∙ ap (λ (n : ℕ). booted (n + 1) st) c.boot.ensures in
     subst (λ (s : StateOf Entry). OnOk c.append_count.result (state_of c.append_count.new.index ≡ s)) is c.append_count.ensures.made
 
+pub returns-clause-listed : goal.returns-clause-listed
+returns-clause-listed g c =
+    let same : size_of c.bring_over.new.self.frames ≡ size_of c.args.listed.items = ap size_of c.in_ok-bring_over.ensures.ok.frames in
+    let body = c.in_ok-frame.ensures.length in
+    on_ok c.append_count.result
+    (subst (λ (n : ℕ). OnOk c.append_count.result (size_of c.append_count.new.frames.frames ≡ size_of c.bring_over.new.self.frames + framed n)) body
+    c.append_count.ensures.step.listed)
+    (subst (λ (n : ℕ). size_of c.bring_over.new.self.frames + framed 4 ≡ n + framed 4) same refl)
+  where
+    on_ok : {E : Type 0} {a b e : ℕ} (r : Result (Unit {0}) E) → OnOk r (a ≡ b) → b ≡ e → OnOk r (a ≡ e)
+    on_ok (Ok value) is then = is ∙ then
+    on_ok (Err fault) is then = tt
+
+pub returns-clause-lie : goal.returns-clause-lie
+returns-clause-lie g c = λ told.
+    let d = g.D.Disk in
+    let old = c.args.frames.now in
+    let blocks = c.args.blocks.now in
+    let st = state_of c.args.index.now in
+    let mid = c.bring_over.new.self in
+    let new = c.append_count.new.frames in
+    let call = c.in_ok-bring_over.ensures in
+    let shape : c.sync.new.self.shape ≡ old.shape = c.in_ok-sync.ensures.same.shape ∙ c.in_ok-reserve.ensures.same.shape in
+    let stand = subst (λ (s : Shape). IsBroughtOver s c.args.listed.items blocks (d.seen mid.disk)) shape (call.change.whole refl told).has in
+    let over : mid.shape ≡ formed Moved old.shape = call.ok.shape ∙ ap (formed Moved) shape in
+    let slots = slots_after d 4 _ _ (formed Moved old.shape) (d.seen mid.disk) mid new.disk c.append_count.result over
+    (slots_same (formed Moved old.shape) None (d.seen mid.disk) (d.seen mid.disk) refl) c.append_count.ensures.change told in
+    let are = c.requires.blocks in
+    each c.append_count.result slots (λ kept. slots_imply (IsAmong old.shape.block (length blocks)) (LiesIn (formed Moved old.shape) blocks (d.seen new.disk))
+    (λ slot. lies old.shape blocks (d.seen mid.disk) (d.seen new.disk) are.count slot c.requires.shape are.long are.slots stand.stand kept) st c.requires.slots)
+  where
+    each : {E P Q : Type 0} (r : Result (Unit {0}) E) → OnOk r P → (P → Q) → OnOk r Q
+    each (Ok value) is then = then is
+    each (Err fault) is then = tt
+
 pub returns-clause-settled : goal.returns-clause-settled
 returns-clause-settled g c =
     let count = c.append_count.ensures in
@@ -196,7 +233,7 @@ returns-clause-starts g c =
     let item = forms.Kept (Boot (c.boot.result + 1)) in
     let next : changed (indexes.limits_of c.args.index.now) item st ≡ booted (st.boot + 1) st =
     counted (indexes.limits_of c.args.index.now) (c.boot.result + 1) st ∙ ap (λ (n : ℕ). booted (n + 1) st) c.boot.ensures in
-    let counted = subst (λ (s : StateOf Entry). Change d 4 (IsUnchanged (formed Moved old.shape) None st (d.seen mid.disk))
+    let counting = subst (λ (s : StateOf Entry). Change d 4 (IsUnchanged (formed Moved old.shape) None st (d.seen mid.disk))
     (IsChanged (formed Moved old.shape) None s (d.seen mid.disk)) mid.disk new (end_of c.append_count.result)) next
     (subst (λ (s : Shape). Change d 4 (IsUnchanged s None st (d.seen mid.disk))
     (IsChanged s None (changed (indexes.limits_of c.args.index.now) item st) (d.seen mid.disk)) mid.disk new (end_of c.append_count.result)) over count.change) in
@@ -214,5 +251,5 @@ returns-clause-starts g c =
     (change.whole refl told).has.stand c.requires.slots at.slots at.opens) in
     let ends = tried_ends c.append_count.result count.step.only count.no_memory in
     count_over d g.met.D.Disk.only_now g.met.D.Disk.counts_now old c.requires.old c.reserve.new.self.disk _ made.still few held.disk _ _ refl synced.time
-    synced.crash synced.run synced.cause stands (IsBroughtOver old.shape listed blocks) after mid.disk new (end_of c.append_count.result) _ _ change counted
+    synced.crash synced.run synced.cause stands (IsBroughtOver old.shape listed blocks) after mid.disk new (end_of c.append_count.result) _ _ change counting
     so_far later here ends.0 ends.1
