@@ -27,6 +27,7 @@ pub mod CutOpenings
 pub mod OpeningLaws
 pub mod OldOpenings
 pub mod OldStarts
+pub mod OldTaken
 pub mod HeldLogs
 pub mod Counting
 pub mod KeptLogs

@@ -11,14 +11,16 @@ use Rattle.frame_store.specs.declared.shapes.Form.TheVariants.{Old, New, Moved}
 use Rattle.frame_store.specs.declared.shapes.Shape.{Shape}
 use Rattle.frame_store.specs.Images.{OpensAs}
 use Rattle.frame_store.specs.Layouts.{formed, is_old, is_old_form}
+use Rattle.frame_store.specs.Listed.{size_of}
 use Rattle.frame_store.specs.Stores.{Held, Shows}
-use Rattle.frame_store.proofs.Openings.{opens_in_one_form, untouched_both}
+use Rattle.frame_store.proofs.Openings.{opens_once, opens_in_one_form, untouched_both}
 use Rattle.version_log.specs.Versions.{Version}
-use Rattle.brick_state.specs.States.{StateOf, booted}
-use Rattle.brick_store.specs.Images.{state_by, IsFound, StandsFor, StandsForEither}
-use Rattle.brick_store.specs.Calls.{opening_calls}
+use Rattle.brick_state.specs.States.{StateOf, booted, empty}
+use Rattle.brick_store.specs.Images.{limits_of, state_by, IsFound, StandsFor, StandsForEither}
+use Rattle.brick_store.specs.Calls.{has_room_for, opening_calls}
+use Rattle.brick_store.specs.Lengths.{IsAppended}
 use Rattle.brick_store.specs.OldLists.{old_state_in}
-use Rattle.brick_store.specs.Openings.{IsAllowedOr, IsCounted, IsWornOut, Opens, StartsOver, StopsOpening, calls_on_opening}
+use Rattle.brick_store.specs.Openings.{IsAllowedOr, IsCounted, IsListedOnOpening, IsWornOut, Opens, StartsOver, StopsOpening, calls_on_opening, is_whole, opens_appendable}
 use Rattle.brick_store.proofs.CutOpenings.{read_first}
 use Rattle.brick_store.proofs.Opened.{finds}
 use Rattle.brick_store.proofs.Starting.{then_allowed}
@@ -57,6 +59,19 @@ module _ {D : Type 0} (seen : D → List ℕ) (held : Held D) (shows : Shows see
 
   pub over_worn : (content : List ℕ) → seen held.disk ≡ content → state.boot ≡ 4294967295 → IsWornOut (formed New held.shape) content
   over_worn content content_is worn = record { before = state; found = is_found content content_is; worn = worn }
+
+  -- its list was written anew, whatever it was
+  pub over_listed_on : (content : List ℕ) → seen held.disk ≡ content → (lives listed : ℕ) → IsAppended false lives (size_of held.frames) 4 listed
+      → IsListedOnOpening (formed New held.shape) content lives listed
+  over_listed_on content content_is lives listed is form frames closed there =
+      let opens : OpensAs held.shape held.frames held.closed content = subst (λ (x : List ℕ). OpensAs held.shape held.frames held.closed x) content_is shows.opens in
+      let form_is : held.shape.form ≡ form = opens_in_one_form held.shape held.shape.form form content held.frames frames held.closed closed opens there in
+      let once = opens_once held.shape content held.frames frames held.closed closed opens
+      (subst (λ (f : Form). OpensAs (formed f held.shape) frames closed content) (sym form_is) there) in
+      let whole = (is_whole (limits_of held.shape) frames empty && closed) && has_room_for held.shape (size_of frames) 4 in
+      subst (λ (f : Form). IsAppended (opens_appendable (formed f held.shape) frames closed) lives (size_of frames) 4 listed) form_is
+      (subst (λ (b : Bool). IsAppended (not b && whole) lives (size_of frames) 4 listed) (sym old)
+      (subst (λ (fs : List Frame). IsAppended false lives (size_of fs) 4 listed) once.0 is))
 
 -- an opening of an old store makes thirteen calls
 over_calls : (shape : Shape) (form : Form) (frames : List Frame) (closed : Bool) → is_old shape ≡ true → shape.form ≡ form

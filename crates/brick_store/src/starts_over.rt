@@ -62,12 +62,13 @@ pub(crate) fn take_over<D: Disk>(
         return Err(OpenFault::Worn);
     }
     let zero = Bytes::from_vec(vec![in alloc; 0u8; folded.sizes.block as usize]?);
+    let brought = bring_over(alloc, folded)?;
     let Brought {
         mut index,
         blocks,
         bytes,
         frames: listed,
-    } = bring_over(alloc, folded)?;
+    } = brought;
     match start_over(alloc, frames, &mut index, &bytes, listed) {
         Ok(()) => Ok(TakenUp {
             index,
