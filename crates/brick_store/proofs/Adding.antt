@@ -55,7 +55,7 @@ stripes_both : (P Q : ℕ → Type 0) (stripes : List (Place × StripeOf Entry))
 stripes_both P Q [] all also = tt
 stripes_both P Q (e ∷ stripes) all also = (entries_both P Q e.1.added all.0 also.0, stripes_both P Q stripes all.1 also.1)
 
-slots_both : (P Q : ℕ → Type 0) (st : StateOf Entry) → AllSlots P st → AllSlots Q st → AllSlots (λ slot. P slot × Q slot) st
+pub slots_both : (P Q : ℕ → Type 0) (st : StateOf Entry) → AllSlots P st → AllSlots Q st → AllSlots (λ slot. P slot × Q slot) st
 slots_both P Q st all also = stripes_both P Q st.stripes all also
 
 -- memory holds the same under a slot as other memory does

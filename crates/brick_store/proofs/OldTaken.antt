@@ -27,25 +27,9 @@ use Rattle.brick_store.specs.Lengths.{IsAppended}
 use Rattle.brick_store.specs.Sizes.{framed, most_listed}
 use Rattle.brick_store.specs.Standing.{AllSlots, GroupHasMembers, IsCached, IsStored, Leads, Standing}
 use Rattle.brick_store.specs.Steps.{IsSettled}
+use Rattle.brick_store.proofs.Adding.{slots_both}
 use Rattle.brick_store.proofs.Opened.{counted_seen}
 use Rattle.brick_store.proofs.Resolving.{resolved_same, slots_imply, live-resolved}
-
--- what holds of each slot twice
-both_slots : (P Q : ℕ → Type 0) (st : StateOf Entry) → AllSlots P st → AllSlots Q st → AllSlots (λ slot. P slot × Q slot) st
-both_slots P Q st first second = states st.stripes first second
-  where
-    entries : (es : List Entry) → AllByRecursion (λ (e : Entry). P e.block) es → AllByRecursion (λ (e : Entry). Q e.block) es
-        → AllByRecursion (λ (e : Entry). P e.block × Q e.block) es
-    unfolding AllByRecursion
-    entries [] a b = tt
-    entries (e ∷ es) a b = ((a.0, b.0), entries es a.1 b.1)
-
-    states : (xs : _) → AllByRecursion (λ e. AllByRecursion (λ (v : Entry). P v.block) e.1.added) xs
-        → AllByRecursion (λ e. AllByRecursion (λ (v : Entry). Q v.block) e.1.added) xs
-        → AllByRecursion (λ e. AllByRecursion (λ (v : Entry). P v.block × Q v.block) e.1.added) xs
-    unfolding AllByRecursion
-    states [] a b = tt
-    states (x ∷ xs) a b = (entries x.1.added a.0 b.0, states xs a.1 b.1)
 
 module _ (shape : Shape) (st : StateOf Version) (limits : Limits) (now : StateOf Entry) (blocks : SlotBlocks) (bytes : List ℕ) (frames : List Frame)
     (over : IsBroughtTo shape.block shape.records st limits now blocks bytes frames) where
@@ -112,7 +96,7 @@ module _ (shape : Shape) (st : StateOf Version) (limits : Limits) (now : StateOf
                 (subst (λ (x : StateOf Entry). AllSlots (IsStored (formed Moved shape) blocks (d.seen new.disk)) x) back
                 (slots_imply (λ slot. LiesIn (formed Moved shape) bytes (d.seen new.disk) slot × IsCut shape.block bytes blocks slot)
                 (IsStored (formed Moved shape) blocks (d.seen new.disk)) (λ slot at. stored (d.seen new.disk) slot at.0 at.1) now
-                (both_slots (LiesIn (formed Moved shape) bytes (d.seen new.disk)) (IsCut shape.block bytes blocks) now (lie told) over.cut)));
+                (slots_both (LiesIn (formed Moved shape) bytes (d.seen new.disk)) (IsCut shape.block bytes blocks) now (lie told) over.cut)));
           };
         }
       where

@@ -1,5 +1,5 @@
 -- What an opening reads.
-use Rattle.std.specs.Prelude.{Result, Ok, Err, ◌≡◌, ◌≢◌, ◌⊎◌, ℕ, ◌+◌, ◌-◌, ◌<◌, ◌≤◌, ◌^◌, ◌==◌, Bool, not, ◌&&◌, true, false, Option, Some, None, IsSome, option_and_then, List, [], ◌∷◌, ◌++◌, length, drop, IsOk}
+use Rattle.std.specs.Prelude.{Result, Ok, Err, ◌≡◌, ◌≢◌, ◌⊎◌, ℕ, ◌+◌, ◌-◌, ◌<◌, ◌≤◌, ◌^◌, ◌==◌, Bool, not, ◌&&◌, if◌then◌else◌, true, false, Option, Some, None, IsSome, option_and_then, List, [], ◌∷◌, ◌++◌, length, drop, IsOk}
 use Rattle.fab_base.specs.declared.faults.IoFault.{IoFault}
 use Rattle.fab_base.specs.declared.faults.NoMem.{NoMem}
 use Rattle.fab_base.specs.declared.faults.IoFault.TheVariants.{Failed}
@@ -79,6 +79,10 @@ pub record IsFold (limits : Limits) (frames : List Frame) (st : StateOf Entry) (
 -- a version that takes the place of all below it in a full store has one of its own before they are dropped.
 abbrev pub memory_limits : ℕ → Limits
 memory_limits records = record { records = records; slots = records + 1 }
+
+-- those of a list that is of the old format or not
+abbrev pub limits_by : Bool → ℕ → Limits
+limits_by old records = if old then memory_limits records else limits_for records
 
 pub record IsOldFold (size records : ℕ) (frames : List Frame) (st : StateOf Entry) (blocks : SlotBlocks) (whole : Bool) : Type 0 where
   pub found : old_state_in size records frames ≡ resolved (cached size blocks) st

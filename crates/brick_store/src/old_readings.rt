@@ -1,6 +1,6 @@
 //! Folding a list of the old format as it is read.
 
-ghost use Rattle.std.specs.Prelude.{◌≡◌, Some, None, IfSome, IfNone, IfOk, option_map, option_and_then, take, drop};
+ghost use Rattle.std.specs.Prelude.{◌≡◌, ◌<◌, Some, None, IfSome, IfNone, IfOk, option_map, option_and_then, take, drop};
 ghost use Rattle.brick_state.specs.Indexes.{state_of, limits_of};
 ghost use Rattle.frame_store.specs.Listed.{frame_of};
 ghost use Rattle.brick_store.specs.OldLists.{old_block_of, old_version_kind, place_size};
@@ -79,12 +79,11 @@ pub(crate) fn take_old_frame(
     kind: u8,
     body: &[u8],
 ) -> Result<bool, NoMem>
+    requires few { sizes.records < 4294967295 }
     requires limits { limits_of index.old ≡ memory_limits sizes.records }
-    requires kept { IsKeptState (memory_limits sizes.records) (state_of index.old) }
-    requires held { AllSlots (IsCached sizes.block blocks.old) (state_of index.old) }
     ensures limits { limits_of index.new ≡ limits_of index.old }
-    ensures takes { IfOk result (λ taken. TakesOld sizes.block sizes.records (frame_of kind body.now) (state_of index.old) (state_of index.new)
-        blocks.old blocks.new taken) }
+    ensures takes { IsKeptState (memory_limits sizes.records) (state_of index.old) → AllSlots (IsCached sizes.block blocks.old) (state_of index.old)
+        → IfOk result (λ taken. TakesOld sizes.block sizes.records (frame_of kind body.now) (state_of index.old) (state_of index.new) blocks.old blocks.new taken) }
 {
     match kind {
         5 => take_version(alloc, index, blocks, sizes, body),
@@ -101,16 +100,19 @@ fn take_version(
     sizes: Sizes,
     body: &[u8],
 ) -> Result<bool, NoMem>
+    requires few { sizes.records < 4294967295 }
     requires limits { limits_of index.old ≡ memory_limits sizes.records }
-    requires kept { IsKeptState (memory_limits sizes.records) (state_of index.old) }
-    requires held { AllSlots (IsCached sizes.block blocks.old) (state_of index.old) }
     ensures limits { limits_of index.new ≡ limits_of index.old }
-    ensures takes { IfOk result (λ taken. TakesOld sizes.block sizes.records (frame_of old_version_kind body.now) (state_of index.old) (state_of index.new)
-        blocks.old blocks.new taken) }
+    ensures takes { IsKeptState (memory_limits sizes.records) (state_of index.old) → AllSlots (IsCached sizes.block blocks.old) (state_of index.old)
+        → IfOk result (λ taken. TakesOld sizes.block sizes.records (frame_of old_version_kind body.now) (state_of index.old) (state_of index.new) blocks.old blocks.new taken) }
 {
     let Some(version) = version_of(sizes.block, body) else {
         return Ok(false);
     };
+    // (There never are more live records than there may be.)
+    if index.live() > sizes.records {
+        return Ok(false);
+    }
     let block = Bytes::from_slice(alloc, version.block)?;
     let slot = index.free_slot()?;
     let change = LogChange::Slot {

@@ -6,7 +6,7 @@ ghost use Rattle.frame_store.specs.Listed.{frame_of};
 ghost use Rattle.brick_state.specs.Indexes.{state_of, limits_of};
 ghost use Rattle.brick_store.specs.Images.{or_logged};
 ghost use Rattle.brick_store.specs.Steps.{RecordHasMembers};
-ghost use Rattle.brick_store.specs.Openings.{TakesOrEnds};
+ghost use Rattle.brick_store.specs.Openings.{TakesOrEnds, limits_by};
 
 use crate::block_tables::BlockTable;
 use crate::old_readings::{Sizes, take_old_frame};
@@ -91,6 +91,15 @@ fn take_any(index: &mut Index, kind: u8, body: &[u8]) -> Result<bool, NoMem>
     }
 }
 
+// How many numbers a list's blocks may have. A version that takes the place of all below it in a full store has a number of its own
+// before they are dropped: so an old list has one number more than live records.
+fn most_numbers(records: u32, old: bool) -> u32
+    requires { records < 4294967295 }
+    ensures { record { records = records; slots = result } ≡ limits_by old records }
+{
+    if old { records + 1 } else { records }
+}
+
 /// What a list of frames makes of a brick that keeps nothing, and whether each of them is a record that can be. Where one is not,
 /// the list ended before it. The versions of an old list have their blocks with them: these are held in memory under numbers.
 #[derive(Drop)]
@@ -102,6 +111,7 @@ pub(crate) struct Folded {
     pub(crate) blocks: BlockTable,
     pub(crate) whole: bool,
     ghost few: { sizes.records < 4294967295 },
+    ghost made: { limits_of index ≡ limits_by old sizes.records },
 }
 
 impl Folded {
@@ -131,6 +141,7 @@ impl Folded {
     // Takes a frame more of a list of the old format.
     fn take_old(&mut self, kind: u8, body: &[u8]) -> Result<(), NoMem>
         requires whole { self.old.whole ≡ true }
+        requires old { self.old.old ≡ true }
         ensures sizes { (self.new.sizes ≡ self.old.sizes) × (self.new.old ≡ self.old.old) }
         ensures makes { OnOk result ((frames : List Frame) → Makes self.old.sizes.block self.old.sizes.records true frames (limits_of self.old.index)
             (state_of self.old.index) self.old.blocks true → Makes self.old.sizes.block self.old.sizes.records true (frames ++ frame_of kind body.now ∷ [])
@@ -156,13 +167,13 @@ impl TakesFrames for Folded {
     ghost makes = { λ first old frames now. (now.old ≡ old) × (now.sizes ≡ first.sizes)
         × Makes first.sizes.block first.sizes.records old frames (limits_of now.index) (state_of now.index) now.blocks now.whole };
 
-    // What was taken before is forgotten. A version that takes the place of all below it in a full store has a number of its own before
-    // they are dropped: so an old list has one number more than live records.
+    // What was taken before is forgotten.
     fn begin(&mut self, old: bool) -> Result<(), NoMem> {
         let records = self.sizes.records;
-        let slots = if old { records + 1 } else { records };
-        self.index = Index::new(self.alloc, records, slots)?;
-        self.blocks = BlockTable::with_room(self.alloc, 0)?;
+        let index = Index::new(self.alloc, records, most_numbers(records, old))?;
+        let blocks = BlockTable::with_room(self.alloc, 0)?;
+        self.index = index;
+        self.blocks = blocks;
         self.old = old;
         self.whole = true;
         Ok(())

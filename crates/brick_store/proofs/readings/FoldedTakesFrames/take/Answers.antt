@@ -1,5 +1,5 @@
 -- One frame more is folded, up to the first that can't be.
-use Rattle.std.proofs.Common.{◌≡◌, ◌∙◌, ◌++◌, ◌∷◌, [], Bool, Ok, rules, true, false, refl, sym, ap, subst}
+use Rattle.std.proofs.Common.{◌≡◌, ◌∙◌, ◌++◌, ◌∷◌, [], Bool, Result, Ok, Err, OnOk, rules, true, false, refl, sym, ap, subst}
 use Rattle.frame_store.specs.declared.frames.Frame.{Frame}
 use Rattle.frame_store.specs.Listed.{frame_of}
 use Rattle.brick_state.specs.Entries.{Entry}
@@ -7,6 +7,7 @@ use Rattle.brick_state.specs.Folds.{Limits}
 use Rattle.brick_state.specs.Indexes.{state_of, limits_of}
 use Rattle.brick_state.specs.States.{StateOf}
 use Rattle.brick_store.specs.BlockTables.{SlotBlocks}
+use Rattle.brick_store.specs.declared.old_readings.Sizes.{Sizes}
 use Rattle.brick_store.specs.Images.{limits_for}
 use Rattle.brick_store.specs.Openings.{EndsBefore, IsTaken, Makes}
 use Rattle.brick_store.proofs.OldReading.{makes_past}
@@ -22,6 +23,29 @@ returns-then-not-self c = λ first old frames so_far.
       makes_past old first.sizes.block first.sizes.records frames (frame_of c.args.kind c.args.body.now) (limits_of self.index) (state_of self.index)
           self.blocks self.whole ended so_far.2,
     )
+
+-- a frame of the old format
+pub returns-then-self : goal.returns-then-self
+returns-then-self c = if_ok c.take_old.result c.take_old.ensures.makes (λ makes first old frames so_far.
+    let self = c.args.self.now in
+    let new = c.take_old.new.self in
+    let frame = frame_of c.args.kind c.args.body.now in
+    let whole : self.whole ≡ true = search rules in
+    let was : self.old ≡ true = search rules in
+    let is : true ≡ old = sym was ∙ so_far.0 in
+    let here = subst (λ (w : Bool). Makes self.sizes.block self.sizes.records true frames (limits_of self.index) (state_of self.index) self.blocks w) whole
+    (subst (λ (b : Bool). Makes self.sizes.block self.sizes.records b frames (limits_of self.index) (state_of self.index) self.blocks self.whole) (sym is)
+    (subst (λ (s : Sizes). Makes s.block s.records old frames (limits_of self.index) (state_of self.index) self.blocks self.whole) (sym so_far.1) so_far.2)) in (
+      c.take_old.ensures.sizes.1 ∙ so_far.0,
+      c.take_old.ensures.sizes.0 ∙ so_far.1,
+      subst (λ (s : Sizes). Makes s.block s.records old (frames ++ frame ∷ []) (limits_of new.index) (state_of new.index) new.blocks new.whole) so_far.1
+          (subst (λ (b : Bool). Makes self.sizes.block self.sizes.records b (frames ++ frame ∷ []) (limits_of new.index) (state_of new.index) new.blocks new.whole)
+          is (makes frames here)),
+    ))
+  where
+    if_ok : {E P Q : Type 0} (r : Result (Unit {0}) E) → OnOk r P → (P → Q) → OnOk r Q
+    if_ok (Ok value) here then = then here
+    if_ok (Err fault) here then = tt
 
 -- a frame of the new format
 pub returns : goal.returns
