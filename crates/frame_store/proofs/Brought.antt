@@ -93,7 +93,7 @@ module _ {D : Type 0} (d : on_disk.Ghosts D) (only_now : (disk : D) (image : Lis
     ready : Ready d half number other_shut used mid held
     ready = record { counted = counted; invariant = invariant; runs = runs; rest = rest }
 
-    to : Shape
+    abbrev to : Shape
     to = formed Moved held.shape
 
     old_held : is_old held.shape ≡ true
@@ -105,7 +105,7 @@ module _ {D : Type 0} (d : on_disk.Ghosts D) (only_now : (disk : D) (image : Lis
     few : length blocks ≤ held.shape.records * held.shape.block
     few = subst (λ (h : Held D). length blocks ≤ h.shape.records * h.shape.block) (sym view) (few_bytes s.shape (length fs) blocks are)
 
-    content : List ℕ
+    abbrev content : List ℕ
     content = d.seen held.disk
 
     root : d.tells → Rooted held.shape half number other_shut held.frames content

@@ -19,8 +19,8 @@ write-requires-clause-room g c =
     g.met.D.Disk.room_for_less c.args.disk.now 4 (n + (k + m)) c.args.end 1 n (c.args.first.at + n) (omega arith) (omega arith)
     (omega (arith, c.requires.first)) c.requires.room
 
-pub write-2-requires-clause-room : goal.write-2-requires-clause-room
-write-2-requires-clause-room g c =
+pub write-requires-2-clause-room : goal.write-requires-2-clause-room
+write-requires-2-clause-room g c =
     let n = length c.args.first.bytes.now in
     let k = length c.args.second.bytes.now in
     let m = length c.args.third.bytes.now in
@@ -29,8 +29,8 @@ write-2-requires-clause-room g c =
     g.met.D.Disk.room_for_less c.write.new.disk 3 (k + m) c.args.end 1 k (c.args.second.at + k) (omega arith) (omega arith)
     (omega (arith, c.requires.second)) (c.in_ok-write.ensures.left 3 (k + m) c.args.end c.requires.first had)
 
-pub write-3-requires-clause-room : goal.write-3-requires-clause-room
-write-3-requires-clause-room g c =
+pub write-requires-3-clause-room : goal.write-requires-3-clause-room
+write-requires-3-clause-room g c =
     let n = length c.args.first.bytes.now in
     let k = length c.args.second.bytes.now in
     let m = length c.args.third.bytes.now in

@@ -181,7 +181,7 @@ bring_gated-requires-clause-room g c =
     let within = brought_within _ c.args.self.now x.half fs c.args.blocks.now c.self.view_is c.requires.old c.requires.fits c.requires.blocks in
     let listed : size_of c.deref.result.now ≡ size_of fs = ap size_of c.deref.ensures.value in
     let n = length c.args.blocks.now in
-    g.met.D.Disk.room_for_less c.stage_list.new.disk 8 (c.len.result + (size_of c.deref.result.now + 34)) c.end-end.result
+    g.met.D.Disk.room_for_less c.stage_list.new.disk 8 (n + (size_of c.deref.result.now + 34)) c.end-end.result
     8 (length c.closing-shut.result.now + (n + (length c.deref-2.result.now + length c.header_rest-rest.result) + 1)) c.end-end.result (omega arith)
     (omega (
       arith,
