@@ -88,7 +88,7 @@ same_settled blocks now slot st st_now (Err e) added others same unnamed =
     subst (λ (s : StateOf Entry). AllSlots (SameUnder blocks now) s) (sym same)
     (slots_imply (λ other. other ≢ slot) (SameUnder blocks now) others st unnamed)
 
-cached_same : (size : ℕ) (blocks now : SlotBlocks) (slot : ℕ) → SameUnder blocks now slot → cached size now slot ≡ cached size blocks slot
+pub cached_same : (size : ℕ) (blocks now : SlotBlocks) (slot : ℕ) → SameUnder blocks now slot → cached size now slot ≡ cached size blocks slot
 cached_same size blocks now slot same = ap (λ (o : Option (List ℕ)). cond (eqb slot 4294967295) (replicate size 0) (unwrap_or o [])) same
 
 -- the block in a slot that is held

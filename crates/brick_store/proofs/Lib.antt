@@ -28,6 +28,7 @@ pub mod OpeningLaws
 pub mod OldOpenings
 pub mod OldStarts
 pub mod OldTaken
+pub mod OldTakes
 pub mod HeldLogs
 pub mod Counting
 pub mod KeptLogs

@@ -59,10 +59,7 @@ impl Slots {
 }
 
 /// What the state that an old list made is brought over to.
-pub(crate) fn bring_over(
-    alloc: Global,
-    folded: Folded,
-) -> Result<Brought, NoMem>
+pub(crate) fn bring_over(alloc: Global, folded: Folded) -> Result<Brought, NoMem>
     requires kept { IsKeptState (memory_limits folded.sizes.records) (state_of folded.index) }
     requires held { AllSlots (IsCached folded.sizes.block folded.blocks) (state_of folded.index) }
     requires members { AllByRecursion GroupHasMembers (state_of folded.index).groups }
@@ -120,7 +117,11 @@ impl Brought {
         held: &mut BlockTable,
         logged: Logged,
     ) -> Result<Logged, NoMem> {
-        let LogChange::Slot { bottom, slot: number } = logged.change else {
+        let LogChange::Slot {
+            bottom,
+            slot: number,
+        } = logged.change
+        else {
             return Ok(logged);
         };
         let (slot, is_new) = slots.of(number);

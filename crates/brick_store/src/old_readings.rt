@@ -9,6 +9,7 @@ ghost use Rattle.brick_store.specs.Openings.{TakesOld, memory_limits};
 ghost use Rattle.brick_store.specs.Standing.{AllSlots, IsCached};
 ghost use Rattle.stamp_store.specs.LogSpelling.{logged_of};
 
+use crate::additions::hold_new;
 use crate::block_tables::BlockTable;
 use crate::readings::take_frame;
 use brick_state::Index;
@@ -70,7 +71,7 @@ fn version_of(size: u16, body: &[u8]) -> Option<OldVersion<'_>>
 }
 
 /// Takes a frame more of a list of the old format. False where it is no record, or one that can't be: then nothing is changed. A
-/// version's block is held under the least number that no version has. What was held there was the block of a version that was dropped.
+/// version's block is held under the least number that no version has.
 pub(crate) fn take_old_frame(
     alloc: Global,
     index: &mut Index,
@@ -114,7 +115,10 @@ fn take_version(
         return Ok(false);
     }
     let block = Bytes::from_slice(alloc, version.block)?;
-    let slot = index.free_slot()?;
+    let slot = match hold_new(index, blocks, block) {
+        Ok(slot) => slot,
+        Err(_) => return Err(NoMem),
+    };
     let change = LogChange::Slot {
         bottom: version.bottom,
         slot,
@@ -123,9 +127,5 @@ fn take_version(
         change,
         ..version.place
     };
-    if !index.apply_logged(&logged)? {
-        return Ok(false);
-    }
-    blocks.hold(slot, block)?;
-    Ok(true)
+    index.apply_logged(&logged)
 }

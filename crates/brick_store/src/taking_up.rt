@@ -77,7 +77,9 @@ pub(crate) fn take_up<D: Disk>(
     let zero = Bytes::from_vec(vec![in alloc; 0u8; block as usize]?);
     let blocks = load(alloc, frames, &folded, block)?;
     let Folded {
-        mut index, whole, ..
+        mut index,
+        whole,
+        ..
     } = folded;
     match start(alloc, frames, &mut index, whole) {
         Ok(()) => Ok(TakenUp {
