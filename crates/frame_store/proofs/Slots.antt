@@ -1,6 +1,6 @@
 -- Slots, where they lie and what writes leave of them.
 use Rattle.std.proofs.Common.{◌≡◌, ◌≢◌, inl, inr, ℕ, ◌+◌, ◌*◌, ◌<◌, ◌≤◌, true, false, List, Option, Some, None, refl, ◌∙◌, arith}
-use Rattle.std.proofs.Math.Nat.{mul-le-mul_right}
+use Rattle.std.proofs.Math.Nat.{mul-le-mul_left, mul-le-mul_right}
 use Rattle.std.proofs.lemmas.Bool.{cases_lt}
 use Rattle.fab_disk.specs.Disk.{Torn}
 use Rattle.frame_store.specs.declared.shapes.Shape.{Shape}
@@ -8,7 +8,7 @@ use Rattle.frame_store.specs.declared.shapes.Form.{Form}
 use Rattle.frame_store.specs.declared.shapes.Form.TheVariants.{Old, New, Moved}
 use Rattle.frame_store.specs.declared.shapes.Half.{Half}
 use Rattle.frame_store.specs.declared.shapes.Half.TheVariants.{A, B}
-use Rattle.frame_store.specs.Layouts.{formed, is_old, is_old_form, start_in, slot_at, first_half_in, half_size_in, half_size, index_half_size, half_at}
+use Rattle.frame_store.specs.Layouts.{IsShape, old_half_size, formed, is_old, is_old_form, start_in, slot_at, first_half_in, half_size_in, half_size, index_half_size, half_at}
 use Rattle.frame_store.specs.Images.{StandsIn, IsOther, KeepsSlots}
 use Rattle.frame_store.proofs.Parts.{IsClear, below, above, part_kept}
 
@@ -124,3 +124,21 @@ pub stands_behind : (shape : Shape) (half : Half) (put : Option (ℕ × List ℕ
 stands_behind shape half None old new from k torn slotted behind stands = tt
 stands_behind shape half (Some (slot, block)) old new from k torn slotted behind (has, stands) =
     put_kept shape slot block old new from k torn (clear_behind shape half from k slot slotted behind has.is_slot) (has, stands)
+
+-- each half ends well below 2^48
+pub half_reach : (shape : Shape) (half : Half) → IsShape shape → half_at shape half + half_size shape ≤ 281474976710656
+half_reach shape half limits = each shape.form half
+  where
+    halves : old_half_size shape ≤ (2 * shape.records + 512) * 4352
+    halves = mul-le-mul_left {m = shape.block + 256} {n = 4352} (2 * shape.records + 512) (omega (arith, limits.few_bytes))
+
+    slots : shape.records * shape.block ≤ shape.records * 4096
+    slots = mul-le-mul_left {m = shape.block} {n = 4096} shape.records limits.few_bytes
+
+    each : (form : Form) (half : Half) → half_at (formed form shape) half + half_size (formed form shape) ≤ 281474976710656
+    each Old A = omega (arith, halves, limits.few_slots)
+    each Old B = omega (arith, halves, limits.few_slots)
+    each New A = omega (arith, slots, limits.few_slots)
+    each New B = omega (arith, slots, limits.few_slots)
+    each Moved A = omega (arith, halves, slots, limits.few_slots)
+    each Moved B = omega (arith, halves, slots, limits.few_slots)

@@ -42,6 +42,10 @@ pub returns-then-closed-clause-still : goal.returns-then-closed-clause-still
 returns-then-closed-clause-still g c = still_then g.D.Disk g.met.D.Disk.counts_now c.args.disk.now c.loop-piece.disk c.next_piece.new.disk _ _ (λ is. absurd cc)
     c.loop-piece.invariant.still c.in_ok-listed.ensures.still
 
+pub returns-then-closed-clause-makes : goal.returns-then-closed-clause-makes
+returns-then-closed-clause-makes g c = λ first old made.
+    c.in_ok-listed.ensures.makes first old (c.loop-piece.invariant.makes first old made)
+
 pub returns-then-closed-clause-counted : goal.returns-then-closed-clause-counted
 returns-then-closed-clause-counted g c =
     let front = c.in_ok-listed.ensures.front in (

@@ -1,12 +1,13 @@
 use Rattle.std.proofs.Common.{◌≡◌, ◌+◌, ◌-◌, ◌≤◌, ℕ, List, not, nat_eq, get_or, min, length, sym, ◌∙◌, ap, subst, rules, arith}
 use Rattle.std.proofs.lemmas.Result.{err_from_is_err_and}
-use Rattle.frame_store.specs.Layouts.{formed, header_at, half_at, half_size}
+use Rattle.frame_store.specs.Layouts.{IsShape, formed, header_at, half_at, half_size}
 use Rattle.frame_store.specs.declared.shapes.Shape.{Shape}
 use Rattle.frame_store.specs.Laid.{other}
 use Rattle.frame_store.specs.Reading.{IsListOf}
 use Rattle.frame_store.specs.Images.{part, InForce, generation_at, half_bytes}
 use Rattle.frame_store.proofs.Openings.{headers_none, read_laid}
 use Rattle.frame_store.proofs.Pieces.{part_within}
+use Rattle.frame_store.proofs.Slots.{half_reach}
 use Rattle.frame_store.proofs.Stills.{still_then, still_none}
 use Rattle.frame_store.proofs.reading.read_store.Goals as goal
 
@@ -35,6 +36,28 @@ returns-clause-still g c =
     let first = still_then d counts old old c.len.new.disk _ ⊥ (λ is. absurd is) (still_none d old) c.in_ok-size.ensures.still in
     let second = still_then d counts old c.len.new.disk c.read_headers.new.disk _ ⊥ (λ is. absurd is) first c.in_ok-headers.ensures.still in
     still_then d counts old c.read_headers.new.disk c.read_list.new.disk _ _ (λ is. absurd cc) second c.in_ok-listing.ensures.still
+
+-- the half ends well below 2^48
+pub read_list-requires-clause-reach : goal.read_list-requires-clause-reach
+read_list-requires-clause-reach g c =
+    let shape = formed c.in-Some.header.form c.args.shape in
+    let is : c.formed-shape.result ≡ shape = c.formed-shape.ensures in
+    let limits : IsShape shape = record {
+      some_bytes = c.requires.limits.some_bytes;
+      few_bytes = c.requires.limits.few_bytes;
+      some_slots = c.requires.limits.some_slots;
+      few_slots = c.requires.limits.few_slots;
+    } in
+    omega (
+      arith,
+      c.min-from.ensures,
+      c.half_at.ensures,
+      ap (λ (s : Shape). half_at s c.in-Some.half) is,
+      c.min.ensures,
+      c.half_size.ensures,
+      ap half_size is,
+      half_reach shape c.in-Some.half limits,
+    )
 
 -- what was read is laid
 pub returns-clause-laid : goal.returns-clause-laid
