@@ -117,7 +117,7 @@ fn take_version(
     let block = Bytes::from_slice(alloc, version.block)?;
     let slot = match hold_new(index, blocks, block) {
         Ok(slot) => slot,
-        Err(_) => return Err(NoMem),
+        Err(_) => return Err(NoMem::NoMemory),
     };
     let change = LogChange::Slot {
         bottom: version.bottom,
