@@ -1,6 +1,6 @@
 //! The append of a frame, with a block in its slot where one is given.
 
-ghost use Rattle.std.specs.Prelude.{◌≢◌, ◌++◌, ◌∷◌, [], Err, length, option_map};
+ghost use Rattle.std.specs.Prelude.{◌≡◌, false, ◌≢◌, ◌++◌, ◌∷◌, [], Err, length, option_map};
 ghost use Rattle.frame_store.specs.Layouts.{is_old};
 ghost use Rattle.frame_store.specs.Listed.{Fits};
 ghost use Rattle.brick_store.specs.Calls.{version_calls};

@@ -1,7 +1,7 @@
 //! A store that was read is made ready for the count of its opening: a list of frames that ended early, or that has no room for
 //! one more, is written anew before anything is appended to it.
 
-ghost use Rattle.std.specs.Prelude.{◌≡◌, ◌≤◌, if◌then◌else◌, true, None, IsTrue, OnOk};
+ghost use Rattle.std.specs.Prelude.{◌≡◌, ◌≤◌, if◌then◌else◌, true, None, IsTrue, OnOk, false};
 ghost use Rattle.frame_store.specs.Layouts.{is_old};
 ghost use Rattle.frame_store.specs.Images.{KeepsSlots};
 ghost use Rattle.frame_store.specs.Listed.{Fits, size_of};

@@ -1,6 +1,6 @@
 //! Folding a list of the old format as it is read.
 
-ghost use Rattle.std.specs.Prelude.{◌≡◌, ◌<◌, Some, None, IfSome, IfNone, IfOk, option_map, option_and_then, take, drop};
+ghost use Rattle.std.specs.Prelude.{◌≡◌, ◌⊎◌, ◌<◌, Some, None, IfSome, IfNone, IfOk, option_map, take, drop};
 ghost use Rattle.brick_state.specs.Indexes.{state_of, limits_of};
 ghost use Rattle.frame_store.specs.Listed.{frame_of};
 ghost use Rattle.brick_store.specs.OldLists.{old_block_of, old_version_kind, place_size};
@@ -54,8 +54,7 @@ fn block_of(size: u16, bytes: &[u8]) -> Option<(bool, &[u8])>
 fn version_of(size: u16, body: &[u8]) -> Option<OldVersion<'_>>
     ensures place { IfSome result (λ v. logged_of 6 (take place_size body.now) ≡ Some v.place) }
     ensures block { IfSome result (λ v. old_block_of size (drop place_size body.now) ≡ Some (v.bottom, v.block.now)) }
-    ensures none { IfNone result (option_and_then (λ r. option_map (λ told. (r, told)) (old_block_of size (drop place_size body.now)))
-        (logged_of 6 (take place_size body.now)) ≡ None) }
+    ensures none { IfNone result ((logged_of 6 (take place_size body.now) ≡ None) ⊎ (old_block_of size (drop place_size body.now) ≡ None)) }
 {
     if body.len() < PLACE {
         return None;

@@ -106,12 +106,12 @@ fn most_numbers(records: u32, old: bool) -> u32
 pub(crate) struct Folded {
     alloc: Global,
     pub(crate) sizes: Sizes,
-    old: bool,
+    of_old: bool,
     pub(crate) index: Index,
     pub(crate) blocks: BlockTable,
     pub(crate) whole: bool,
     ghost few: { sizes.records < 4294967295 },
-    ghost made: { limits_of index ≡ limits_by old sizes.records },
+    ghost made: { limits_of index ≡ limits_by of_old sizes.records },
 }
 
 impl Folded {
@@ -131,7 +131,7 @@ impl Folded {
         Ok(Folded {
             alloc,
             sizes: Sizes { block, records },
-            old: false,
+            of_old: false,
             index,
             blocks,
             whole: true,
@@ -141,8 +141,8 @@ impl Folded {
     // Takes a frame more of a list of the old format.
     fn take_old(&mut self, kind: u8, body: &[u8]) -> Result<(), NoMem>
         requires whole { self.old.whole ≡ true }
-        requires old { self.old.old ≡ true }
-        ensures sizes { (self.new.sizes ≡ self.old.sizes) × (self.new.old ≡ self.old.old) }
+        requires old { self.old.of_old ≡ true }
+        ensures sizes { (self.new.sizes ≡ self.old.sizes) × (self.new.of_old ≡ self.old.of_old) }
         ensures makes { OnOk result ((frames : List Frame) → Makes self.old.sizes.block self.old.sizes.records true frames (limits_of self.old.index)
             (state_of self.old.index) self.old.blocks true → Makes self.old.sizes.block self.old.sizes.records true (frames ++ frame_of kind body.now ∷ [])
             (limits_of self.new.index) (state_of self.new.index) self.new.blocks self.new.whole) }
@@ -164,7 +164,7 @@ impl TakesFrames for Folded {
     ghost use Rattle.brick_state.specs.Indexes.{state_of, limits_of};
     ghost use Rattle.brick_store.specs.Openings.{Makes};
 
-    ghost makes = { λ first old frames now. (now.old ≡ old) × (now.sizes ≡ first.sizes)
+    ghost makes = { λ first old frames now. (now.of_old ≡ old) × (now.sizes ≡ first.sizes)
         × Makes first.sizes.block first.sizes.records old frames (limits_of now.index) (state_of now.index) now.blocks now.whole };
 
     // What was taken before is forgotten.
@@ -174,7 +174,7 @@ impl TakesFrames for Folded {
         let blocks = BlockTable::with_room(self.alloc, 0)?;
         self.index = index;
         self.blocks = blocks;
-        self.old = old;
+        self.of_old = old;
         self.whole = true;
         Ok(())
     }
@@ -183,7 +183,7 @@ impl TakesFrames for Folded {
         if !self.whole {
             return Ok(());
         }
-        if self.old {
+        if self.of_old {
             return self.take_old(kind, body);
         }
         self.whole = take_frame(&mut self.index, kind, body)?;

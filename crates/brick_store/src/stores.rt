@@ -20,7 +20,7 @@ use crate::index_steps::{accepted_of, adds_stamp, learnt_view};
 use brick_state::{Index, Record};
 use fab_base::{Ballot, Bytes, GroupId, Members, Stamp, StripeNo, View, ViewNo};
 use fab_disk::Disk;
-use frame_store::FrameStore;
+use frame_store::{Form, FrameStore};
 use stamp_store::{Kept, LogChange, Logged};
 use std::alloc::Global;
 use std::marker::Model;

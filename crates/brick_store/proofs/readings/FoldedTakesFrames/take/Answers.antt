@@ -31,7 +31,7 @@ returns-then-self c = if_ok c.take_old.result c.take_old.ensures.makes (λ makes
     let new = c.take_old.new.self in
     let frame = frame_of c.args.kind c.args.body.now in
     let whole : self.whole ≡ true = search rules in
-    let was : self.old ≡ true = search rules in
+    let was : self.of_old ≡ true = search rules in
     let is : true ≡ old = sym was ∙ so_far.0 in
     let here = subst (λ (w : Bool). Makes self.sizes.block self.sizes.records true frames (limits_of self.index) (state_of self.index) self.blocks w) whole
     (subst (λ (b : Bool). Makes self.sizes.block self.sizes.records b frames (limits_of self.index) (state_of self.index) self.blocks self.whole) (sym is)
@@ -56,7 +56,7 @@ returns c = λ first old frames so_far.
     let st = state_of self.index in
     let next = state_of c.take_frame.new.index in
     let whole : self.whole ≡ true = search rules in
-    let new : self.old ≡ false = search rules in
+    let new : self.of_old ≡ false = search rules in
     let is : false ≡ old = sym new ∙ so_far.0 in
     let before = subst (λ (b : Bool). Makes first.sizes.block first.sizes.records b frames (limits_of self.index) st self.blocks self.whole) (sym is) so_far.2 in
     let limits : limits_of self.index ≡ limits_for first.sizes.records = before.0 in (
