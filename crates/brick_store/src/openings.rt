@@ -2,6 +2,7 @@
 
 ghost use Rattle.std.specs.Prelude.{◌≡◌, ◌≢◌, ◌+◌, ◌-◌, ◌<◌, ◌≤◌, ◌^◌, true, false, IfOk, IfErr};
 ghost use Rattle.fab_disk.specs.Changing.{Stands};
+ghost use Rattle.frame_store.specs.declared.shapes.Form.TheVariants.{New};
 ghost use Rattle.frame_store.specs.Layouts.{IsShape, shape_of, formed, is_old};
 ghost use Rattle.frame_store.specs.Listed.{size_of};
 ghost use Rattle.frame_store.specs.Stores.{IsRead};
@@ -21,7 +22,7 @@ use crate::stores::BrickStore;
 use crate::taking_up::take_up;
 use fab_base::BrickId;
 use fab_disk::Disk;
-use frame_store::{Form, FrameStore};
+use frame_store::FrameStore;
 use std::alloc::Global;
 
 /// Opens the store that a disk holds for a brick: its count of openings is one greater, and nothing else is changed.
@@ -90,7 +91,7 @@ fn open_over<D: Disk>(
     requires fold { Makes frames.shape.block frames.shape.records true frames.frames (limits_of folded.index) (state_of folded.index) folded.blocks folded.whole }
     requires runs { frames.halted ≡ false }
     requires read { IsRead D.tells D.seen frames }
-    ensures shape { IfOk result (λ store. store.shape ≡ formed Form.New frames.shape) }
+    ensures shape { IfOk result (λ store. store.shape ≡ formed New frames.shape) }
     ensures runs { IfOk result (λ store. store.halted ≡ false) }
     ensures state { let st = old_state_in frames.shape.block frames.shape.records frames.frames in IfOk result (λ store. store.state ≡ booted (st.boot + 1) st) }
     ensures boots { IfOk result (λ store. (old_state_in frames.shape.block frames.shape.records frames.frames).boot < 2 ^ 32 - 1) }

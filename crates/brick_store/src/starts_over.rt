@@ -2,6 +2,7 @@
 
 ghost use Rattle.std.specs.Prelude.{◌≡◌, ◌≢◌, ◌+◌, ◌-◌, ◌<◌, ◌^◌, true, false, Err, IfOk, IsOk, OnOk, length};
 ghost use Rattle.frame_store.specs.Images.{AreBlocks};
+ghost use Rattle.frame_store.specs.declared.shapes.Form.TheVariants.{Moved};
 ghost use Rattle.frame_store.specs.Layouts.{IsShape, formed, is_old};
 ghost use Rattle.frame_store.specs.Listed.{Fits, size_of};
 ghost use Rattle.frame_store.specs.Stores.{IsRead};
@@ -28,7 +29,7 @@ use crate::taking_up::{TakenUp, refusal_of};
 use brick_state::{Index, Record};
 use fab_base::Bytes;
 use fab_disk::Disk;
-use frame_store::{Form, Frame, FrameStore};
+use frame_store::{Frame, FrameStore};
 use stamp_store::Kept;
 use std::alloc::Global;
 
@@ -52,7 +53,7 @@ pub(crate) fn take_over<D: Disk>(
     ensures listed { IsOk result → IsAppended false (live (old_state_in frames.old.shape.block frames.old.shape.records frames.old.frames)) (size_of frames.old.frames) boot_size
         (size_of frames.new.frames) }
     ensures still_runs { IsOk result → frames.new.halted ≡ false }
-    ensures shape { IsOk result → frames.new.shape ≡ formed Form.Moved frames.old.shape }
+    ensures shape { IsOk result → frames.new.shape ≡ formed Moved frames.old.shape }
     ensures starts { StartsOver D.Disk (old_state_in frames.old.shape.block frames.old.shape.records frames.old.frames) frames.old frames.new.disk (opening_end result) }
     ensures boots { IsOk result → (old_state_in frames.old.shape.block frames.old.shape.records frames.old.frames).boot < 2 ^ 32 - 1 }
     ensures worn { result ≡ Err OpenFault.Worn → (old_state_in frames.old.shape.block frames.old.shape.records frames.old.frames).boot ≡ 2 ^ 32 - 1 }
@@ -105,8 +106,8 @@ fn start_over<D: Disk>(
     ensures limits { indexes.limits_of index.new ≡ indexes.limits_of index.old }
     ensures leads { OnOk result (Leads (limits_of frames.old.shape) frames.new.frames empty (state_of index.new)) }
     ensures listed { OnOk result (size_of frames.new.frames ≡ size_of listed.items + framed boot_size) }
-    ensures lie { D.tells → OnOk result (AllSlots (LiesIn (formed Form.Moved frames.old.shape) blocks.now (D.seen frames.new.disk)) (state_of index.old)) }
-    ensures shape { OnOk result (frames.new.shape ≡ formed Form.Moved frames.old.shape) }
+    ensures lie { D.tells → OnOk result (AllSlots (LiesIn (formed Moved frames.old.shape) blocks.now (D.seen frames.new.disk)) (state_of index.old)) }
+    ensures shape { OnOk result (frames.new.shape ≡ formed Moved frames.old.shape) }
     ensures runs { OnOk result (frames.new.halted ≡ false) }
     ensures settled { D.tells → OnOk result (IsSettled D.Disk frames.new) }
     ensures starts { StartsOver D.Disk (old_state_in frames.old.shape.block frames.old.shape.records frames.old.frames) frames.old frames.new.disk

@@ -20,7 +20,7 @@ use crate::index_steps::{accepted_of, adds_stamp, learnt_view};
 use brick_state::{Index, Record};
 use fab_base::{Ballot, Bytes, GroupId, Members, Stamp, StripeNo, View, ViewNo};
 use fab_disk::Disk;
-use frame_store::{Form, FrameStore};
+use frame_store::FrameStore;
 use stamp_store::{Kept, LogChange, Logged};
 use std::alloc::Global;
 use std::marker::Model;
@@ -49,12 +49,13 @@ impl<D: Disk> Model for BrickStore<D> {
     ghost use Rattle.brick_state.specs.Indexes.{state_of};
     ghost use Rattle.frame_store.specs.Listed.{size_of};
     ghost use Rattle.frame_store.specs.Layouts.{formed};
+    ghost use Rattle.frame_store.specs.declared.shapes.Form.TheVariants.{New};
 
     ghost Value = { Brick D };
 
     ghost view = { λ s. record {
       disk = s.frames.disk;
-      shape = formed Form.New s.frames.shape;
+      shape = formed New s.frames.shape;
       state = resolved (cached s.frames.shape.block s.blocks)
           (state_of s.index);
       listed = size_of s.frames.frames;
