@@ -247,4 +247,3 @@ version_takes size records blocks now frame r bottom bytes slot old new (Ok take
             change_in : Record → LogChange
             change_in (forms.Logged x) = x.change
             change_in (forms.Kept x) = Same
-

@@ -419,7 +419,14 @@ impl<D: Disk> FrameStore<D> {
             return Err(FrameFault::Halted);
         }
         let end = self.shape.end();
-        stage_list(&mut self.disk, &mut self.line, &frames, 8, blocks.len(), end)?;
+        stage_list(
+            &mut self.disk,
+            &mut self.line,
+            &frames,
+            8,
+            blocks.len(),
+            end,
+        )?;
         let shape = self.shape.formed(Form::Moved);
         let other = self.half.other();
         let at = shape.half_at(other);
