@@ -12,10 +12,10 @@ ghost use Rattle.brick_store.specs.Images.{IsListed};
 ghost use Rattle.node.specs.Running.{shape_at, state_of};
 ghost use Rattle.world.specs.Faults.{LeftBy, plan_of};
 ghost use Rattle.world.specs.Disks.{ShowsDisk, AreFreshDisks, KeepsOthers};
-ghost use Rattle.world.specs.Shown.{Rests, IsRunning, IsFreshBrick, ShowsBricks, Takes, TurnsOn, FindsUp, IsUp, AreNodesOf, HandsOver, RefusesBrick, BeginsBrick, RefusesProposal, ProposesBrick, RefusesSync, SyncsBrick, BricksStay, StopsBrick, StartsBrick, most_sent, reads_begun, disk_in, disks_of, running_at, unopened};
+ghost use Rattle.world.specs.Shown.{Rests, IsRunning, IsFreshBrick, ShowsBricks, Takes, TurnsOn, FindsUp, IsUp, AreNodesOf, HandsOver, RefusesBrick, BeginsBrick, RefusesProposal, ProposesBrick, RefusesSync, SyncsBrick, RefusesScrub, ScrubsBrick, BricksStay, StopsBrick, StartsBrick, most_sent, reads_begun, disk_in, disks_of, running_at, unopened};
 
 use brick_store::OpenFault;
-use fab_base::{Ask, BrickId, GroupId, IoFault, NoMem, ViewNo};
+use fab_base::{Ask, BrickId, GroupId, IoFault, NoMem, StripeNo, ViewNo};
 use fab_disk::{Armed, MemDisk, Plan};
 use layout::Layout;
 use lines::Fault;
@@ -322,6 +322,31 @@ pub fn ask_to_sync(
     let brick = &mut bricks[number.0 as usize];
     match &mut brick.power {
         Power::Up(node) => node.sync(brick.clock, group),
+        Power::Down(_) => unreachable!(),
+    }
+}
+
+/// A brick that is up is asked to scrub a stripe, so that these members keep one version. After a refusal of any kind no brick has changed.
+pub fn ask_to_scrub(
+    bricks: &mut Vec<Brick>,
+    number: BrickId,
+    group: GroupId,
+    stripe: StripeNo,
+    members: &[BrickId],
+) -> Result<Outs, NodeFault>
+    requires { IsUp bricks.old.items number }
+    ensures refused { RefusesScrub bricks.old.items number group stripe members.now result }
+    ensures scrubs { IfOk result (ScrubsBrick bricks.old.items bricks.new.items number group stripe members.now) }
+    ensures few { IfOk result (λ outs. length outs.messages ≤ most_sent) }
+    ensures reads { IfOk result (λ outs. reads_begun outs.told ≤ 1) }
+    ensures err { OnErr result ((layout : _) → BricksStay layout bricks.old.items bricks.new.items) }
+    ensures disks { disks_of bricks.new.items ≡ disks_of bricks.old.items }
+    ensures not_halted { result ≢ Err NodeFault.Halted }
+    ensures not_disk { result ≢ Err NodeFault.Disk }
+{
+    let brick = &mut bricks[number.0 as usize];
+    match &mut brick.power {
+        Power::Up(node) => node.scrub(brick.clock, group, stripe, members),
         Power::Down(_) => unreachable!(),
     }
 }
