@@ -278,7 +278,7 @@ impl Tasks {
         requires enough { AreEnough (group_in_view layout.now view.members group.0) (Some members) }
         ensures spent { (kept : KeptParts) → IfOk result (λ begun. is_some begun ≡ not (is_spent (tasks_in kept self.old))) }
         ensures step { (kept : KeptParts) → IfOk result (λ begun. IfSome begun (StepsAs self.old.work.calls.me (tasks_in kept self.new)
-            (scrubbed_by (coding layout.now) (group_in_view layout.now view.members group.0) view now group stripe members (tasks_in kept self.old)))) }
+            (scrubbed_by (coding layout.now) (group_in_view layout.now view.members group.0) view now group stripe members self.old.work.calls.me (tasks_in kept self.old)))) }
         ensures few { IfOk result (λ begun. IfSome begun (λ outs. length outs.messages ≤ 32)) }
         ensures err { OnErr result (self.new ≡ self.old) }
         ensures same { AreSameTasks layout.now self.old self.new }

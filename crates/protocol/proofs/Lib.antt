@@ -5,6 +5,8 @@ pub mod Events
 pub mod Packets
 pub mod Puts
 pub mod RunExample
+pub mod ScrubExample
+pub mod ScrubRun
 pub mod Served
 pub mod SyncExample
 pub mod SyncRun

@@ -9,6 +9,7 @@ use Rattle.fab_base.specs.declared.asks.Ask.{Ask}
 use Rattle.fab_base.specs.declared.faults.NoMem.{NoMem}
 use Rattle.fab_base.specs.declared.identities.BrickId.{BrickId}
 use Rattle.fab_base.specs.declared.identities.GroupId.{GroupId}
+use Rattle.fab_base.specs.declared.identities.StripeNo.{StripeNo}
 use Rattle.fab_base.specs.declared.member_lists.View.{View}
 use Rattle.fab_base.specs.declared.stamps.Stamp.{Stamp}
 use Rattle.fab_disk.specs.MemDisk.{IsSound, content_of}
@@ -348,6 +349,16 @@ RefusesSync old number group result = (layout : Layout) (w : World) → ShowsBri
 abbrev pub SyncsBrick : List Brick → List Brick → BrickId → GroupId → Sent → Type 0
 SyncsBrick old new number group outs = (layout : Layout) (w : World) → ShowsBricks layout old w.nodes w.after w.up w.clocks
     → SteppedAs layout w number (machine.synced_at (coding layout) number (w.clocks number.0) (w.nodes number.0) group) new outs
+
+-- a brick was asked to scrub a stripe, and refused it or not as the machine's does
+abbrev pub RefusesScrub : List Brick → BrickId → GroupId → StripeNo → List BrickId → Result Sent NodeFault → Type 0
+RefusesScrub old number group stripe members result = (layout : Layout) (w : World) → ShowsBricks layout old w.nodes w.after w.up w.clocks
+    → RefusesAs result (machine.scrub_refusal layout (w.nodes number.0) group stripe members)
+
+-- it began to scrub as the machine's does
+abbrev pub ScrubsBrick : List Brick → List Brick → BrickId → GroupId → StripeNo → List BrickId → Sent → Type 0
+ScrubsBrick old new number group stripe members outs = (layout : Layout) (w : World) → ShowsBricks layout old w.nodes w.after w.up w.clocks
+    → SteppedAs layout w number (machine.scrubbed_at (coding layout) number (w.clocks number.0) (w.nodes number.0) group stripe members) new outs
 
 -- the bricks show what they showed
 abbrev pub BricksStay : Layout → List Brick → List Brick → Type 0
