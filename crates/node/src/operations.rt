@@ -106,7 +106,6 @@ impl Operation {
     ghost use Rattle.protocol.specs.Nodes.{view_in};
     ghost use Rattle.protocol.specs.Coordinators as machine;
     ghost use Rattle.coord_phase.specs.Operations.{counts, heard, with_state, without_last};
-    ghost use Rattle.messages.specs.declared.turns.Turn.TheVariants as Turn;
     ghost use Rattle.coord_recover.specs.Recoveries.{entered};
     ghost use Rattle.node.specs.declared.operations.Kind.TheVariants as kind;
     ghost use Rattle.node.specs.Operations.{shown_of, coordinator_of, EndsOrWaits, IsOperationOf};
@@ -237,7 +236,7 @@ impl Operation {
     {
         let (recovery, next) = coord_recover::follow(alloc, op, Turn::Order)?;
         let op = Operation {
-            prior: op.view().prior,
+            prior: op.view().prior.copy(),
             kind: Kind::Recovery(recovery),
         };
         // There is a message for each member that is asked, and these are few.
