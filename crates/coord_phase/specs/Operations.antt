@@ -22,7 +22,7 @@ use Rattle.protocol.specs.Views.{group_kept}
 use Rattle.protocol.specs.declared.phases.Phase.{Phase}
 use Rattle.protocol.specs.declared.phases.Phase.TheVariants.{Looks, LooksAt, Orders, OrdersAt, Recovers, Descends, LooksBack, Modifies, Bases, Stores}
 use Rattle.protocol.specs.declared.phases.Counted.{Counted}
-use Rattle.protocol.specs.Coordinators.{Coordinator, answers_phase, asked_group, block_written, counts_at, has_seat, with_reply}
+use Rattle.protocol.specs.Coordinators.{Coordinator, AreEnough, answers_phase, asked_group, block_written, counts_at, has_seat, with_reply}
 use Rattle.protocol.specs.Nodes.{has_block, has_length, first_phase, given_content}
 use Rattle.protocol.specs.Scrubs.{scrub_ask}
 
@@ -183,11 +183,6 @@ pub record PriorIsWithinLimits (m : ℕ) (view : ViewNo) (prior : List BrickId) 
 abbrev pub MayAsk : ViewNo → Phase → Type 0
 MayAsk view (LooksBack bound) = 1 < view.0
 MayAsk view phase = Unit {0}
-
--- where some members of a group alone count, they are at least a quorum of it
-abbrev pub AreEnough : Group → Option (List BrickId) → Type 0
-AreEnough group None = Unit {0}
-AreEnough group (Some only) = quorum_of group ≤ length only
 
 -- What is true of an operation in each phase: the data block that it asks for is one of m, and what it is given to write has its length; what it
 -- stores is m blocks; there are members whom the phase asks, and enough of them count; and each reply that counts is of a seat of these, answers the phase, and is

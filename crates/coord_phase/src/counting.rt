@@ -122,7 +122,8 @@ fn answers(block: u16, stamp: Stamp, seat: u8, phase: Phase, reply: &Reply) -> b
 
 impl Operation {
     ghost use Rattle.std.specs.Prelude.{◌≡◌, ◌-◌, ◌<◌, ◌≤◌, ◌^◌, not, nat_lt, true, None, Some, IfSome, IfOk, OnOk, OnErr, length};
-    ghost use Rattle.protocol.specs.Coordinators.{asked_group, needed, may_count, has_seat, counts_at};
+    ghost use Rattle.std.specs.List.{list_all};
+    ghost use Rattle.protocol.specs.Coordinators.{answers_phase, asked_group, needed, may_count, has_seat, counts_at};
     ghost use Rattle.protocol.specs.Nodes.{has_length};
     ghost use Rattle.coord_phase.specs.Operations.{with_state, without_last, counts, heard};
 
@@ -216,6 +217,7 @@ impl Operation {
         ensures full { result ≡ not (nat_lt (length self.now.state.counted) (needed self.now.state)) }
         ensures enough { result ≡ true → self.now.state.group.m ≤ length self.now.state.counted }
         ensures long { has_length self.now.state.group.m self.now.block self.now.state.ask.op ≡ true }
+        ensures answers { list_all (λ reply. answers_phase self.now.block self.now.state.stamp reply.seat self.now.state.phase reply.reply) self.now.state.counted ≡ true }
     {
         // The use of a field tells the proof what is always true of an operation.
         let _ = &self.block;

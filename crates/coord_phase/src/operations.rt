@@ -155,10 +155,10 @@ fn copy_on_base(alloc: Global, on_base: &Option<OnBase>) -> Result<Option<OnBase
 
 impl Operation {
     ghost use Rattle.std.specs.Prelude.{◌≡◌, ◌≤◌, ◌<◌, true, false, Some, IfOk, length};
-    ghost use Rattle.protocol.specs.Coordinators.{looks_back, asked_group, needed, block_written, forgetting, may_look_back};
+    ghost use Rattle.protocol.specs.Coordinators.{AreEnough, looks_back, asked_group, needed, block_written, forgetting, may_look_back};
     ghost use Rattle.protocol.specs.Nodes.{has_block, has_length, given_content, view_in};
     ghost use Rattle.coord_phase.specs.declared.operations.News.TheVariants as news;
-    ghost use Rattle.coord_phase.specs.Operations.{StoresBlocks, PriorIsWithinLimits, AreEnough, MayAsk, opened_op, is_storing, seen_in, stored_in, telling};
+    ghost use Rattle.coord_phase.specs.Operations.{StoresBlocks, PriorIsWithinLimits, MayAsk, opened_op, is_storing, seen_in, stored_in, telling};
 
     /// An operation in its first round, in the first phase of its call, which is this one, asked of the members of a view, whose number and that of the group's
     /// data blocks are within the limits of a quorum; so are those before them, where there is a view before. These of them alone count, at least a quorum, or all

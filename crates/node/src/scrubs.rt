@@ -38,7 +38,8 @@ impl OpenScrub {
     ghost use Rattle.std.specs.Prelude.{◌≡◌, ◌≤◌, nat_eq, Some, IfOk, IfSome, OnOk, OnErr, length, vec_len};
     ghost use Rattle.fab_base.specs.Layouts as layouts;
     ghost use Rattle.fab_base.specs.declared.identities.BrickId.{BrickId};
-    ghost use Rattle.coord_phase.specs.Operations.{AreEnough, PriorIsWithinLimits, counts, group_in_view};
+    ghost use Rattle.coord_phase.specs.Operations.{PriorIsWithinLimits, counts, group_in_view};
+    ghost use Rattle.protocol.specs.Coordinators.{AreEnough};
     ghost use Rattle.coord_phase.specs.Messages.{packets_from};
     ghost use Rattle.quorum.specs.Quorums.{IsWithinLimits};
     ghost use Rattle.stripe_code.specs.Codes.{coding};

@@ -52,7 +52,8 @@ impl Tasks {
     ghost use Rattle.stripe_code.specs.Codes.{coding};
     ghost use Rattle.protocol.specs.Views.{kept_by};
     ghost use Rattle.protocol.specs.Nodes.{has_block, has_length, began_in, coordinator_in, is_spent, proposed_in, replied_at, synced_at, ticked, view_in, with_round};
-    ghost use Rattle.coord_phase.specs.Operations.{AreEnough, PriorIsWithinLimits, group_in_view};
+    ghost use Rattle.coord_phase.specs.Operations.{PriorIsWithinLimits, group_in_view};
+    ghost use Rattle.protocol.specs.Coordinators.{AreEnough};
     ghost use Rattle.coord_phase.specs.Messages.{packets_from};
     ghost use Rattle.node.specs.declared.tasks.Tasks.{Tasks};
     ghost use Rattle.node.specs.States.{KeptParts, fresh_node, state_in, BeginsAs, StepsAs};

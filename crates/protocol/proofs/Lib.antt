@@ -2,6 +2,7 @@ pub mod Blocks
 pub mod ChangeExample
 pub mod CountsAt
 pub mod Events
+pub mod Needed
 pub mod Packets
 pub mod Puts
 pub mod RunExample

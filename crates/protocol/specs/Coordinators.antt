@@ -1,5 +1,5 @@
 -- What a coordinator does with the replies to a phase (Frølund 2004, write-stripe, read-stripe and recover).
-use Rattle.std.specs.Prelude.{ℕ, ◌+◌, ◌-◌, ◌^◌, Bool, true, false, not, nat_eq, nat_lt, ◌&&◌, ◌||◌, if◌then◌else◌, List, [], ◌∷◌, ◌++◌, length, Option, Some, None, is_some, filter}
+use Rattle.std.specs.Prelude.{ℕ, ◌+◌, ◌-◌, ◌^◌, ◌≤◌, Bool, true, false, not, nat_eq, nat_lt, ◌&&◌, ◌||◌, if◌then◌else◌, List, [], ◌∷◌, ◌++◌, length, Option, Some, None, is_some, filter}
 use Rattle.std.specs.Option.{option_map}
 use Rattle.fab_base.specs.declared.identities.BrickId.{BrickId}
 use Rattle.fab_base.specs.declared.identities.ViewNo.{ViewNo}
@@ -77,6 +77,11 @@ needed_of group phase (Some only) = if asks_each phase then length only else quo
 -- how many replies decide the present phase
 abbrev pub needed : Coordinator → ℕ
 needed c = needed_of (asked_group c) c.phase c.only
+
+-- where some members of a group alone count, they are at least a quorum of it
+abbrev pub AreEnough : Group → Option (List BrickId) → Type 0
+AreEnough group None = Unit {0}
+AreEnough group (Some only) = quorum_of group ≤ length only
 
 -- a member's reply may count in a phase: where some alone count, it is one of them, or the phase looks back
 abbrev pub may_count_in : Phase → Option (List BrickId) → ℕ → Bool

@@ -81,9 +81,9 @@ impl Model for Scrub {
 impl Scrub {
     ghost use Rattle.std.specs.Prelude.{◌≡◌, Some, IfOk, OnOk, OnErr, length};
     ghost use Rattle.quorum.specs.Quorums.{IsWithinLimits};
-    ghost use Rattle.protocol.specs.Coordinators.{fast_version};
+    ghost use Rattle.protocol.specs.Coordinators.{AreEnough, fast_version};
     ghost use Rattle.protocol.specs.Scrubs.{scrub_answer};
-    ghost use Rattle.coord_phase.specs.Operations.{AreEnough, PriorIsWithinLimits, counts, group_in_view};
+    ghost use Rattle.coord_phase.specs.Operations.{PriorIsWithinLimits, counts, group_in_view};
     ghost use Rattle.scrub.specs.Scrubs.{Scrubbing, begun_scrub, members_of, taken_back};
     ghost use Rattle.scrub.specs.Decisions.{Hears, SendsLook};
 
