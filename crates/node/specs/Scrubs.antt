@@ -1,5 +1,5 @@
 -- The scrub of a brick, as the machine sees it.
-use Rattle.std.specs.Prelude.{◌≡◌, ◌≤◌, ℕ, ◌+◌, Bool, true, false, nat_eq, List, [], ◌∷◌, length, Option, Some, None}
+use Rattle.std.specs.Prelude.{◌≡◌, ◌≤◌, ℕ, true, false, max, nat_eq, List, [], ◌∷◌, ◌++◌, Option, Some, None}
 use Rattle.std.specs.Option.{option_map}
 use Rattle.fab_base.specs.declared.answers.Answer.{Answer}
 use Rattle.fab_base.specs.declared.answers.Cause.{Cause}
@@ -15,7 +15,8 @@ use Rattle.messages.specs.declared.calls.Call.{Call}
 use Rattle.messages.specs.declared.packets.Message.{Message}
 use Rattle.messages.specs.declared.packets.Message.TheVariants as message
 use Rattle.messages.specs.declared.replies.Reply.{Reply}
-use Rattle.protocol.specs.declared.phases.Counted.{Counted}
+use Rattle.messages.specs.declared.turns.Turn.TheVariants as Turn
+use Rattle.protocol.specs.declared.tellings.Told.TheVariants.{Closed}
 use Rattle.protocol.specs.declared.tellings.Report.{Report}
 use Rattle.protocol.specs.declared.tellings.ScrubAnswer.{ScrubAnswer}
 use Rattle.protocol.specs.declared.tellings.ScrubAnswer.TheVariants.{Clean, Repaired, Aborted}
@@ -23,11 +24,13 @@ use Rattle.protocol.specs.Settings.{Setting}
 use Rattle.protocol.specs.Coordinators.{Coordinator, counts_at, hearing, on_reply}
 use Rattle.protocol.specs.Jobs.{abort_cause}
 use Rattle.protocol.specs.Scrubs.{Scrub, scrub_answer, scrub_ask}
-use Rattle.protocol.specs.Nodes.{Node, NodeStep, begun_aside, carried_scrub, coordinator_in, put, scrubbing, with_known}
+use Rattle.protocol.specs.Nodes.{Node, NodeStep, begun_aside, carried_scrub, coordinator_in, put, scrubbing, seen_told, with_known}
 use Rattle.stripe_code.specs.Codes.{block_code, coding}
 use Rattle.coord_phase.specs.Operations as phased
 use Rattle.coord_phase.specs.Operations.{counts, heard, scrub_op, with_state, without_last}
 use Rattle.coord_phase.specs.Messages.{packets_from, phase_messages}
+use Rattle.coord_recover.specs.Recoveries.{entered}
+use Rattle.scrub.specs.Scrubs.{members_of}
 use Rattle.node.specs.declared.operations.Operation.{Operation}
 use Rattle.node.specs.declared.scrubs.OpenScrub.{OpenScrub}
 use Rattle.node.specs.Operations.{shown_of, EndsOrWaits}
@@ -128,6 +131,26 @@ cause_in (Aborted cause) = Some cause
 abbrev pub answer_of : OpenScrub → Answer → ScrubAnswer
 answer_of held answer = scrub_answer held.scrub.lagging (abort_cause answer) (Some (scrub_coordinator_of held).stamp)
 
+-- what is sent, told and reported as it ends so, with a version that it saw its members keep, if it did
+abbrev pub end_outs : OpenScrub → List (BrickId × Message) → Option Stamp → ScrubAnswer → Outcome
+end_outs held messages seen answer =
+    record {
+      messages = messages;
+      told = seen_told (scrub_seq held) seen ++ (Closed (scrub_seq held) (cause_in answer) ∷ []);
+      answers = [];
+      reports = Report.Scrub (scrub_coordinator_of held).call (members_of held.scrub) answer ∷ [];
+    }
+
+-- Its recovery has begun, and sends its first phase: it goes on from the look. Its stamp is known from then on.
+pub record Recovers (before after : OpenScrub) (known later : ℕ) (outs : Outcome) : Type 0 where
+  pub scrub : after.scrub ≡ before.scrub
+  pub shown : scrub_shown after ≡ entered before.scrub.look Turn.Order
+  pub sends : outs.messages ≡ phase_messages (scrub_shown after)
+  pub told : outs.told ≡ []
+  pub answers : outs.answers ≡ []
+  pub reports : outs.reports ≡ []
+  pub knows : later ≡ max known before.scrub.look.state.stamp.time
+
 -- what a brick of the machine does on a reply to it, once it knows this time; a new round would have this fresh stamp
 abbrev pub scrub_step : Layout → BrickId → Option Stamp → OpenScrub → Node → ℕ → BrickId → Call → Reply → NodeStep
 scrub_step layout me fresh held node known from call reply =
@@ -156,16 +179,11 @@ pub record StepsScrub (layout : Layout) (before : OpenScrub) (from : BrickId) (t
   pub seq : scrub_seq after ≡ scrub_seq before
   pub of : IsScrubOf layout before → IsScrubOf layout after
 
--- what is told and reported of its end with this answer on a member's reply that tells a later view
-pub record EndsMoved (held : OpenScrub) (answer : Answer) (outs : Outcome) : Type 0 where
-  pub messages : outs.messages ≡ []
-  pub told : length outs.told ≡ 1
-  pub reports : length outs.reports ≡ 1
-
 -- what a member's reply that counts, and tells this later view, comes to: it ends, of which this is told and reported; or it waits for more
 abbrev pub MovesScrub : OpenScrub → BrickId → ViewNo → Option Outcome → Type 0
 MovesScrub held from view None = EndsOrWaits (scrub_coordinator_of held) from view None
-MovesScrub held from view (Some outs) = (answer : Answer) × EndsOrWaits (scrub_coordinator_of held) from view (Some answer) × EndsMoved held answer outs
+MovesScrub held from view (Some outs) =
+    (answer : Answer) × EndsOrWaits (scrub_coordinator_of held) from view (Some answer) × (outs ≡ end_outs held [] None (answer_of held answer))
 
 -- it has counted a message that counts, and waits for more
 pub record HasCountedScrub (from : BrickId) (message : Message) (before after : OpenScrub) : Type 0 where
@@ -175,5 +193,5 @@ pub record HasCountedScrub (from : BrickId) (message : Message) (before after : 
   pub of : (layout : Layout) → IsScrubOf layout before → IsScrubOf layout after
 
 -- its operation, without the last reply that counts
-abbrev pub taken_back : phased.Operation → phased.Operation
-taken_back op = with_state op (without_last op.state)
+abbrev pub without_reply : phased.Operation → phased.Operation
+without_reply op = with_state op (without_last op.state)

@@ -35,7 +35,7 @@ fn cause_in(answer: &ScrubAnswer) -> Option<Cause>
 }
 
 impl OpenScrub {
-    ghost use Rattle.std.specs.Prelude.{◌≡◌, ◌≤◌, nat_eq, Some, IfOk, IfSome, OnOk, OnErr, length, vec_len};
+    ghost use Rattle.std.specs.Prelude.{◌≡◌, ◌≤◌, ◌<◌, ◌-◌, ◌^◌, nat_eq, None, Option, Some, IfOk, IfSome, OnOk, OnErr, length, vec_len};
     ghost use Rattle.fab_base.specs.Layouts as layouts;
     ghost use Rattle.fab_base.specs.declared.identities.BrickId.{BrickId};
     ghost use Rattle.coord_phase.specs.Operations.{PriorIsWithinLimits, counts, group_in_view};
@@ -44,7 +44,9 @@ impl OpenScrub {
     ghost use Rattle.quorum.specs.Quorums.{IsWithinLimits};
     ghost use Rattle.stripe_code.specs.Codes.{coding};
     ghost use Rattle.protocol.specs.Nodes.{resent, view_in};
-    ghost use Rattle.node.specs.Scrubs.{BeginsScrub, HasCountedScrub, IsScrubOf, IsScrubAsBefore, MovesScrub, StepsScrub, scrub_coordinator_of, scrub_shown, taken_back};
+    ghost use Rattle.fab_base.specs.declared.stamps.Stamp as machine_stamp;
+    ghost use Rattle.scrub.specs.Scrubs.{taken_back};
+    ghost use Rattle.node.specs.Scrubs.{BeginsScrub, HasCountedScrub, IsScrubOf, IsScrubAsBefore, MovesScrub, Recovers, StepsScrub, end_outs, scrub_coordinator_of, scrub_shown, without_reply};
 
     /// Begins a scrub of these members of a stripe, in this view: it, and the messages of its look.
     pub(crate) fn begin(
@@ -123,7 +125,9 @@ impl OpenScrub {
     }
 
     /// What is sent, told and reported as it ends so, with a version that it saw its members keep, if it did.
-    fn end(&self, messages: Messages, seen: Option<Stamp>, answer: ScrubAnswer) -> Outs {
+    fn end(&self, messages: Messages, seen: Option<Stamp>, answer: ScrubAnswer) -> Outs
+        ensures { result ≡ end_outs self.now messages.items seen answer }
+    {
         let call = self.call();
         let seq = call.seq;
         let version = seen.map(|stamp| Told::Seen { seq, stamp });
@@ -140,7 +144,15 @@ impl OpenScrub {
     }
 
     /// Begins the recovery of its stripe, whose stamp is known from then on. Where memory runs out, the scrub takes the reply back on which it came to this.
-    fn recover(&mut self, alloc: Global, stamps: &mut StampSource) -> Result<Outs, NoMem> {
+    fn recover(&mut self, alloc: Global, stamps: &mut StampSource) -> Result<Outs, NoMem>
+        requires looks { self.old.recovery ≡ None }
+        requires phase { self.old.scrub.look.state.call.phase < 2 ^ 32 - 1 }
+        ensures recovers { IfOk result (Recovers self.old self.new stamps.old.known stamps.new.known) }
+        ensures few { IfOk result (λ outs. length outs.messages ≤ 32) }
+        ensures boot { stamps.new.boot ≡ stamps.old.boot }
+        ensures back { OnErr result (self.new.scrub ≡ taken_back self.old.scrub) }
+        ensures none { OnErr result (self.new.recovery ≡ None) }
+    {
         match Operation::recovering(alloc, self.scrub.look()) {
             Ok((recovery, messages)) => {
                 stamps.saw(self.scrub.look().stage().stamp);
@@ -154,14 +166,21 @@ impl OpenScrub {
         }
     }
 
-    /// What it does with a message while it looks.
+    /// What it does with a message while it looks. Of a new round there is none.
     fn on_look_reply(
         &mut self,
         alloc: Global,
         from: BrickId,
         message: &Message,
         stamps: &mut StampSource,
-    ) -> Result<Outs, NoMem> {
+    ) -> Result<Outs, NoMem>
+        requires looks { self.old.recovery ≡ None }
+        ensures step { IfOk result (λ outs. (layout : layouts.Layout) (fresh : Option machine_stamp.Stamp) → IsScrubOf layout self.old
+            → StepsScrub layout self.old from message.now fresh stamps.old.known outs self.new stamps.new.known) }
+        ensures few { IfOk result (λ outs. length outs.messages ≤ 32) }
+        ensures boot { stamps.new.boot ≡ stamps.old.boot }
+        ensures same { (layout : layouts.Layout) → OnErr result (IsScrubAsBefore layout self.old self.new) }
+    {
         match self.scrub.on_reply(from, message)? {
             ScrubNext::Wait => Ok(Outs::nothing(alloc)),
             ScrubNext::Recover => self.recover(alloc, stamps),
@@ -249,7 +268,7 @@ impl OpenScrub {
 
     /// Takes the last reply that counted back.
     pub(crate) fn take_back(&mut self)
-        ensures { scrub_shown self.new ≡ taken_back (scrub_shown self.old) }
+        ensures { scrub_shown self.new ≡ without_reply (scrub_shown self.old) }
     {
         match &mut self.recovery {
             Some(recovery) => recovery.take_back(),
