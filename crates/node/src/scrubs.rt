@@ -35,10 +35,12 @@ fn cause_in(answer: &ScrubAnswer) -> Option<Cause>
 }
 
 impl OpenScrub {
-    ghost use Rattle.std.specs.Prelude.{◌≡◌, ◌≤◌, ◌<◌, ◌-◌, ◌^◌, nat_eq, None, Option, Some, IfOk, IfSome, OnOk, OnErr, length, vec_len};
+    ghost use Rattle.std.specs.Prelude.{◌≡◌, ◌≤◌, ◌<◌, ◌-◌, ◌^◌, true, nat_eq, None, Option, Some, IfOk, IfSome, OnOk, OnErr, length, vec_len};
     ghost use Rattle.fab_base.specs.Layouts as layouts;
     ghost use Rattle.fab_base.specs.declared.identities.BrickId.{BrickId};
-    ghost use Rattle.coord_phase.specs.Operations.{PriorIsWithinLimits, counts, group_in_view};
+    ghost use Rattle.coord_phase.specs.Operations.{PriorIsWithinLimits, counts, group_in_view, heard};
+    ghost use Rattle.coord_phase.specs.Decisions.{decided_on};
+    ghost use Rattle.protocol.specs.Coordinators as machine;
     ghost use Rattle.protocol.specs.Coordinators.{AreEnough};
     ghost use Rattle.coord_phase.specs.Messages.{packets_from};
     ghost use Rattle.quorum.specs.Quorums.{IsWithinLimits};
@@ -254,6 +256,8 @@ impl OpenScrub {
     ///
     /// `NoMemory` where no memory was left: the scrub is as it was.
     pub(crate) fn count(&mut self, from: BrickId, message: &Message) -> Result<(), NoMem>
+        requires waits { decided_on None (scrub_shown self.old) from message.now ≡ machine.Waits (heard (scrub_shown self.old) from message.now).state }
+        requires counts { counts (scrub_shown self.old) from message.now ≡ true }
         ensures counted { OnOk result (HasCountedScrub from message.now self.old self.new) }
         ensures same { (layout : layouts.Layout) → OnErr result (IsScrubAsBefore layout self.old self.new) }
     {

@@ -1,5 +1,5 @@
 -- What a scrub does with a message, as the machine says it.
-use Rattle.std.specs.Prelude.{◌≡◌, true, false, Option, Some, None}
+use Rattle.std.specs.Prelude.{◌≡◌, ◌-◌, ◌<◌, ◌^◌, true, false, Option, Some, None}
 use Rattle.fab_base.specs.declared.answers.Answer.{Answer}
 use Rattle.fab_base.specs.declared.identities.BrickId.{BrickId}
 use Rattle.fab_base.specs.declared.stamps.Stamp.{Stamp}
@@ -23,7 +23,7 @@ SendsLook scrub next.Recover = ⊥
 SendsLook scrub (next.End answer) = ⊥
 
 -- What it does and is then stands for the machine's decision, whatever stamp a new round would have. It waits. Its stripe is to be recovered: the next phase is
--- the order of a recovery, and those lag that are behind by the replies that count. It ends, clean where the read is answered a version that all told, and else
+-- the order of a recovery, which has a number, and those lag that are behind by the replies that count. It ends, clean where the read is answered a version that all told, and else
 -- aborted for the same cause.
 abbrev pub StandsFor : Scrubbing → ScrubNext → machine.Next → Type 0
 StandsFor scrub (next.Send messages) decided = ⊥
@@ -31,6 +31,7 @@ StandsFor scrub next.Wait decided = decided ≡ machine.Waits scrub.look.state
 StandsFor scrub next.Recover decided =
     (decided ≡ machine.Sends (in_phase scrub.look.state Recovers))
     × (scrub.lagging ≡ lagging_of scrub.look.state.group.members scrub.look.state.counted)
+    × (scrub.look.state.call.phase < 2 ^ 32 - 1)
 StandsFor scrub (next.End answer) decided =
     (given : Answer) × (decided ≡ machine.Ends given (machine.fast_version scrub.look.state.counted) None)
     × (answer ≡ scrub_answer scrub.lagging (abort_cause given) None)
