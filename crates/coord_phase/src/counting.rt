@@ -179,12 +179,7 @@ impl Operation {
 
     /// Counts a reply, if it counts, and says whether it did. Where memory runs out nothing has changed.
     #[tactic(auto, unfolding(crate::specs::Operations::seat_told))]
-    pub fn count(
-        &mut self,
-        alloc: Global,
-        from: BrickId,
-        message: &Message,
-    ) -> Result<bool, NoMem>
+    pub fn count(&mut self, alloc: Global, from: BrickId, message: &Message) -> Result<bool, NoMem>
         ensures counted { IfOk result (λ counted. counted ≡ counts self.old from message.now) }
         ensures heard { OnOk result (self.new ≡ heard self.old from message.now) }
         ensures stamp { self.new.state.stamp ≡ self.old.state.stamp }

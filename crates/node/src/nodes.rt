@@ -276,10 +276,7 @@ impl<D: Disk> Node<D> {
         if self.tasks.scrubs() {
             return Err(NodeFault::Refused(Refusal::Busy));
         }
-        match self
-            .tasks
-            .scrub(self.alloc, &self.layout, group, view, stripe, members, now)?
-        {
+        match self.tasks.scrub(self.alloc, &self.layout, group, view, stripe, members, now)? {
             Some(outs) => Ok(outs),
             None => Err(NodeFault::Refused(Refusal::Spent)),
         }

@@ -50,11 +50,7 @@ fn lowest_mover(counted: &[Counted], last: Mover) -> Mover
 
 /// How an operation ends on a member's reply that counts and tells this later view: it is aborted by the mover of the lowest seat. None where it waits for more
 /// replies.
-pub(crate) fn moved_end(
-    op: &coord_phase::Operation,
-    from: BrickId,
-    view: ViewNo,
-) -> Option<Answer>
+pub(crate) fn moved_end(op: &coord_phase::Operation, from: BrickId, view: ViewNo) -> Option<Answer>
     ensures { EndsOrWaits op.now.state from view result }
 {
     let Some(seat) = op.asked().seat_of(from) else {
@@ -473,8 +469,7 @@ impl Operation {
     pub(crate) fn may_end(&self, from: BrickId, message: &Message) -> bool
         ensures { result ≡ false → (fresh : Option machine_stamp.Stamp) → NeverEnds (decided_on fresh (shown_of self.now) from message.now) }
     {
-        self.counts(from, message)
-            && self.shown().counted().len() + 1 >= self.shown().needed()
+        self.counts(from, message) && self.shown().counted().len() + 1 >= self.shown().needed()
     }
 
     /// Counts a reply on which the operation waits for more.

@@ -1,8 +1,8 @@
 //! All that a brick has under way: the operations that it coordinates, its proposal, its synchronisation, and its scrub.
 
 use crate::jobs::{Followed, OpenJob, ReadTurn, start};
-use crate::open_work::{OpenWork, Turn};
 use crate::open_calls::fresh_stamp;
+use crate::open_work::{OpenWork, Turn};
 use crate::outs::{Begun, Outs, Tellings};
 use crate::scrubs::OpenScrub;
 use fab_base::{Ask, BrickId, GroupId, Members, NoMem, StripeNo, View, ViewNo};
@@ -288,8 +288,9 @@ impl Tasks {
         let Some((call, stamp)) = at.next(view.number) else {
             return Ok(None);
         };
-        let (open, messages) =
-            OpenScrub::begin(alloc, layout, view, call, group, stripe, stamp, members)?;
+        let (open, messages) = OpenScrub::begin(
+            alloc, layout, view, call, group, stripe, stamp, members,
+        )?;
         let call = open.call();
         self.work.calls.made_read(call.seq, stamp.time);
         self.scrub = Some(open);

@@ -32,9 +32,7 @@ fn lags(newest: Option<Stamp>, counted: &[Counted], brick: BrickId) -> bool
     let Some(newest) = newest else {
         return false;
     };
-    counted
-        .iter()
-        .any(|c| c.brick.0 == brick.0 && is_behind_version(newest, told_stamp(&c.reply)))
+    counted.iter().any(|c| c.brick.0 == brick.0 && is_behind_version(newest, told_stamp(&c.reply)))
 }
 
 /// Those of a view's members that lag by these replies, by seat, the newest version that one tells being this.
