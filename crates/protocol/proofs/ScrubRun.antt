@@ -89,7 +89,7 @@ abbrev scrub_call : ℕ → Call
 scrub_call phase = record { boot = 1; seq = 2; phase = phase; group = group; view = record { 0 = 1 }; stripe = record { 0 = 0 } }
 
 abbrev asks : ℕ → Request → ℕ → Packet
-asks phase request i = record { from = brick 0; to = brick i; message = message.Request (scrub_call phase) request }
+asks phase what i = record { from = brick 0; to = brick i; message = message.Request (scrub_call phase) what }
 
 -- it looks
 looks_so : sent_from 13 scrubs ≡ (asks 1 (request.Read All) 0 ∷ (asks 1 (request.Read All) 1 ∷ (asks 1 (request.Read All) 2 ∷ [])))

@@ -1,7 +1,7 @@
 -- A scrub: some members of a stripe are brought to one version, and it is told who of them lagged (Schwarz et al., "Disk Scrubbing in Large Archival Storage
 -- Systems", MASCOTS 2004: what lags is found and mended before a second fault needs it). It is a read of the stripe that counts these members alone, and is
 -- answered to nobody.
-use Rattle.std.specs.Prelude.{ℕ, Bool, true, false, not, nat_eq, nat_lt, ◌&&◌, if◌then◌else◌, List, [], ◌++◌, length, Option, Some, None, is_some, filter}
+use Rattle.std.specs.Prelude.{ℕ, Bool, true, false, not, nat_eq, nat_lt, ◌&&◌, if◌then◌else◌, List, length, Option, Some, None, is_some, filter}
 use Rattle.std.specs.List.{list_all, list_any}
 use Rattle.fab_base.specs.declared.identities.BrickId.{BrickId}
 use Rattle.fab_base.specs.declared.identities.GroupId.{GroupId}
@@ -12,7 +12,6 @@ use Rattle.fab_base.specs.declared.asks.Op.TheVariants.{ReadStripe}
 use Rattle.fab_base.specs.declared.answers.Cause.{Cause}
 use Rattle.fab_base.specs.Stamps.{stamp_below}
 use Rattle.fab_base.specs.Layouts.{Group, seat_in}
-use Rattle.messages.specs.declared.replies.Reply.{Reply}
 use Rattle.quorum.specs.Memberships.{are_distinct}
 use Rattle.quorum.specs.Quorums.{quorum_of}
 use Rattle.protocol.specs.declared.phases.Phase.{Phase}
