@@ -5,6 +5,7 @@ use Rattle.fab_base.specs.declared.identities.BrickId.{BrickId}
 use Rattle.fab_base.specs.declared.stamps.Stamp.{Stamp}
 use Rattle.fab_base.specs.declared.answers.Cause.TheVariants.{Gone}
 use Rattle.fab_base.specs.Layouts.{Group}
+use Rattle.fab_base.specs.Stamps.{stamp_below}
 use Rattle.messages.specs.declared.replies.Reply.TheVariants.{Found}
 use Rattle.protocol.specs.declared.phases.Counted.{Counted}
 use Rattle.protocol.specs.declared.phases.Phase.TheVariants.{Looks, Recovers, Descends, LooksBack, Stores}
@@ -79,10 +80,12 @@ tells_of seat order (Some t) = record { seat = seat; brick = brick seat; reply =
 
 -- in the order of seats, whoever replied first: one that told an earlier version, and one that told none
 two_lag : lagging_of group.members (tells_of 3 0 None ∷ (tells_of 0 0 (Some (at_time 1)) ∷ (tells_of 2 0 (Some (at_time 4)) ∷ []))) ≡ brick 0 ∷ (brick 3 ∷ [])
+unfolding stamp_below
 two_lag = refl
 
 -- an order above the newest version lets nobody lag
 none_lags : lagging_of group.members (tells_of 3 9 (Some (at_time 4)) ∷ (tells_of 0 0 (Some (at_time 4)) ∷ [])) ≡ []
+unfolding stamp_below
 none_lags = refl
 
 -- and where no version is told, nobody does

@@ -14,6 +14,7 @@ use Rattle.messages.specs.declared.requests.Request.{Request}
 use Rattle.messages.specs.declared.requests.Request.TheVariants as request
 use Rattle.messages.specs.declared.requests.Want.TheVariants.{All}
 use Rattle.fab_base.specs.Layouts.{Layout}
+use Rattle.reg_model.specs.Walk.{entry_below}
 use Rattle.fab_base.specs.Stamps.{stamp_below, stamp_same, ballot_below}
 use Rattle.quorum.specs.Memberships.{is_membership}
 use Rattle.synod_laws.specs.Synods.{ballot_same}
@@ -149,7 +150,7 @@ unfolding machine
 one_begin = refl
 
 only_the_write : length (effect_in (after repaired) 0 0).told ≡ 1
-unfolding machine
+unfolding machine entry_below
 only_the_write = refl
 
 -- A second scrub is clean: nothing but its look is sent.
