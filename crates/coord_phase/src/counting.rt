@@ -1,6 +1,7 @@
 //! Which replies count.
 
-ghost use Rattle.std.specs.Prelude.{◌≡◌, ◌≤◌, ◌<◌, is_some, length, IfSome};
+ghost use Rattle.std.specs.Prelude.{◌≡◌, ◌≤◌, ◌<◌, nat_eq, length, IfSome};
+ghost use Rattle.std.specs.List.{list_any};
 ghost use Rattle.fab_base.specs.Layouts.{seat_in};
 ghost use Rattle.protocol.specs.Coordinators.{call_same, may_be_found, may_be_base, told_length, old_bound, answers_phase};
 ghost use Rattle.protocol.specs.Views.{floor_of};
@@ -13,7 +14,7 @@ use std::alloc::Global;
 
 /// Whether a brick is one of these members.
 fn stands_in(members: &[BrickId], brick: BrickId) -> bool
-    ensures { result ≡ is_some (seat_in members.now brick.0) }
+    ensures { result ≡ list_any (λ member. nat_eq member.0 brick.0) members.now }
 {
     members.iter().any(|member| member.0 == brick.0)
 }
@@ -136,6 +137,7 @@ impl Operation {
     }
 
     /// Whether a member's reply may count in the present phase: where some members alone count, it is one of them, or the phase looks back.
+    #[tactic(auto, using(crate::proofs::Asked::stands_as_seat))]
     fn may_count(&self, brick: BrickId) -> bool
         ensures { result ≡ may_count self.now.state brick.0 }
     {

@@ -282,6 +282,8 @@ impl Operation {
         ensures value { result ≡ needed self.now.state }
         ensures enough { self.now.state.group.m ≤ result }
     {
+        // The call tells the proof that a quorum is as many as there are data blocks.
+        let _ = self.group.policy().q();
         match &self.only {
             Some(only) if asks_each(self.stage.phase) => only.as_slice().len(),
             _ => usize::from(self.asked().policy().q()),
