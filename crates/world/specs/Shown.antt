@@ -444,12 +444,6 @@ abbrev pub calls_used : List Report → ℕ
 calls_used [] = 1
 calls_used (report ∷ reports) = 0
 
--- the numbers of the operations of each brick's calls, once a brick was asked to propose and reported this at once, or nothing: a call of no operation
--- is one more
-abbrev pub calls_aside : (ℕ → List ℕ) → ℕ → Option Report → ℕ → List ℕ
-calls_aside calls i None = machine.put calls i (calls i ++ 0 ∷ [])
-calls_aside calls i (Some report) = calls
-
 -- The step begins a proposal under the next call, which is that of no operation, or it reports that it begins none.
 pub record OpensAside (w : World) (brick : BrickId) (step : machine.NodeStep) : Type 0 where
   pub boot : step.node.boot ≡ (w.nodes brick.0).boot
@@ -462,32 +456,6 @@ pub record OpensAside (w : World) (brick : BrickId) (step : machine.NodeStep) : 
 pub record OpensNext (node : machine.Node) (step : machine.NodeStep) : Type 0 where
   pub boot : step.node.boot ≡ node.boot
   pub seq : step.node.seq ≡ node.seq + 1
-
--- a history tells what it told
-abbrev pub HistoryStays : History → History → Type 0
-HistoryStays old new = (w : World) → Tells old w → Tells new w
-
--- it tells what this makes of the world that it told
-abbrev pub HistoryBecomes : (World → World) → History → History → Type 0
-HistoryBecomes next old new = (w : World) → Tells old w → Tells new (next w)
-
--- so it does where the brick is up in that world, and this holds of its state
-abbrev pub HistoryNotes : BrickId → (machine.Node → Type 0) → (World → World) → History → History → Type 0
-HistoryNotes brick Holds next old new = (w : World) → Tells old w → w.up brick.0 ≡ true → Holds (w.nodes brick.0) → Tells new (next w)
-
--- so it does with what a brick tells, where that is up and is of its calls: each read that begins is one call more
-abbrev pub HistoryHears : BrickId → List Told → History → History → Type 0
-HistoryHears brick told old new = (setting : Setting) (nodes : ℕ → machine.Node) (w : World) (seqs : ℕ → ℕ) → TellsAt seqs old w → w.up brick.0 ≡ true
-    → AreTold (w.nodes brick.0).boot (seqs brick.0) told
-    → TellsAt (machine.put seqs brick.0 (seqs brick.0 + reads_begun told)) new (world_tells setting nodes w brick told)
-
--- so it does with one operation, where this holds of the number of its brick's calls
-abbrev pub HistoryChanges : BrickId → (ℕ → Type 0) → (World → World) → History → History → Type 0
-HistoryChanges brick Holds next old new = (w : World) (seqs : ℕ → ℕ) → TellsAt seqs old w → w.up brick.0 ≡ true → Holds (seqs brick.0) → TellsAt seqs new (next w)
-
--- so it does where the brick is up in that world, and its step opens there no call but one of no operation
-abbrev pub HistoryNotesAside : BrickId → machine.NodeStep → (World → World) → History → History → Type 0
-HistoryNotesAside brick step next old new = (w : World) → Tells old w → w.up brick.0 ≡ true → OpensAside w brick step → Tells new (next w)
 
 -- what events that are none or one come to
 abbrev pub came_to : Setting → World → List Event → Outcome
