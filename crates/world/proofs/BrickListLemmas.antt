@@ -11,7 +11,6 @@ use Rattle.fab_base.specs.declared.asks.Ask.{Ask}
 use Rattle.fab_base.specs.declared.faults.NoMem.{NoMem}
 use Rattle.fab_base.specs.declared.identities.BrickId.{BrickId}
 use Rattle.fab_base.specs.declared.identities.GroupId.{GroupId}
-use Rattle.fab_base.specs.declared.identities.ViewNo.{ViewNo}
 use Rattle.fab_disk.specs.MemDisk.{IsSound, content_of}
 use Rattle.fab_disk.specs.declared.mem_disk.MemDisk.{MemDisk}
 use Rattle.messages.specs.declared.packets.Packet.{Packet}
@@ -28,7 +27,7 @@ use Rattle.node.specs.Faults.{RefusesAs}
 use Rattle.node.specs.Running.{Running, state_of, shape_at, IsSameBrick}
 use Rattle.node.specs.States.{BeginsAs, StepsAs}
 use Rattle.protocol.specs.Worlds.{World, first_world, is_up}
-use Rattle.fab_base.specs.Layouts.{Layout, Group, group_of}
+use Rattle.fab_base.specs.Layouts.{Layout}
 use Rattle.protocol.specs.Nodes as machine
 use Rattle.world.specs.Runs.{brick_of}
 use Rattle.world.specs.Disks.{AreFreshDisks, IsUnwritten, ListsPacket, first_listed}
@@ -560,22 +559,3 @@ boots_as layout bricks w brick boot up says shows = by_node (running_at bricks b
     by_node None none is =
         absurd (let never : true ≡ false = sym (up_there layout bricks w brick up shows) ∙ running_not layout bricks w brick.0 shows none in cc)
     by_node (Some node) on is = is ∙ ap (λ (x : machine.Node). x.boot) (running_shown layout bricks w brick.0 node shows on).1.state_is
-
--- a brick that runs tells the view of a group of its layout that it has learnt
-abbrev pub TellsView : GroupId → ViewNo → Running MemDisk → Type 0
-TellsView group view node = (kept : Group) → group_of node.layout group.0 ≡ Some kept → view.0 ≡ machine.view_at (state_of node) group.0
-
--- so has it learnt the view that it tells
-pub view_as : (layout : Layout) (bricks : List Brick) (w : World) (brick : BrickId) (group : GroupId) (view : ViewNo) → IsUp bricks brick
-    → IfSome (running_at bricks brick.0) (TellsView group view)
-    → ShowsBricks layout bricks w.nodes w.after w.up w.clocks → (kept : Group) → group_of layout group.0 ≡ Some kept
-    → view.0 ≡ machine.view_at (w.nodes brick.0) group.0
-view_as layout bricks w brick group view up says shows kept there = by_node (running_at bricks brick.0) refl says
-  where
-    by_node : (found : Option (Running MemDisk)) → running_at bricks brick.0 ≡ found → IfSome found (TellsView group view)
-        → view.0 ≡ machine.view_at (w.nodes brick.0) group.0
-    by_node None none is =
-        absurd (let never : true ≡ false = sym (up_there layout bricks w brick up shows) ∙ running_not layout bricks w brick.0 shows none in cc)
-    by_node (Some node) on is =
-        let its = (running_shown layout bricks w brick.0 node shows on).1 in
-        is kept (ap (λ (l : Layout). group_of l group.0) its.layout_is ∙ there) ∙ ap (λ (x : machine.Node). machine.view_at x group.0) its.state_is

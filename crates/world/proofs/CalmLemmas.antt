@@ -316,14 +316,13 @@ down_is layout w brick there down = ap (λ (b : Bool). b && w.up brick.0) (sym t
 pub up_of : (layout : Layout) (w : World) (brick : BrickId) → is_up layout w brick ≡ true → w.up brick.0 ≡ true
 up_of layout w brick up = (and_parts (is_brick layout brick) (w.up brick.0) up).1
 
--- an open operation: what it asks is what its coordinator was asked, and it runs in the view of that one's stamp
+-- an open operation: what it asks is what its coordinator was asked
 pub record IsOpenAt (w : World) (n : ℕ) (c : Coordinator) : Type 0 where
   pub operation : Operation
   pub is : w.operations n ≡ Some operation
   pub call : (w.nodes operation.brick.0).calls operation.seq ≡ Some c
   pub up : w.up operation.brick.0 ≡ true
   pub ask : c.ask ≡ operation.ask
-  pub view : operation.view ≡ c.stamp.view.0
   pub group : c.call.group ≡ c.ask.group
   pub numbers : (1 ≤ n) × (n ≤ w.begun)
 
@@ -348,7 +347,6 @@ open_parts setting w n c books is = by_operation (w.operations n) refl is
               call = call;
               up = up;
               ask = own.ask ∙ ap (λ (x : Operation). x.ask) same;
-              view = ap (λ (x : Operation). x.view) (sym same) ∙ own.stamp_view;
               group = own.call_group;
               numbers = (its.from_one, its.begun);
             }

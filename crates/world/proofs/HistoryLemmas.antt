@@ -9,7 +9,6 @@ use Rattle.fab_base.specs.declared.answers.Answer.{Answer}
 use Rattle.fab_base.specs.declared.answers.Cause.{Cause}
 use Rattle.fab_base.specs.declared.asks.Ask.{Ask}
 use Rattle.fab_base.specs.declared.identities.BrickId.{BrickId}
-use Rattle.fab_base.specs.declared.identities.ViewNo.{ViewNo}
 use Rattle.fab_base.specs.declared.stamps.Stamp.{Stamp}
 use Rattle.messages.specs.declared.calls.Call.{Call}
 use Rattle.messages.specs.declared.packets.Packet.{Packet}
@@ -171,7 +170,7 @@ pub record IsAlike (change : OperationRecord → OperationRecord) (next : Option
 pub made_alike : (stamp : Stamp) (base : Option Stamp) → IsAlike (made_kept stamp base) (with_made stamp base)
 made_alike stamp base = record {
   none = refl;
-  some = λ known o is. (_, refl, record { brick = is.brick; boot = is.boot; seq = is.seq; begin = is.begin; group = is.group; stripe = is.stripe; version = refl; made = refl; base = refl; writes = is.writes; answered = is.answered; view = is.view; mark = is.mark });
+  some = λ known o is. (_, refl, record { brick = is.brick; boot = is.boot; seq = is.seq; begin = is.begin; group = is.group; stripe = is.stripe; version = refl; made = refl; base = refl; writes = is.writes; answered = is.answered; mark = is.mark });
   marks = λ mark. elim [ None ↦ refl | Some o ↦ refl ];
 }
 
@@ -179,7 +178,7 @@ made_alike stamp base = record {
 pub seen_alike : (stamp : Stamp) → IsAlike (seen_kept stamp) (with_seen stamp)
 seen_alike stamp = record {
   none = refl;
-  some = λ known o is. (_, refl, record { brick = is.brick; boot = is.boot; seq = is.seq; begin = is.begin; group = is.group; stripe = is.stripe; version = refl; made = is.made; base = is.base; writes = is.writes; answered = is.answered; view = is.view; mark = is.mark });
+  some = λ known o is. (_, refl, record { brick = is.brick; boot = is.boot; seq = is.seq; begin = is.begin; group = is.group; stripe = is.stripe; version = refl; made = is.made; base = is.base; writes = is.writes; answered = is.answered; mark = is.mark });
   marks = λ mark. elim [ None ↦ refl | Some o ↦ refl ];
 }
 
@@ -187,7 +186,7 @@ seen_alike stamp = record {
 pub ended_alike : (answer : Answer) → IsAlike (ended_kept (is_answer answer)) (with_answer answer)
 ended_alike answer = record {
   none = refl;
-  some = λ known o is. (_, refl, record { brick = is.brick; boot = is.boot; seq = is.seq; begin = is.begin; group = is.group; stripe = is.stripe; version = is.version; made = is.made; base = is.base; writes = is.writes; answered = refl; view = is.view; mark = is.mark });
+  some = λ known o is. (_, refl, record { brick = is.brick; boot = is.boot; seq = is.seq; begin = is.begin; group = is.group; stripe = is.stripe; version = is.version; made = is.made; base = is.base; writes = is.writes; answered = refl; mark = is.mark });
   marks = λ mark. elim [ None ↦ refl | Some o ↦ refl ];
 }
 
@@ -195,7 +194,7 @@ ended_alike answer = record {
 pub closed_alike : (cause : Option Cause) → IsAlike (ended_kept (not (is_some cause))) (with_closed cause)
 closed_alike cause = record {
   none = refl;
-  some = λ known o is. (_, refl, record { brick = is.brick; boot = is.boot; seq = is.seq; begin = is.begin; group = is.group; stripe = is.stripe; version = is.version; made = is.made; base = is.base; writes = is.writes; answered = refl; view = is.view; mark = is.mark });
+  some = λ known o is. (_, refl, record { brick = is.brick; boot = is.boot; seq = is.seq; begin = is.begin; group = is.group; stripe = is.stripe; version = is.version; made = is.made; base = is.base; writes = is.writes; answered = refl; mark = is.mark });
   marks = λ mark. elim [ None ↦ refl | Some o ↦ refl ];
 }
 
@@ -290,11 +289,11 @@ number_old numbers i boot seq number k other =
     ∙ value_elsewhere (numbers i boot) seq k number other
 
 -- an operation that began
-pub tells_began : (old new : History) (w : World) (brick : BrickId) (boot : ℕ) (view : ViewNo) (ask : Ask) (begun : Begun) (step : NodeStep) → Tells old w
+pub tells_began : (old new : History) (w : World) (brick : BrickId) (boot : ℕ) (ask : Ask) (begun : Begun) (step : NodeStep) → Tells old w
     → w.up brick.0 ≡ true → packets_from brick begun.messages.items ≡ step.packets → boot ≡ step.node.boot → begun.seq ≡ step.node.seq
-    → step.node.boot ≡ (w.nodes brick.0).boot → step.node.seq ≡ (w.nodes brick.0).seq + 1 → view.0 ≡ view_at (w.nodes brick.0) ask.group.0
-    → NotesBegin old new brick boot view ask begun → Tells new (world_began w brick ask step)
-tells_began old new w brick opened view ask begun step tells up packets_is boot_is seq_is boot next view_is notes = record {
+    → step.node.boot ≡ (w.nodes brick.0).boot → step.node.seq ≡ (w.nodes brick.0).seq + 1
+    → NotesBegin old new brick boot ask begun → Tells new (world_began w brick ask step)
+tells_began old new w brick opened ask begun step tells up packets_is boot_is seq_is boot next notes = record {
   packets = notes.sent ∙ ap (λ xs. xs ++ packets_from brick begun.messages.items) tells.packets ∙ ap (λ xs. w.packets ++ xs) packets_is;
   reached = λ k. ap (λ (h : History). get_or h.delivered.reached.items k false) notes.rest ∙ tells.reached k;
   marks = notes.marks ∙ ap (λ (xs : List Mark). xs ++ Begin (length xs) (length old.marked.items + 1) brick ask ∷ []) tells.marks
@@ -321,7 +320,6 @@ tells_began old new w brick opened view ask begun step tells up packets_is boot_
         base = refl;
         writes = refl;
         answered = refl;
-        view = view_is;
         mark = ap (λ n. n + 1) tells.marked.count;
       }) tells.operations);
   calls = λ i.
@@ -408,7 +406,6 @@ tells_read setting nodes seqs old new w brick call tells up boot next notes =
             base = refl;
             writes = refl;
             answered = refl;
-            view = refl;
             mark = refl;
           }) tells.operations);
       calls = λ i.

@@ -30,7 +30,7 @@ use Rattle.world.specs.Walks.{KeepsAll, BeginsAgree, BeginAsMarked, op_that, ope
 
 -- stands for an operation of which nothing is kept
 abbrev pub nothing_kept : OperationRecord
-nothing_kept = record { brick = record { 0 = 0 }; boot = 0; seq = 0; begin = 0; group = record { 0 = 0 }; stripe = record { 0 = 0 }; version = None; made = false; base = None; writes = false; answered = false; view = record { 0 = 0 }; mark = 0 }
+nothing_kept = record { brick = record { 0 = 0 }; boot = 0; seq = 0; begin = 0; group = record { 0 = 0 }; stripe = record { 0 = 0 }; version = None; made = false; base = None; writes = false; answered = false; mark = 0 }
 
 -- the entries of one operation more
 pub entries_more : (operations : List OperationRecord) (g s i : ℕ) (d : OperationRecord) → i < length operations

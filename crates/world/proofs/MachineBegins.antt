@@ -124,15 +124,6 @@ pub invoked_boot : (setting : Setting) (brick : BrickId) (now : ℕ) (node : Nod
 unfolding invoked
 invoked_boot setting brick now node ask = invoked_boot_in setting brick now node ask (group_at setting.layout node ask.group.0)
 
--- an operation that is not refused is of a group of the layout
-begun_in : (block : ℕ) (node : Node) (ask : Ask) (found : Option Group) → refusal_in block node ask found ≡ None → (group : Group) × (found ≡ Some group)
-begun_in block node ask None none = absurd (let never : Some Refusal.NoStripe ≡ None = none in cc)
-begun_in block node ask (Some group) none = (group, refl)
-
-pub begun_group : (layout : Layout) (node : Node) (ask : Ask) → refusal_of layout node ask ≡ None → (group : Group) × (group_of layout ask.group.0 ≡ Some group)
-unfolding refusal_of
-begun_group layout node ask none = begun_in layout.block node ask (group_of layout ask.group.0) none
-
 -- where there is no such group no brick proposes its next view
 pub unproposed_no_group : (layout : Layout) (g : ℕ) (node : Node) → group_of layout g ≡ None → proposal_refusal layout node g ≡ Some Refusal.NoStripe
 unfolding proposal_refusal

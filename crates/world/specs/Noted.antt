@@ -3,7 +3,6 @@ use Rattle.std.specs.Prelude.{◌≡◌, ℕ, ◌+◌, false, not, List, [], ◌
 use Rattle.fab_base.specs.declared.asks.Ask.{Ask}
 use Rattle.fab_base.specs.declared.asks.Op.TheVariants.{ReadStripe}
 use Rattle.fab_base.specs.declared.identities.BrickId.{BrickId}
-use Rattle.fab_base.specs.declared.identities.ViewNo.{ViewNo}
 use Rattle.messages.specs.declared.calls.Call.{Call}
 use Rattle.messages.specs.declared.packets.Packet.{Packet}
 use Rattle.reg_model.specs.declared.marks.Mark.TheVariants.{Begin, End, Crash}
@@ -38,8 +37,8 @@ abbrev pub calls_with : CallNumbers → ℕ → ℕ → ℕ → List ℕ
 calls_with calls b number = put (calls_in calls) b (calls_in calls b ++ number ∷ [])
 
 -- what is kept of an operation that began at a position
-abbrev pub begun_kept : BrickId → ℕ → ℕ → ℕ → ViewNo → ℕ → Ask → OperationRecord
-begun_kept brick boot seq begin view mark ask =
+abbrev pub begun_kept : BrickId → ℕ → ℕ → ℕ → ℕ → Ask → OperationRecord
+begun_kept brick boot seq begin mark ask =
     record {
       brick = brick;
       boot = boot;
@@ -52,16 +51,15 @@ begun_kept brick boot seq begin view mark ask =
       base = None;
       writes = writes ask.op;
       answered = false;
-      view = view;
       mark = mark;
     }
 
 -- An operation began under its brick's next call, which a client asked for: it is the next that has marks, its Begin is the next mark, and it sends this.
-pub record NotesBegin (old new : History) (brick : BrickId) (boot : ℕ) (view : ViewNo) (ask : Ask) (begun : Begun) : Type 0 where
+pub record NotesBegin (old new : History) (brick : BrickId) (boot : ℕ) (ask : Ask) (begun : Begun) : Type 0 where
   pub sent : new.sent.packets.items ≡ old.sent.packets.items ++ packets_from brick begun.messages.items
   pub marks : new.marks.items ≡ old.marks.items ++ Begin (length old.marks.items) (length old.marked.items + 1) brick ask ∷ []
   pub operations : new.operations.items
-      ≡ old.operations.items ++ begun_kept brick boot begun.seq (length old.marks.items) view (length old.marked.items + 1) ask ∷ []
+      ≡ old.operations.items ++ begun_kept brick boot begun.seq (length old.marks.items) (length old.marked.items + 1) ask ∷ []
   pub marked : new.marked.items ≡ old.marked.items ++ (length old.operations.items + 1) ∷ []
   pub calls : (i : ℕ) → calls_in new.calls i ≡ calls_with old.calls brick.0 (length old.operations.items + 1) i
   pub rest : new ≡ record old { sent = new.sent; marks = new.marks; operations = new.operations; marked = new.marked; calls = new.calls }
@@ -70,7 +68,7 @@ pub record NotesBegin (old new : History) (brick : BrickId) (boot : ℕ) (view :
 pub record NotesRead (old new : History) (brick : BrickId) (call : Call) : Type 0 where
   pub operations : new.operations.items
       ≡ old.operations.items
-      ++ begun_kept brick call.boot call.seq (length old.marks.items) call.view 0 (record { group = call.group; stripe = call.stripe; op = ReadStripe }) ∷ []
+      ++ begun_kept brick call.boot call.seq (length old.marks.items) 0 (record { group = call.group; stripe = call.stripe; op = ReadStripe }) ∷ []
   pub calls : (i : ℕ) → calls_in new.calls i ≡ calls_with old.calls brick.0 (length old.operations.items + 1) i
   pub rest : new ≡ record old { operations = new.operations; calls = new.calls }
 

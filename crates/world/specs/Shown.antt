@@ -72,7 +72,6 @@ pub record TellsOperation (kept : OperationRecord) (o : Operation) : Type 0 wher
   pub base : kept.base ≡ o.base
   pub writes : kept.writes ≡ writes o.ask.op
   pub answered : kept.answered ≡ o.answered
-  pub view : kept.view.0 ≡ o.view
   pub mark : kept.mark ≡ o.mark
 
 -- what is kept of the operation of a number

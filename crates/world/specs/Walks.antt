@@ -51,7 +51,7 @@ operation_of kept =
       answered = kept.answered;
       mark = kept.mark;
       closed = None;
-      view = kept.view.0;
+      view = 0;
       floor = λ i. first_stamp;
     }
 

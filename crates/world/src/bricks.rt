@@ -1,9 +1,8 @@
 //! The bricks of a world: each is a disk in memory, and the brick that runs over it while it is up.
 
 ghost use Rattle.std.specs.Prelude.{◌≡◌, ◌≢◌, ◌+◌, ◌^◌, ◌<◌, ◌≤◌, true, false, List, Some, Err, IfOk, IfSome, OnErr, vec_len, length, map};
-ghost use Rattle.fab_base.specs.Layouts.{group_of};
 ghost use Rattle.protocol.specs.Nodes as machine;
-ghost use Rattle.protocol.specs.Nodes.{ticked, view_at};
+ghost use Rattle.protocol.specs.Nodes.{ticked};
 ghost use Rattle.protocol.specs.Worlds.{first_world};
 ghost use Rattle.stripe_code.specs.Codes.{coding};
 ghost use Rattle.coord_phase.specs.Messages.{packets_from};
@@ -15,7 +14,7 @@ ghost use Rattle.world.specs.Disks.{ShowsDisk, AreFreshDisks, KeepsOthers};
 ghost use Rattle.world.specs.Shown.{Rests, IsRunning, IsFreshBrick, ShowsBricks, Takes, TurnsOn, FindsUp, IsUp, AreNodesOf, HandsOver, RefusesBrick, BeginsBrick, RefusesProposal, ProposesBrick, RefusesSync, SyncsBrick, BricksStay, StopsBrick, StartsBrick, most_sent, reads_begun, disk_in, disks_of, running_at, unopened};
 
 use brick_store::OpenFault;
-use fab_base::{Ask, BrickId, GroupId, IoFault, NoMem, ViewNo};
+use fab_base::{Ask, BrickId, GroupId, IoFault, NoMem};
 use fab_disk::{Armed, MemDisk, Plan};
 use layout::Layout;
 use lines::Fault;
@@ -143,7 +142,7 @@ fn start_over(
     }
 }
 
-// The same, with a layout of its own.
+/// The same, with a layout of its own.
 fn open_over(
     alloc: Global,
     layout: Layout,
@@ -198,7 +197,7 @@ fn fresh_brick(alloc: Global, layout: &Layout, me: BrickId) -> Result<Brick, NoM
     with_clock(power, started)
 }
 
-// A brick whose clock is at 0, where it started.
+/// A brick whose clock is at 0, where it started.
 fn with_clock(power: Power, started: Result<bool, NoMem>) -> Result<Brick, NoMem>
     ensures { IfOk result (λ brick. (brick.power ≡ power) × (brick.clock ≡ 0) × OnErr started ⊥) }
 {
@@ -261,21 +260,6 @@ pub fn ask_brick(bricks: &mut Vec<Brick>, number: BrickId, ask: &Ask) -> Result<
     let brick = &mut bricks[number.0 as usize];
     match &mut brick.power {
         Power::Up(node) => node.invoke(brick.clock, ask),
-        Power::Down(_) => unreachable!(),
-    }
-}
-
-/// The number of the view of a group of the layout that a brick which is up has learnt.
-pub fn view_of(bricks: &[Brick], number: BrickId, group: GroupId) -> ViewNo
-    requires { IsUp bricks.now number }
-    ensures { IfSome (running_at bricks.now number.0) (λ node. (kept : _) → group_of node.layout group.0 ≡ Some kept
-        → result.0 ≡ view_at (state_of node) group.0) }
-{
-    match &bricks[number.0 as usize].power {
-        Power::Up(node) => match node.learnt(group) {
-            Some(view) => view.number,
-            None => ViewNo(1),
-        },
         Power::Down(_) => unreachable!(),
     }
 }
@@ -354,7 +338,7 @@ pub fn hand_over(
     }
 }
 
-// The one fault of a sound brick that is asked for nothing.
+/// The one fault of a sound brick that is asked for nothing.
 fn memory_refused(fault: NodeFault) -> NoMem
     requires { fault ≡ NodeFault.NoMemory }
 {

@@ -185,6 +185,7 @@ fn members_among(members: &Members, numbers: &[u64]) -> usize
 fn quorum_of(m: u8, members: &Members) -> usize
     ensures { result ≡ q_of m (length members.now) }
 {
+    // Not by a `Policy`, which has m seats at least: the list before view 1 is empty.
     let n = members.as_slice().len();
     n - n.saturating_sub(usize::from(m)) / 2
 }

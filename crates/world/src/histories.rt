@@ -10,7 +10,7 @@ ghost use Rattle.world.specs.Shown.{ChangesAt, made_kept, seen_kept, ended_kept,
 use crate::call_numbers::CallNumbers;
 use crate::deliveries::Deliveries;
 use crate::sendings::Sendings;
-use fab_base::{Answer, Ask, BrickId, Cause, GroupId, NoMem, Op, Stamp, StripeNo, ViewNo};
+use fab_base::{Answer, Ask, BrickId, Cause, GroupId, NoMem, Op, Stamp, StripeNo};
 use messages::{Call, Messages, Packet};
 use node::{Begun, Outs};
 use protocol::{Answered, Report, Told};
@@ -46,8 +46,6 @@ pub struct OperationRecord {
     pub writes: bool,
     /// Whether it was answered, and not aborted.
     pub answered: bool,
-    /// The view of its group that it runs in.
-    pub view: ViewNo,
     /// The number of its marks, 0 where it has none.
     pub mark: u64,
 }
@@ -289,11 +287,11 @@ impl History {
     }
 
     /// Notes an operation that begins, and what it sends.
-    pub fn begin(&mut self, brick: BrickId, boot: u32, view: ViewNo, ask: Ask, begun: Begun)
+    pub fn begin(&mut self, brick: BrickId, boot: u32, ask: Ask, begun: Begun)
         requires room { HasStepRoom self.old }
         requires call { HasCallRoom self.old.calls brick.0 }
         requires few { vec_len begun.messages ≤ most_sent }
-        ensures { NotesBegin self.old self.new brick boot view ask begun }
+        ensures { NotesBegin self.old self.new brick boot ask begun }
     {
         let Begun { seq, messages } = begun;
         let position = self.marks.len() as u64;
@@ -311,7 +309,6 @@ impl History {
             base: None,
             writes: writes(&ask.op),
             answered: false,
-            view,
             mark: operation,
         });
         self.marked.push_reserved(number);
@@ -371,7 +368,6 @@ impl History {
             base: None,
             writes: false,
             answered: false,
-            view: call.view,
             mark: 0,
         });
         self.calls.add(brick, number);

@@ -7,7 +7,7 @@ ghost use Rattle.world.specs.Runs.{ask_of, block_no, group_no, member_no, op_of}
 
 use crate::bricks::{
     Brick, ask_brick, ask_to_propose, ask_to_sync, boot_of, find_up, fresh_bricks, hand_over,
-    start_brick, stop_brick, tick_brick, view_of,
+    start_brick, stop_brick, tick_brick,
 };
 use crate::histories::{History, packet_at};
 use fab_base::{Ask, BrickId, GroupId, NoMem, Op, Refusal, StripeNo};
@@ -202,10 +202,9 @@ impl Simulation {
     {
         self.history.expect_call(alloc, brick)?;
         let boot = boot_of(&self.bricks, brick);
-        let view = view_of(&self.bricks, brick, ask.group);
         match ask_brick(&mut self.bricks, brick, &ask) {
             Ok(begun) => {
-                self.history.begin(brick, boot, view, ask, begun);
+                self.history.begin(brick, boot, ask, begun);
                 Ok(Outcome::Marks)
             }
             Err(NodeFault::Refused(refusal)) => Ok(Outcome::Refused(refusal)),

@@ -11,7 +11,7 @@ returns c =
     record {
       operations = c.push_reserved.ensures.items
           ∙ ap (λ (p : ℕ). old.operations.items
-          ++ begun_kept c.args.brick call.boot call.seq p call.view 0 (record { group = call.group; stripe = call.stripe; op = ReadStripe }) ∷ [])
+          ++ begun_kept c.args.brick call.boot call.seq p 0 (record { group = call.group; stripe = call.stripe; op = ReadStripe }) ∷ [])
           (c.len-begin.ensures ∙ old.marks.ok.0);
       calls = λ i. c.add.ensures i ∙ ap (λ (n : ℕ). calls_with old.calls c.args.brick.0 (n + 1) i) (c.len.ensures ∙ old.operations.ok.0);
       rest = refl;

@@ -8,15 +8,15 @@ use Rattle.node.specs.Running.{state_of}
 use Rattle.node.specs.declared.faults.NodeFault.{NodeFault}
 use Rattle.node.specs.declared.outs.Begun.{Begun}
 use Rattle.protocol.specs.Settings.{Setting}
-use Rattle.protocol.specs.Nodes.{Node, NodeStep, view_at, invoked, refusal_of}
+use Rattle.protocol.specs.Nodes.{Node, NodeStep, invoked, refusal_of}
 use Rattle.protocol.specs.Worlds.{is_brick}
 use Rattle.world.specs.Shown.{IsUp, running_at}
 use Rattle.world.specs.declared.bricks.Brick.{Brick}
 use Rattle.world.specs.Texts.{refused_or_begun}
-use Rattle.world.proofs.MachineBegins.{begun_group, refusal_here, invoked_boot, invoked_next, happens_refused}
+use Rattle.world.proofs.MachineBegins.{refusal_here, invoked_boot, invoked_next, happens_refused}
 use Rattle.fab_disk.specs.MemDisk.{content_of}
 use Rattle.fab_disk.specs.declared.mem_disk.MemDisk.{MemDisk}
-use Rattle.world.proofs.BrickListLemmas.{TellsView, boots_as, view_as, up_there}
+use Rattle.world.proofs.BrickListLemmas.{boots_as, up_there}
 use Rattle.world.proofs.SimulationLemmas.{on_err_always, shows_begun, shows_still}
 use Rattle.world.proofs.simulations.Simulation.begin.Goals as goal
 
@@ -25,9 +25,6 @@ ask_brick-requires c = c.requires
 
 pub boot_of-boot-requires : goal.boot_of-boot-requires
 boot_of-boot-requires c = subst (λ (bricks : List Brick). IsUp bricks c.args.brick) (sym c.deref.ensures.value) c.requires
-
-pub view_of-view-requires : goal.view_of-view-requires
-view_of-view-requires c = subst (λ (bricks : List Brick). IsUp bricks c.args.brick) (sym c.deref-2.ensures.value) c.requires
 
 pub returns-in_err-expect_call-clause-err : goal.returns-in_err-expect_call-clause-err
 returns-in_err-expect_call-clause-err c =
@@ -48,15 +45,10 @@ returns-in-Ok-clause-ok c = record {
       boots_as c.args.layout.now c.args.self.now.bricks.items w c.args.brick c.boot_of-boot.result c.requires
       (subst (λ (bricks : List Brick). IfSome (running_at bricks c.args.brick.0) (λ one. c.boot_of-boot.result ≡ (state_of one).boot))
       c.deref.ensures.value c.boot_of-boot.ensures) shows.bricks in
-      let view : c.view_of-view.result.0 ≡ view_at node c.args.ask.group.0 =
-      (let kept = begun_group c.args.layout.now node c.args.ask none in
-      view_as c.args.layout.now c.args.self.now.bricks.items w c.args.brick c.args.ask.group c.view_of-view.result c.requires
-      (subst (λ (bricks : List Brick). IfSome (running_at bricks c.args.brick.0) (TellsView c.args.ask.group c.view_of-view.result))
-      c.deref-2.ensures.value c.view_of-view.ensures) shows.bricks kept.0 kept.1) in
       shows_begun c.args.layout.now _ w c.args.brick c.args.ask up none begun.2
       (c.begin.ensures step begun.0 (was ∙ sym boot) begun.1 w (c.expect_call.ensures.same w shows.history)
       (and_parts (is_brick c.args.layout.now c.args.brick) (w.up c.args.brick.0) up).1
-      (record { boot = boot; seq = invoked_next setting c.args.brick (w.clocks c.args.brick.0) node c.args.ask none }, view)));
+      (record { boot = boot; seq = invoked_next setting c.args.brick (w.clocks c.args.brick.0) node c.args.ask none })));
   outcome_is = λ w shows.
       sym (ap refused_or_begun (refusal_here (coding c.args.layout.now) w c.args.brick c.args.ask (up_there c.args.layout.now _ w _ c.requires shows.bricks)
       ∙ c.in-Ok.ensures.refused c.args.layout.now w shows.bricks));
