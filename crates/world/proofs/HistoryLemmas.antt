@@ -3,7 +3,8 @@ use Rattle.std.proofs.Common.{◌≡◌, ◌≢◌, ℕ, zero, suc, ◌+◌, ◌
 use Rattle.std.specs.Prelude.{slice_get, is_some, unwrap_or, if◌then◌else◌}
 use Rattle.std.specs.Option.{option_map}
 use Rattle.std.proofs.lemmas.Bool.{cond_both, eqb-true, eqb-false, ne_eqb, cases_eq, cases_lt}
-use Rattle.std.proofs.lemmas.List.{get_or_append_left}
+use Rattle.std.specs.Vec.{with_items}
+use Rattle.std.proofs.lemmas.List.{get_or_append_left, with_items_is}
 use Rattle.std.proofs.lemmas.Option.{slice_get_past, slice_get-get_or}
 use Rattle.fab_base.specs.declared.answers.Answer.{Answer}
 use Rattle.fab_base.specs.declared.answers.Cause.{Cause}
@@ -135,6 +136,21 @@ tells_sent seqs old new w more rest sent tells =
       operations = tells.operations;
       calls = tells.calls;
     })
+
+-- what is sent and then reported changes only that
+pub spoken : (old mid new : History) → mid ≡ record old { sent = mid.sent } → new ≡ record mid { reports = new.reports }
+    → new ≡ record old { sent = new.sent; reports = new.reports }
+spoken old mid new sends reports =
+    reports ∙ ap (λ (h : History). record h { reports = new.reports }) sends
+    ∙ ap (λ (h : History). record old { sent = h.sent; reports = new.reports }) (sym reports)
+
+-- so after a call was counted
+pub spoken_aside : (old counted mid new : History) → counted ≡ record old { calls = counted.calls } → mid ≡ record counted { sent = mid.sent }
+    → new ≡ record mid { reports = new.reports } → new ≡ record old { sent = new.sent; reports = new.reports; calls = new.calls }
+spoken_aside old counted mid new counts sends reports =
+    let all = spoken counted mid new sends reports in
+    all ∙ ap (λ (h : History). record h { sent = new.sent; reports = new.reports }) counts
+    ∙ ap (λ (h : History). record old { sent = new.sent; reports = new.reports; calls = h.calls }) (sym all)
 
 -- something was sent, and reported
 pub tells_spoken : (seqs : ℕ → ℕ) (old new : History) (w : World) (packets : List Packet) (reports : List (BrickId × Report))
@@ -466,6 +482,31 @@ changes_at kept number default change some within n =
     let apart : n + 1 ≢ number = eqb-false (n + 1) number there in
     let other : n ≢ number - 1 = (λ e. apart (omega arith)) in
     set_elsewhere kept (number - 1) (change (get_or kept (number - 1) default)) n other)
+
+-- what is kept of the operation of a call that was found changed
+pub call_changes : (old : History) (b seq number : ℕ) (change : OperationRecord → OperationRecord) (kept after : List OperationRecord)
+    → Some number ≡ call_at (calls_in old.calls b) seq → kept ≡ old.operations.items → length after ≡ vec_len old.operations
+    → ChangesAt kept after number change → ChangesCall old (record old { operations = with_items old.operations after }) b seq change
+call_changes old b seq number change kept after here are count changed = record {
+  changed = subst (λ (l : List OperationRecord). ChangesAt old.operations.items l (number_in old b seq) change)
+      (sym (with_items_is old.operations after count))
+      (subst (λ n. ChangesAt old.operations.items after n change) (ap (λ (n : Option ℕ). unwrap_or n 0) here)
+      (subst (λ (l : List OperationRecord). ChangesAt l after number change) are changed));
+  count = refl;
+  room = refl;
+  rest = refl;
+}
+
+-- and nothing where there is none
+pub call_stays : (old : History) (b seq : ℕ) (change : OperationRecord → OperationRecord) → None ≡ call_at (calls_in old.calls b) seq
+    → ChangesCall old old b seq change
+call_stays old b seq change none = record {
+  changed = subst (λ n. ChangesAt old.operations.items old.operations.items n change) (ap (λ (n : Option ℕ). unwrap_or n 0) none)
+      (changes_none old.operations.items 0 change refl);
+  count = refl;
+  room = refl;
+  rest = refl;
+}
 
 -- each call so far is of an operation, or of none, and has the number of that
 pub has_number : (seqs : ℕ → ℕ) (history : History) (w : World) (b seq : ℕ) → TellsAt seqs history w → w.up b ≡ true → IsOfCall (seqs b) seq

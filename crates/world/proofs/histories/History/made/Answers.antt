@@ -1,12 +1,13 @@
 -- The operation is that of the call.
+use Rattle.std.proofs.Common.{◌∙◌}
 use Rattle.world.specs.Shown.{made_kept}
-use Rattle.world.proofs.KeptNumbers.{call_changes, call_stays}
+use Rattle.world.proofs.HistoryLemmas.{call_changes, call_stays}
 use Rattle.world.proofs.histories.History.made.Goals as goal
 
 pub returns-in-Some : goal.returns-in-Some
 returns-in-Some c =
-    call_changes c.args.self.now c.args.brick.0 c.args.seq c.in-Some.number (made_kept c.args.stamp c.args.base) _ c.in-Some.ensures
-    c.deref_mut.ensures.value c.deref_mut.ensures.len c.note_made.auto.operations c.note_made.ensures
+    call_changes c.args.self.now c.args.brick.0 c.args.seq c.in-Some.number (made_kept c.args.stamp c.args.base) c.deref_mut.result.now _
+    c.in-Some.ensures c.deref_mut.ensures.value (c.note_made.auto.operations ∙ c.deref_mut.ensures.len) c.note_made.ensures
 
 pub returns-in_default : goal.returns-in_default
 returns-in_default c = call_stays c.args.self.now c.args.brick.0 c.args.seq (made_kept c.args.stamp c.args.base) c.in_default.ensures
