@@ -3,7 +3,7 @@ use Rattle.std.proofs.Common.{◌≡◌, ◌≢◌, ℕ, zero, suc, ◌<◌, Boo
 use Rattle.std.specs.Option.{option_map}
 use Rattle.std.specs.Prelude.{slice_get}
 use Rattle.std.proofs.lemmas.Bool.{eqb-true, eqb-false}
-use Rattle.std.proofs.lemmas.Option.{slice_get-map, slice_get_read}
+use Rattle.std.proofs.lemmas.Option.{same_Some, slice_get-map, slice_get_read, slice_get-get_or, slice_get_within}
 use Rattle.fab_base.specs.Layouts.{Layout}
 use Rattle.fab_base.specs.declared.identities.BrickId.{BrickId}
 use Rattle.fab_disk.specs.MemDisk.{content_of}
@@ -20,6 +20,10 @@ map_same : {A B : Type 0} (f : A → B) (xs : List A) (k : ℕ) (old new : A) �
 map_same f [] k old new is same = refl
 map_same f (x ∷ xs) zero old new is same = ap (λ y. y ∷ map f xs) (same ∙ ap f is)
 map_same f (x ∷ xs) (suc k) old new is same = ap (λ ys. f x ∷ ys) (map_same f xs k old new is same)
+
+-- what a place holds
+pub brick_is : (bricks : List Brick) (b : ℕ) (brick : Brick) → slice_get bricks b ≡ Some brick → brick ≡ get_or bricks b brick
+brick_is bricks b brick at = same_Some brick (get_or bricks b brick) (sym at ∙ slice_get-get_or bricks b brick (slice_get_within bricks b brick at))
 
 -- the disks, where a brick has the disk that it had
 pub disks_same : (bricks : List Brick) (b : ℕ) (old new : Brick) → old ≡ get_or bricks b old → disk_in new.power ≡ disk_in old.power

@@ -234,18 +234,15 @@ module _ (layout : Layout) (me : BrickId) (state after : machine.Node) (fault : 
             (opens.run tt reached.frames reached.closed
             (subst (λ (image : List ℕ). OpensAs (shape_at layout me) reached.frames reached.closed image) (sym arms.content) reached.opens)).spared refl
             (subst (λ (p : Plan). IsWithin (opening_calls (opens_appendable (shape_at layout me) reached.frames reached.closed)) p) (sym arms.planned) reached.within);
-        on = λ other. (
-          refl,
-          record {
-            layout_is = same.layout ∙ layout_is;
-            me_is = same.me ∙ me_is;
-            state_is = state_same ∙ is;
-            kept = kept_still layout me next node.brick.disk up.brick.disk still
-                (subst (λ (s : machine.Node). ShowsDisk layout me s node.brick.disk) is stands);
-            runs = halted ∙ runs;
-            sound = sound (unlisted_after node.brick.disk Whole opens);
-          },
-        );
+        on = record {
+          layout_is = same.layout ∙ layout_is;
+          me_is = same.me ∙ me_is;
+          state_is = state_same ∙ is;
+          kept = kept_still layout me next node.brick.disk up.brick.disk still
+              (subst (λ (s : machine.Node). ShowsDisk layout me s node.brick.disk) is stands);
+          runs = halted ∙ runs;
+          sound = sound (unlisted_after node.brick.disk Whole opens);
+        };
         lists = record {
           after = node.brick.listed;
           is_listed = listed_by layout me up node.brick.listed (same.layout ∙ layout_is) (same.me ∙ me_is) shape listed long;
@@ -414,11 +411,8 @@ module _ (layout : Layout) (me : BrickId) (state : machine.Node) (time : ℕ) (p
         told = steps.told ∙ ap (λ (s : machine.NodeStep). s.told) steps_there;
         answers = steps.answers ∙ ap (λ (s : machine.NodeStep). s.answers) steps_there;
         reports = steps.reports ∙ ap (λ (s : machine.NodeStep). s.reports) steps_there;
-        on = λ after. (
-          refl,
-          on_there next new up stays_new stays_up is up_is
-              (kept_still layout me next new.brick.disk up.brick.disk still stands) halted (sound (run.stays unlisted_here)),
-        );
+        on = on_there next new up stays_new stays_up is up_is
+            (kept_still layout me next new.brick.disk up.brick.disk still stands) halted (sound (run.stays unlisted_here));
         spared = λ reached.
             let n : reached.listed ≡ armed.brick.listed =
             listed_once (shape_at layout me) (content_of node.brick.disk) reached.listed armed.brick.listed reached.is_listed listed_there

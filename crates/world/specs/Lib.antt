@@ -9,6 +9,7 @@ pub mod Disks
 pub mod Texts
 pub mod Shown
 pub mod Noted
+pub mod BrickSteps
 pub mod Walks
 pub mod Steps
 pub mod Standing

@@ -185,15 +185,19 @@ pub record IsNodeOf (layout : Layout) (i : ℕ) (power : Power) : Type 0 where
 abbrev pub AreNodesOf : Layout → List Brick → Type 0
 AreNodesOf layout bricks = (i : ℕ) (brick : Brick) → slice_get bricks i ≡ Some brick → IsNodeOf layout i brick.power
 
--- it is on, and no call of it has failed or will
-abbrev pub IsOn : Power → Type 0
-IsOn (Up node) = (node.brick.halted ≡ false) × IsSound node.brick.disk
-IsOn (Down disk) = ⊥
+-- a brick is up, and this holds of what runs
+abbrev pub IsUpWith : Power → (Running MemDisk → Type 0) → Type 0
+IsUpWith (Up node) Holds = Holds node
+IsUpWith (Down disk) Holds = ⊥
+
+-- it runs as the brick that it says it is
+abbrev pub Runs : Running MemDisk → Type 0
+Runs node = IsRunning node.layout node.me (state_of node) node
 
 -- a brick that is up
 pub record IsUp (bricks : List Brick) (brick : BrickId) : Type 0 where
   pub within : brick.0 < length bricks
-  pub on : (x : Brick) → slice_get bricks brick.0 ≡ Some x → IsOn x.power
+  pub on : (x : Brick) → slice_get bricks brick.0 ≡ Some x → IsUpWith x.power Runs
 
 -- what runs as the brick of a number, where there is one and it is up
 abbrev pub node_in : Power → Option (Running MemDisk)
@@ -223,7 +227,7 @@ pub record TookWhole (layout : Layout) (me : BrickId) (state : machine.Node) (ti
   pub told : outs.told ≡ (machine.received (coding layout) me time state packet).told
   pub answers : outs.answers ≡ (machine.received (coding layout) me time state packet).answers
   pub reports : outs.reports ≡ (machine.received (coding layout) me time state packet).reports
-  pub on : (after : machine.Node) → ShowsPower layout me (machine.received (coding layout) me time state packet).node after true power
+  pub on : IsUpWith power (IsRunning layout me (machine.received (coding layout) me time state packet).node)
   pub spared : IsReached layout me state packet disk (plan_of fault) → ⊥
   pub still : ((listed : ℕ) → packet_calls layout me state packet listed ≡ 0) → IsUnwritten disk (disk_in power)
   pub lists : ListsPacket layout me state packet disk (disk_in power)
@@ -236,18 +240,19 @@ pub record TookPart (layout : Layout) (me : BrickId) (state : machine.Node) (pac
   pub left : IsLeft layout me (machine.stopped state) (machine.stopped (machine.absorbed (coding layout) me state packet))
       (packet_calls layout me state packet reached.listed) fault (disk_in power)
 
--- or memory was refused, and nothing has changed
+-- or memory was refused: it is as it was, and a read of its disk gives what it gave
 abbrev pub Takes : Layout → BrickId → machine.Node → ℕ → Packet → MemDisk → Option Fault → Power → Result (Option Sent) NoMem → Type 0
 Takes layout me state time packet disk fault power (Ok (Some outs)) = TookWhole layout me state time packet disk fault power outs
 Takes layout me state time packet disk fault power (Ok None) = TookPart layout me state packet disk fault power
-Takes layout me state time packet disk fault power (Err refused) = (after : machine.Node) → ShowsPower layout me state after true power
+Takes layout me state time packet disk fault power (Err refused) =
+    IsUpWith power (IsRunning layout me state) × (content_of (disk_in power) ≡ content_of disk)
 
 -- A brick that was down was started, with what its disk was found to hold.
 pub record WasStarted (layout : Layout) (me : BrickId) (state after : machine.Node) (disk : MemDisk) (fault : Option Fault) (power : Power) : Type 0 where
   pub finds : Finds layout me state after disk
   pub may : machine.may_open (finds.openings + 1) state ≡ true
   pub spared : IsReachedOpening layout me disk (plan_of fault) → ⊥
-  pub on : (other : machine.Node) → ShowsPower layout me (machine.restarted (finds.openings + 1) (found_of state after finds.found)) other true power
+  pub on : IsUpWith power (IsRunning layout me (machine.restarted (finds.openings + 1) (found_of state after finds.found)))
   pub lists : ListsOpening layout me (found_of state after finds.found) disk (disk_in power)
 
 -- or its store can't be opened once more
@@ -271,87 +276,8 @@ abbrev pub TurnsOn : Layout → BrickId → machine.Node → machine.Node → Me
 TurnsOn layout me state after disk fault power (Ok true) = WasStarted layout me state after disk fault power
 TurnsOn layout me state after disk fault power (Ok false) =
     IsWorn layout me state after disk power ⊎ WasCutShort layout me state after disk fault power
-TurnsOn layout me state after disk fault power (Err refused) = ShowsPower layout me state after false power
-
--- The bricks after one that is up was handed a message: it took it whole, or a call was befallen in the midst of that and it is down, or
--- memory was refused.
-pub record HandledWhole (layout : Layout) (w : World) (number : BrickId) (packet : Packet) (fault : Option Fault) (old new : List Brick) (outs : Sent) : Type 0 where
-  pub packets : packets_from number outs.messages ≡ (machine.received (coding layout) number (w.clocks number.0) (w.nodes number.0) packet).packets
-  pub told : outs.told ≡ (machine.received (coding layout) number (w.clocks number.0) (w.nodes number.0) packet).told
-  pub answers : outs.answers ≡ (machine.received (coding layout) number (w.clocks number.0) (w.nodes number.0) packet).answers
-  pub reports : outs.reports ≡ (machine.received (coding layout) number (w.clocks number.0) (w.nodes number.0) packet).reports
-  pub bricks : ShowsBricks layout new
-      (machine.put w.nodes number.0 (machine.received (coding layout) number (w.clocks number.0) (w.nodes number.0) packet).node) w.after w.up w.clocks
-  pub spared : (disk : MemDisk) → slice_get (disks_of old) number.0 ≡ Some disk
-      → IsReached layout number (w.nodes number.0) packet disk (plan_of fault) → ⊥
-  pub still : ((listed : ℕ) → packet_calls layout number (w.nodes number.0) packet listed ≡ 0) → AreUnwritten (disks_of old) (disks_of new)
-  pub lists : OfDisk number (ListsPacket layout number (w.nodes number.0) packet) (disks_of old) (disks_of new)
-
-pub record HandledPart (layout : Layout) (w : World) (number : BrickId) (packet : Packet) (fault : Option Fault) (old new : List Brick) : Type 0 where
-  pub disk : MemDisk
-  pub disk_is : slice_get (disks_of old) number.0 ≡ Some disk
-  pub reached : IsReached layout number (w.nodes number.0) packet disk (plan_of fault)
-  pub bricks : ShowsBricks layout new (machine.put w.nodes number.0 (machine.stopped (w.nodes number.0)))
-      (machine.put w.after number.0 (machine.stopped (machine.absorbed (coding layout) number (w.nodes number.0) packet)))
-      (machine.put w.up number.0 false) w.clocks
-  pub left : (one : MemDisk) → slice_get (disks_of new) number.0 ≡ Some one → IsLeft layout number (machine.stopped (w.nodes number.0))
-      (machine.stopped (machine.absorbed (coding layout) number (w.nodes number.0) packet))
-      (packet_calls layout number (w.nodes number.0) packet reached.listed) fault one
-
-abbrev pub HandledAs : Layout → World → BrickId → Packet → Option Fault → List Brick → List Brick → Result (Option Sent) NoMem → Type 0
-HandledAs layout w number packet fault old new (Ok (Some outs)) = HandledWhole layout w number packet fault old new outs
-HandledAs layout w number packet fault old new (Ok None) = HandledPart layout w number packet fault old new
-HandledAs layout w number packet fault old new (Err refused) = ShowsBricks layout new w.nodes w.after w.up w.clocks
-
--- so it did in each world that the bricks show
-abbrev pub HandsOver : List Brick → List Brick → BrickId → Packet → Option Fault → Result (Option Sent) NoMem → Type 0
-HandsOver old new number packet fault result = (layout : Layout) (w : World) → ShowsBricks layout old w.nodes w.after w.up w.clocks
-    → HandledAs layout w number packet fault old new result
-
--- a brick was asked, and refused it or not as the machine's does
-abbrev pub RefusesBrick : List Brick → BrickId → Ask → Result Begun NodeFault → Type 0
-RefusesBrick old number ask result = (layout : Layout) (w : World) → ShowsBricks layout old w.nodes w.after w.up w.clocks
-    → RefusesAs result (machine.refusal_of layout (w.nodes number.0) ask)
-
--- it began the operation as the machine's does
-abbrev pub BeginsBrick : List Brick → List Brick → BrickId → Ask → Begun → Type 0
-BeginsBrick old new number ask begun = (layout : Layout) (w : World) → ShowsBricks layout old w.nodes w.after w.up w.clocks
-    → (let step = machine.invoked (coding layout) number (w.clocks number.0) (w.nodes number.0) ask in
-    (packets_from number begun.messages.items ≡ step.packets) × (begun.seq ≡ step.node.seq)
-    × ShowsBricks layout new (machine.put w.nodes number.0 step.node) w.after w.up w.clocks)
-
--- a brick was asked to propose, and refused it or not as the machine's does
-abbrev pub RefusesProposal : List Brick → BrickId → GroupId → Result Sent NodeFault → Type 0
-RefusesProposal old number group result = (layout : Layout) (w : World) → ShowsBricks layout old w.nodes w.after w.up w.clocks
-    → RefusesAs result (machine.proposal_refusal layout (w.nodes number.0) group.0)
-
--- The bricks after one took a step that is the machine's: so is what it sends, tells, answers and reports.
-pub record SteppedAs (layout : Layout) (w : World) (number : BrickId) (step : machine.NodeStep) (new : List Brick) (outs : Sent) : Type 0 where
-  pub packets : packets_from number outs.messages ≡ step.packets
-  pub told : outs.told ≡ step.told
-  pub answers : outs.answers ≡ step.answers
-  pub reports : outs.reports ≡ step.reports
-  pub bricks : ShowsBricks layout new (machine.put w.nodes number.0 step.node) w.after w.up w.clocks
-
--- so it did in each world that the bricks show
-abbrev pub ProposesBrick : List Brick → List Brick → BrickId → GroupId → List BrickId → Sent → Type 0
-ProposesBrick old new number group members outs = (layout : Layout) (w : World) → ShowsBricks layout old w.nodes w.after w.up w.clocks
-    → SteppedAs layout w number (machine.proposed (coding layout) number (w.nodes number.0) group members) new outs
-
--- a brick was asked to synchronise, and refused it or not as the machine's does
-abbrev pub RefusesSync : List Brick → BrickId → GroupId → Result Sent NodeFault → Type 0
-RefusesSync old number group result = (layout : Layout) (w : World) → ShowsBricks layout old w.nodes w.after w.up w.clocks
-    → RefusesAs result (machine.sync_refusal layout (w.nodes number.0) group.0)
-
--- it began to synchronise as the machine's does
-abbrev pub SyncsBrick : List Brick → List Brick → BrickId → GroupId → Sent → Type 0
-SyncsBrick old new number group outs = (layout : Layout) (w : World) → ShowsBricks layout old w.nodes w.after w.up w.clocks
-    → SteppedAs layout w number (machine.synced_at (coding layout) number (w.clocks number.0) (w.nodes number.0) group) new outs
-
--- the bricks show what they showed
-abbrev pub BricksStay : Layout → List Brick → List Brick → Type 0
-BricksStay layout old new = (w : World) → ShowsBricks layout old w.nodes w.after w.up w.clocks
-    → ShowsBricks layout new w.nodes w.after w.up w.clocks
+TurnsOn layout me state after disk fault power (Err refused) =
+    ShowsPower layout me state after false power × (content_of (disk_in power) ≡ content_of disk)
 
 -- The history tells the machine's world, where each brick has made so many calls: every message, and which were delivered, every mark, every report, each
 -- operation, those that have marks by these, and the operations of the calls so far of each brick that is up.
@@ -471,11 +397,6 @@ pub record StartsAs (layout : Layout) (w : World) (brick : BrickId) (fault : Opt
   pub comes : (if started then Marks else Idle) ≡ came_to (coding layout) w events
   pub tells : (history : History) → Tells history w → Tells history (run (coding layout) events w)
   pub kept : KeepsDisks (coding layout) w events (disks_of old) (disks_of new)
-
--- so it started, or not, in each world that the bricks show
-abbrev pub StartsBrick : Layout → List Brick → List Brick → BrickId → Option Fault → Bool → Type 0
-StartsBrick layout old new number fault started = (w : World) → ShowsBricks layout old w.nodes w.after w.up w.clocks
-    → (events : List Event) × StartsAs layout w number fault old new started events
 
 -- A line came to this outcome, and is these events: the state shows the world after them, and no disk has changed but theirs.
 pub record ComesTo (layout : Layout) (w : World) (disks : List MemDisk) (state : Simulation) (line : Line) (outcome : Outcome)
