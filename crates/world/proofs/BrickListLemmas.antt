@@ -32,7 +32,7 @@ use Rattle.protocol.specs.Nodes as machine
 use Rattle.world.specs.Runs.{brick_of}
 use Rattle.world.specs.Disks.{AreFreshDisks, AreUnwritten, IsUnwritten, ListsPacket, OfDisk, first_listed}
 use Rattle.world.specs.Faults.{IsReached, IsLeft, plan_of}
-use Rattle.world.specs.BrickSteps.{ChangesBrick, RunsOn, Handles}
+use Rattle.world.specs.BrickSteps.{ChangesBrick, RunsOn, DoesHandle}
 use Rattle.world.specs.Shown.{IsRunning, Rests, ShowsPower, ShowsBrick, ShowsBricks, IsFreshBrick, Takes, IsNodeOf, IsUpWith, Runs, IsUp, FindsUp, StopsBrick, AreNodesOf, disk_in, disks_of, node_in, running_at, clock_at}
 use Rattle.lines.specs.declared.forms.Fault.{Fault}
 use Rattle.world.proofs.DiskLemmas.{brick_is, disk_at, disk_set, disks_same, others_kept, contents_same, unwritten_but}
@@ -301,9 +301,21 @@ module _ (layout : Layout) (bricks : List Brick) (number : BrickId) (old : Brick
     contents_same bricks number.0 old (with_power old power) is (took.1 ∙ sym (ap (λ (p : Power). content_of (disk_in p)) on)),
   )
 
+pub handed : (bricks : List Brick) (number : BrickId) (old : Brick) (node : Running MemDisk) (power : Power) (packet : Packet) (fault : Option Fault)
+    (result : Result (Option Outcome) NoMem) → number.0 < length bricks → old ≡ get_or bricks number.0 old → old.power ≡ Up node
+    → Takes node.layout node.me (state_of node) old.clock packet node.brick.disk fault power result
+    → ChangesBrick bricks (set bricks number.0 (with_power old power)) number (DoesHandle packet fault result)
+handed bricks number old node power packet fault result within is on takes = record {
+  brick = old;
+  at = slice_get_read bricks (length bricks) number.0 old refl within is;
+  power = power;
+  now = refl;
+  holds = subst (λ (was : Power). IsUpWith was (λ x. Takes x.layout x.me (state_of x) old.clock packet x.brick.disk fault power result)) (sym on) takes;
+}
+
 pub handled_as : (layout : Layout) (old new : List Brick) (number : BrickId) (packet : Packet) (fault : Option Fault) (w : World)
     (result : Result (Option Outcome) NoMem) → ShowsBricks layout old w.nodes w.after w.up w.clocks
-    → ChangesBrick old new number (Handles packet fault result) → HandledAs layout w number packet fault old new result
+    → ChangesBrick old new number (DoesHandle packet fault result) → HandledAs layout w number packet fault old new result
 handled_as layout old new number packet fault w result shows changes =
     subst (λ (bricks : List Brick). HandledAs layout w number packet fault old bricks result) (sym changes.now) (by changes.brick.power refl changes.holds)
   where

@@ -14,7 +14,8 @@ use Rattle.protocol.specs.Worlds.{World, Event, Starts, Stops, Found, Before, Af
 use Rattle.world.specs.EventCalls.{is_down}
 use Rattle.world.specs.Faults.{IsLeftOpening, StartsDown, Finds, found_of}
 use Rattle.world.specs.Disks.{KeepsOthers, IsUnwritten, ListsOpening, OfDisk}
-use Rattle.world.specs.Shown.{Rests, ShowsPower, ShowsBricks, StartsAs, TurnsOn, WasStarted, IsWorn, WasCutShort, Tells, disk_in, disks_of}
+use Rattle.world.specs.BrickSteps.{ChangesBrick, DoesStart, StartsFrom}
+use Rattle.world.specs.Shown.{ShowsPower, ShowsBricks, StartsAs, TurnsOn, WasStarted, IsWorn, WasCutShort, Tells, disk_in, disks_of}
 use Rattle.world.specs.Texts.{marks_if}
 use Rattle.world.specs.declared.bricks.Brick.{Brick}
 use Rattle.world.specs.declared.bricks.Power.{Power}
@@ -139,7 +140,7 @@ module _ (layout : Layout) (bricks : List Brick) (number : BrickId) (old : Brick
       in
       subst (λ (d : MemDisk). IsLeftOpening layout number (w.nodes number.0) (w.after number.0) disk finds calls fault d) same left
 
-  kept_here : ShowsPower layout number (w.nodes number.0) (w.after number.0) false power → ShowsBricks layout new_bricks w.nodes w.after w.up w.clocks
+  pub kept_here : ShowsPower layout number (w.nodes number.0) (w.after number.0) false power → ShowsBricks layout new_bricks w.nodes w.after w.up w.clocks
   kept_here shown =
       shows_kept layout bricks number.0 old power w within is
       (subst (λ (up : Bool). ShowsPower layout number (w.nodes number.0) (w.after number.0) up power) (sym down_here) shown) shows
@@ -177,7 +178,7 @@ module _ (layout : Layout) (bricks : List Brick) (number : BrickId) (old : Brick
             (subst (λ (up : Bool). ShowsPower layout number (machine.restarted openings (found_of (w.nodes number.0) (w.after number.0) was.finds.found))
             (v.after number.0) up power)
             (sym (ap (λ (f : ℕ → Bool). f number.0) (started_up w number openings was.finds.found) ∙ value_here w.up number.0 number.0 true refl))
-            (was.on (v.after number.0)));
+            (up_power layout number (machine.restarted openings (found_of (w.nodes number.0) (w.after number.0) was.finds.found)) (v.after number.0) power was.on));
         clock = (brick_at layout bricks w number.0 old within is shows).clock
             ∙ sym (ap (λ (f : ℕ → ℕ). f number.0) (started_clocks w number openings was.finds.found));
       })
@@ -258,21 +259,9 @@ module _ (layout : Layout) (bricks : List Brick) (number : BrickId) (old : Brick
       (λ (worn : IsWorn layout number (w.nodes number.0) (w.after number.0) disk power). comes_worn worn)
       (λ (cut : WasCutShort layout number (w.nodes number.0) (w.after number.0) disk fault power). comes_cut cut) was
 
-  pub turns_here : (result : Result Bool NoMem)
-      → ((state after : machine.Node) → Rests layout number state after disk → TurnsOn layout number state after disk fault power result)
-      → TurnsOn layout number (w.nodes number.0) (w.after number.0) disk fault power result
-  turns_here result turns =
-      turns (w.nodes number.0) (w.after number.0) (rests_at layout bricks w number.0 old disk within is off shows).1
-
-  pub starts_as : (started : Bool)
-      → ((state after : machine.Node) → Rests layout number state after disk → TurnsOn layout number state after disk fault power (Ok started))
+  pub starts_as : (started : Bool) → TurnsOn layout number (w.nodes number.0) (w.after number.0) disk fault power (Ok started)
       → (events : List Event) × StartsAs layout w number fault bricks new_bricks started events
-  starts_as started turns = turned_as started (turns_here (Ok started) turns)
-
-  pub starts_refused : (refused : NoMem)
-      → ((state after : machine.Node) → Rests layout number state after disk → TurnsOn layout number state after disk fault power (Err refused))
-      → ShowsBricks layout new_bricks w.nodes w.after w.up w.clocks
-  starts_refused refused turns = kept_here (turns_here (Err refused) turns)
+  starts_as started was = turned_as started was
 
 -- the start of a brick that is up, or that there is not, comes to nothing
 pub starts_not : (layout : Layout) (bricks new : List Brick) (number : BrickId) (fault : Option Fault) (w : World) → is_down layout w number ≡ false
@@ -318,19 +307,54 @@ starts_nowhere layout bricks number fault w past shows =
     starts_not layout bricks bricks number fault w (first_not (is_brick layout number) (not (w.up number.0)) none)
     (first_not (is_brick layout number) (not (w.up number.0) && machine.may_open 1 (w.nodes number.0)) none) refl shows
 
--- what a start of a brick that is down answered
-module _ (layout : Layout) (bricks : List Brick) (number : BrickId) (old : Brick) (disk : MemDisk) (power : Power) (fault : Option Fault)
-    (within : number.0 < length bricks) (is : old ≡ get_or bricks number.0 old) (off : old.power ≡ Down disk) where
-  pub started_result : (result : Result Bool NoMem)
-      → ((state after : machine.Node) → Rests layout number state after disk → TurnsOn layout number state after disk fault power result)
-      → IfOk result (λ started. (w : World) → ShowsBricks layout bricks w.nodes w.after w.up w.clocks
-      → (events : List Event) × StartsAs layout w number fault bricks (set bricks number.0 (with_power old power)) started events)
-  started_result (Ok started) turns = λ w shows. starts_as layout bricks number old disk power fault w within is off shows started turns
-  started_result (Err refused) turns = tt
+-- what a brick that was to start is now
+pub turned : (layout : Layout) (bricks : List Brick) (number : BrickId) (old : Brick) (was power : Power) (fault : Option Fault) (result : Result Bool NoMem)
+    → number.0 < length bricks → old ≡ get_or bricks number.0 old → old.power ≡ was → StartsFrom layout number fault result was power
+    → ChangesBrick bricks (set bricks number.0 (with_power old power)) number (DoesStart layout number fault result)
+turned layout bricks number old was power fault result within is same starts = record {
+  brick = old;
+  at = slice_get_read bricks (length bricks) number.0 old refl within is;
+  power = power;
+  now = refl;
+  holds = subst (λ (p : Power). StartsFrom layout number fault result p power) (sym same) starts;
+}
 
-  pub refused_result : (result : Result Bool NoMem)
-      → ((state after : machine.Node) → Rests layout number state after disk → TurnsOn layout number state after disk fault power result)
-      → OnErr result ((w : World) → ShowsBricks layout bricks w.nodes w.after w.up w.clocks
-      → ShowsBricks layout (set bricks number.0 (with_power old power)) w.nodes w.after w.up w.clocks)
-  refused_result (Ok started) turns = tt
-  refused_result (Err refused) turns = λ w shows. starts_refused layout bricks number old disk power fault w within is off shows refused turns
+-- so it started, or not, or memory was refused
+abbrev pub StartedAs : Layout → World → BrickId → Option Fault → List Brick → List Brick → Result Bool NoMem → Type 0
+StartedAs layout w number fault old new (Ok started) = (events : List Event) × StartsAs layout w number fault old new started events
+StartedAs layout w number fault old new (Err refused) =
+    ShowsBricks layout new w.nodes w.after w.up w.clocks × (map content_of (disks_of new) ≡ map content_of (disks_of old))
+
+pub started_as : (layout : Layout) (old new : List Brick) (number : BrickId) (fault : Option Fault) (w : World) (result : Result Bool NoMem)
+    → ShowsBricks layout old w.nodes w.after w.up w.clocks → ChangesBrick old new number (DoesStart layout number fault result)
+    → StartedAs layout w number fault old new result
+started_as layout old new number fault w result shows changes =
+    subst (λ (bricks : List Brick). StartedAs layout w number fault old bricks result) (sym changes.now)
+    (by result changes.brick.power changes.power refl refl changes.holds)
+  where
+    brick : Brick
+    brick = changes.brick
+
+    within : number.0 < length old
+    within = slice_get_within old number.0 brick changes.at
+
+    is : brick ≡ get_or old number.0 brick
+    is = brick_is old number.0 brick changes.at
+
+    by : (answer : Result Bool NoMem) (was now : Power) → brick.power ≡ was → changes.power ≡ now → StartsFrom layout number fault answer was now
+        → StartedAs layout w number fault old (set old number.0 (with_power brick changes.power)) answer
+    by (Ok true) (Up node) now on same starts = absurd (let never : Ok true ≡ Ok false = starts.1 in cc)
+    by (Ok false) (Up node) now on same starts =
+        subst (λ (p : Power). StartedAs layout w number fault old (set old number.0 (with_power brick p)) (Ok false)) (sym (same ∙ starts.0))
+        (starts_up layout old number brick node fault w within is on shows)
+    by (Err refused) (Up node) now on same starts = absurd (let never : Err refused ≡ Ok false = starts.1 in cc)
+    by (Ok started) (Down disk) now off same starts =
+        starts_as layout old number brick disk changes.power fault w within is off shows started
+        (subst (λ (p : Power). TurnsOn layout number (w.nodes number.0) (w.after number.0) disk fault p (Ok started)) (sym same)
+        (starts (w.nodes number.0) (w.after number.0) (rests_at layout old w number.0 brick disk within is off shows).1))
+    by (Err refused) (Down disk) now off same starts =
+        let turns = subst (λ (p : Power). TurnsOn layout number (w.nodes number.0) (w.after number.0) disk fault p (Err refused)) (sym same)
+        (starts (w.nodes number.0) (w.after number.0) (rests_at layout old w number.0 brick disk within is off shows).1) in (
+          kept_here layout old number brick disk changes.power fault w within is off shows turns.0,
+          contents_same old number.0 brick (with_power brick changes.power) is (turns.1 ∙ sym (ap (λ (p : Power). content_of (disk_in p)) off)),
+        )

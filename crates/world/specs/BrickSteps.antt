@@ -37,7 +37,7 @@ RunsOn Holds brick power =
     × Holds node.layout node.me brick.clock (state_of node) (state_of next)))
 
 -- A brick that is asked for an operation begins it as the machine's does, or refuses it as that does, and stays as it is.
-pub record Asks (ask : Ask) (result : Result Begun NodeFault) (layout : Layout) (me : BrickId) (time : ℕ) (state next : machine.Node) : Type 0 where
+pub record DoesBegin (ask : Ask) (result : Result Begun NodeFault) (layout : Layout) (me : BrickId) (time : ℕ) (state next : machine.Node) : Type 0 where
   pub refused : RefusesAs result (machine.refusal_of layout state ask)
   pub begun : IfOk result (BeginsAs me next (machine.invoked (coding layout) me time state ask))
   pub stays : OnErr result (next ≡ state)
@@ -49,17 +49,17 @@ pub record StepsOrStays (refusal : Option Refusal) (step : machine.NodeStep) (re
   pub stays : OnErr result (next ≡ state)
 
 -- so where it is asked to propose, and so where it is asked to synchronise
-abbrev pub Proposes : GroupId → List BrickId → Result Sent NodeFault → Layout → BrickId → ℕ → machine.Node → machine.Node → Type 0
-Proposes group members result layout me time state next =
+abbrev pub DoesPropose : GroupId → List BrickId → Result Sent NodeFault → Layout → BrickId → ℕ → machine.Node → machine.Node → Type 0
+DoesPropose group members result layout me time state next =
     StepsOrStays (machine.proposal_refusal layout state group.0) (machine.proposed (coding layout) me state group members) result me state next
 
-abbrev pub Syncs : GroupId → Result Sent NodeFault → Layout → BrickId → ℕ → machine.Node → machine.Node → Type 0
-Syncs group result layout me time state next =
+abbrev pub DoesSync : GroupId → Result Sent NodeFault → Layout → BrickId → ℕ → machine.Node → machine.Node → Type 0
+DoesSync group result layout me time state next =
     StepsOrStays (machine.sync_refusal layout state group.0) (machine.synced_at (coding layout) me time state group) result me state next
 
 -- the brick runs, and is handed a message
-abbrev pub Handles : Packet → Option Fault → Result (Option Sent) NoMem → Brick → Power → Type 0
-Handles packet fault result brick power =
+abbrev pub DoesHandle : Packet → Option Fault → Result (Option Sent) NoMem → Brick → Power → Type 0
+DoesHandle packet fault result brick power =
     IsUpWith brick.power (λ node. Takes node.layout node.me (state_of node) brick.clock packet node.brick.disk fault power result)
 
 -- a brick that is up does not start, and one that is down does, where it may, whichever of two its disk holds
@@ -68,5 +68,5 @@ StartsFrom layout me fault result (Up node) power = (power ≡ Up node) × (resu
 StartsFrom layout me fault result (Down disk) power =
     (state after : machine.Node) → Rests layout me state after disk → TurnsOn layout me state after disk fault power result
 
-abbrev pub Starts : Layout → BrickId → Option Fault → Result Bool NoMem → Brick → Power → Type 0
-Starts layout me fault result brick power = StartsFrom layout me fault result brick.power power
+abbrev pub DoesStart : Layout → BrickId → Option Fault → Result Bool NoMem → Brick → Power → Type 0
+DoesStart layout me fault result brick power = StartsFrom layout me fault result brick.power power

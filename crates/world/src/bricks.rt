@@ -12,7 +12,7 @@ ghost use Rattle.node.specs.Running.{shape_at, state_of};
 ghost use Rattle.world.specs.Faults.{LeftBy, plan_of};
 ghost use Rattle.world.specs.Disks.{ShowsDisk, AreFreshDisks};
 ghost use Rattle.world.specs.Shown.{Rests, Runs, IsFreshBrick, ShowsBricks, Takes, TurnsOn, FindsUp, IsUp, AreNodesOf, StopsBrick, most_sent, reads_begun, disk_in, disks_of, running_at, unopened};
-ghost use Rattle.world.specs.BrickSteps.{ChangesBrick, RunsOn, Asks, Proposes, Syncs, Handles, Starts};
+ghost use Rattle.world.specs.BrickSteps.{ChangesBrick, RunsOn, DoesBegin, DoesPropose, DoesSync, DoesHandle, DoesStart};
 
 use brick_store::OpenFault;
 use fab_base::{Ask, BrickId, GroupId, IoFault, NoMem};
@@ -246,7 +246,7 @@ pub fn boot_of(bricks: &[Brick], number: BrickId) -> u32
 /// A brick that is up is asked for an operation. After a refusal of any kind no brick has changed.
 pub fn ask_brick(bricks: &mut Vec<Brick>, number: BrickId, ask: &Ask) -> Result<Begun, NodeFault>
     requires { IsUp bricks.old.items number }
-    ensures asks { ChangesBrick bricks.old.items bricks.new.items number (RunsOn (Asks ask.now result)) }
+    ensures asks { ChangesBrick bricks.old.items bricks.new.items number (RunsOn (DoesBegin ask.now result)) }
     ensures few { IfOk result (λ begun. vec_len begun.messages ≤ 32) }
     ensures not_halted { result ≢ Err NodeFault.Halted }
     ensures not_disk { result ≢ Err NodeFault.Disk }
@@ -266,7 +266,7 @@ pub fn ask_to_propose(
     members: &[BrickId],
 ) -> Result<Outs, NodeFault>
     requires { IsUp bricks.old.items number }
-    ensures asks { ChangesBrick bricks.old.items bricks.new.items number (RunsOn (Proposes group members.now result)) }
+    ensures asks { ChangesBrick bricks.old.items bricks.new.items number (RunsOn (DoesPropose group members.now result)) }
     ensures few { IfOk result (λ outs. length outs.messages ≤ most_sent) }
     ensures not_halted { result ≢ Err NodeFault.Halted }
     ensures not_disk { result ≢ Err NodeFault.Disk }
@@ -285,7 +285,7 @@ pub fn ask_to_sync(
     group: GroupId,
 ) -> Result<Outs, NodeFault>
     requires { IsUp bricks.old.items number }
-    ensures asks { ChangesBrick bricks.old.items bricks.new.items number (RunsOn (Syncs group result)) }
+    ensures asks { ChangesBrick bricks.old.items bricks.new.items number (RunsOn (DoesSync group result)) }
     ensures few { IfOk result (λ outs. length outs.messages ≤ most_sent) }
     ensures reads { IfOk result (λ outs. reads_begun outs.told ≤ 1) }
     ensures not_halted { result ≢ Err NodeFault.Halted }
@@ -308,7 +308,7 @@ pub fn hand_over(
     fault: Option<Fault>,
 ) -> Result<Option<Outs>, NoMem>
     requires { IsUp bricks.old.items number }
-    ensures handles { ChangesBrick bricks.old.items bricks.new.items number (Handles packet.now fault result) }
+    ensures handles { ChangesBrick bricks.old.items bricks.new.items number (DoesHandle packet.now fault result) }
     ensures few { IfOk result (λ outs. IfSome outs (λ sent. length sent.messages ≤ most_sent)) }
     ensures reads { IfOk result (λ outs. IfSome outs (λ sent. reads_begun sent.told ≤ 1)) }
 {
@@ -372,7 +372,7 @@ pub fn start_brick(
 ) -> Result<bool, NoMem>
     requires nodes { AreNodesOf layout.now bricks.old.items }
     requires brick { number.0 < vec_len bricks.old }
-    ensures { ChangesBrick bricks.old.items bricks.new.items number (Starts layout.now number fault result) }
+    ensures { ChangesBrick bricks.old.items bricks.new.items number (DoesStart layout.now number fault result) }
 {
     let brick = &mut bricks[number.0 as usize];
     let nothing = Power::Down(MemDisk::new(alloc, Vec::new(alloc)));

@@ -19,7 +19,7 @@ memory_refused-requires c =
     (ap (λ (x : Brick). get_or c.args.bricks.now c.args.number.0 x) c.index-bricks-number.is)
     c.in-Up.is c.requires
     in
-    let runs = on.0 in
+    let runs = on.runs in
     grind (arith, common_steps)
 
 pub returns-in-Ok : goal.returns-in-Ok
