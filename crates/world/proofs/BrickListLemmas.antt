@@ -1,16 +1,13 @@
 -- What the bricks show, after a step of one of them.
 use Rattle.std.proofs.Common.{◌≡◌, ◌≢◌, ℕ, ◌+◌, ◌<◌, ◌≤◌, ◌&&◌, nat_lt, Bool, true, false, ⊎_elim, List, [], ◌∷◌, ◌++◌, length, set, get_or, map, Option, Some, None, refl, sym, ap, ◌∙◌, subst, arith, length-append}
-use Rattle.std.specs.Prelude.{slice_get, option_and_then, unwrap_or, Result, Ok, Err, IfOk, IfSome, OnErr}
+use Rattle.std.specs.Prelude.{slice_get, option_and_then, unwrap_or, Result, Ok, Err, IfSome}
 use Rattle.std.specs.Option.{option_map}
 use Rattle.std.proofs.lemmas.Bool.Decides.{nat_tests}
 use Rattle.std.proofs.lemmas.List.{length-set}
 use Rattle.std.proofs.lemmas.Bool.{cases_lt}
 use Rattle.std.proofs.lemmas.Option.{same_Some, slice_get_read, slice_get_within, slice_get_past, slice_get-map}
-use Rattle.std.proofs.lemmas.Result.{IfOk-weaker, on_err_weaker}
-use Rattle.fab_base.specs.declared.asks.Ask.{Ask}
 use Rattle.fab_base.specs.declared.faults.NoMem.{NoMem}
 use Rattle.fab_base.specs.declared.identities.BrickId.{BrickId}
-use Rattle.fab_base.specs.declared.identities.GroupId.{GroupId}
 use Rattle.fab_disk.specs.MemDisk.{IsSound, content_of}
 use Rattle.fab_disk.specs.declared.mem_disk.MemDisk.{MemDisk}
 use Rattle.messages.specs.declared.packets.Packet.{Packet}
@@ -18,24 +15,20 @@ use Rattle.messages.specs.declared.packets.Message.{Message}
 use Rattle.coord_phase.specs.Messages.{packets_from}
 use Rattle.brick_store.specs.Bricks.{Brick as Store}
 use Rattle.brick_store.specs.Images.{IsListed}
-use Rattle.node.specs.declared.outs.Begun.{Begun}
 use Rattle.node.specs.Outcomes.{Outcome}
-use Rattle.node.specs.declared.faults.NodeFault.{NodeFault}
 use Rattle.stripe_code.specs.Codes.{coding}
 use Rattle.node.specs.Calls.{packet_calls}
-use Rattle.node.specs.Faults.{RefusesAs}
 use Rattle.node.specs.Running.{Running, state_of, shape_at, IsSameBrick}
-use Rattle.node.specs.States.{BeginsAs, StepsAs}
 use Rattle.protocol.specs.Worlds.{World, first_world, is_up}
 use Rattle.fab_base.specs.Layouts.{Layout}
 use Rattle.protocol.specs.Nodes as machine
 use Rattle.world.specs.Runs.{brick_of}
-use Rattle.world.specs.Disks.{AreFreshDisks, AreUnwritten, IsUnwritten, ListsPacket, OfDisk, first_listed}
+use Rattle.world.specs.Disks.{KeepsOthers, AreFreshDisks, AreUnwritten, IsUnwritten, ListsPacket, OfDisk, first_listed}
 use Rattle.world.specs.Faults.{IsReached, IsLeft, plan_of}
 use Rattle.world.specs.BrickSteps.{ChangesBrick, RunsOn, DoesHandle}
 use Rattle.world.specs.Shown.{IsRunning, Rests, ShowsPower, ShowsBrick, ShowsBricks, IsFreshBrick, Takes, IsNodeOf, IsUpWith, Runs, IsUp, FindsUp, StopsBrick, AreNodesOf, disk_in, disks_of, node_in, running_at, clock_at}
 use Rattle.lines.specs.declared.forms.Fault.{Fault}
-use Rattle.world.proofs.DiskLemmas.{brick_is, disk_at, disk_set, disks_same, others_kept, contents_same, unwritten_but}
+use Rattle.world.proofs.DiskLemmas.{brick_is, disk_at, disk_set, disks_same, contents_same, unwritten_but}
 use Rattle.world.specs.declared.bricks.Brick.{Brick}
 use Rattle.world.specs.declared.bricks.Power.{Power}
 use Rattle.world.specs.declared.bricks.Power.TheVariants.{Up, Down}
@@ -183,6 +176,13 @@ shows_on layout old new w number Holds shows changes =
     by (Up node) (Down disk) shown holds is = absurd holds
     by (Down disk) now shown holds is = absurd holds
 
+-- no disk has changed but that of the brick
+pub others_changed : (old new : List Brick) (number : BrickId) (Holds : Brick → Power → Type 0) → ChangesBrick old new number Holds
+    → KeepsOthers (Some number) (disks_of old) (disks_of new)
+others_changed old new number Holds changes =
+    subst (λ (bricks : List Brick). KeepsOthers (Some number) (disks_of old) (disks_of bricks)) (sym changes.now)
+    (others_kept old number (with_power changes.brick changes.power))
+
 -- it has the disks that there were
 pub disks_on : (old new : List Brick) (number : BrickId) (Holds : Layout → BrickId → ℕ → machine.Node → machine.Node → Type 0)
     → ChangesBrick old new number (RunsOn Holds) → disks_of new ≡ disks_of old
@@ -239,8 +239,7 @@ pub record HandledPart (layout : Layout) (w : World) (number : BrickId) (packet 
 abbrev pub HandledAs : Layout → World → BrickId → Packet → Option Fault → List Brick → List Brick → Result (Option Outcome) NoMem → Type 0
 HandledAs layout w number packet fault old new (Ok (Some outs)) = HandledWhole layout w number packet fault old new outs
 HandledAs layout w number packet fault old new (Ok None) = HandledPart layout w number packet fault old new
-HandledAs layout w number packet fault old new (Err refused) =
-    ShowsBricks layout new w.nodes w.after w.up w.clocks × (map content_of (disks_of new) ≡ map content_of (disks_of old))
+HandledAs layout w number packet fault old new (Err refused) = ShowsBricks layout new w.nodes w.after w.up w.clocks
 
 -- a brick took a message
 module _ (layout : Layout) (bricks : List Brick) (number : BrickId) (old : Brick) (node : Running MemDisk) (power : Power) (packet : Packet)
@@ -296,10 +295,7 @@ module _ (layout : Layout) (bricks : List Brick) (number : BrickId) (old : Brick
         (machine.stopped (machine.absorbed (coding layout) number (w.nodes number.0) packet))
         (packet_calls layout number (w.nodes number.0) packet took.reached.listed) fault d) same took.left;
   }
-  took_as (Err refused) took = (
-    shows_kept layout bricks number.0 old power w within is (power_now (w.nodes number.0) took.0) shows,
-    contents_same bricks number.0 old (with_power old power) is (took.1 ∙ sym (ap (λ (p : Power). content_of (disk_in p)) on)),
-  )
+  took_as (Err refused) took = shows_kept layout bricks number.0 old power w within is (power_now (w.nodes number.0) took.0) shows
 
 pub handed : (bricks : List Brick) (number : BrickId) (old : Brick) (node : Running MemDisk) (power : Power) (packet : Packet) (fault : Option Fault)
     (result : Result (Option Outcome) NoMem) → number.0 < length bricks → old ≡ get_or bricks number.0 old → old.power ≡ Up node
@@ -335,6 +331,21 @@ handled_as layout old new number packet fault w result shows changes =
         (as_shown layout number (w.nodes number.0) node (runs_at layout old w number.0 changes.brick node within is on shows).1
         (λ l me s. Takes l me s changes.brick.clock packet node.brick.disk fault changes.power result) takes))
     by (Down disk) off takes = absurd takes
+
+-- where memory was refused, a read of each disk gives what it gave
+pub handled_contents : (old new : List Brick) (number : BrickId) (packet : Packet) (fault : Option Fault) (refused : NoMem)
+    → ChangesBrick old new number (DoesHandle packet fault (Err refused)) → map content_of (disks_of new) ≡ map content_of (disks_of old)
+handled_contents old new number packet fault refused changes =
+    ap (λ (bricks : List Brick). map content_of (disks_of bricks)) changes.now
+    ∙ contents_same old number.0 changes.brick (with_power changes.brick changes.power) (brick_is old number.0 changes.brick changes.at)
+    (by changes.brick.power changes.holds)
+  where
+    by : (was : Power)
+        → IsUpWith was (λ node. IsUpWith changes.power (IsRunning node.layout node.me (state_of node))
+        × (content_of (disk_in changes.power) ≡ content_of node.brick.disk))
+        → content_of (disk_in changes.power) ≡ content_of (disk_in was)
+    by (Up node) holds = holds.1
+    by (Down disk) holds = absurd holds
 
 -- bricks of the first world
 pub record AreFresh (layout : Layout) (bricks : List Brick) (n : ℕ) : Type 0 where

@@ -22,12 +22,13 @@ use Rattle.world.specs.Runs.{brick_of}
 use Rattle.world.specs.Faults.{IsEventsOf, IsReached, plan_of}
 use Rattle.world.specs.Disks.{KeepsOthers, LeavesDisks, ListsEvent, ListsHandled, receiver_of, changes_disk_of}
 use Rattle.world.specs.EventCalls.{handled_calls}
-use Rattle.world.specs.Shown.{Shows, ShowsBricks, StartsAs, Tells, Comes, TakesEvent, StaysAs, RunsLine, RefusesLine, HandledWhole, HandledPart, disks_of}
+use Rattle.world.specs.Shown.{Shows, ShowsBricks, StartsAs, Tells, Comes, TakesEvent, StaysAs, RunsLine, RefusesLine, disks_of}
 use Rattle.world.specs.Texts.{marks_if, is_deliverable, outcome_of, outcome_text, new_marks, new_reports, event_text, text_of, line_text}
 use Rattle.world.specs.declared.simulations.Outcome.{Outcome}
 use Rattle.world.specs.declared.simulations.Outcome.TheVariants.{Marks, Idle}
 use Rattle.world.specs.declared.simulations.Simulation.{Simulation}
 use Rattle.world.specs.declared.histories.History.{History}
+use Rattle.world.proofs.BrickListLemmas.{HandledWhole, HandledPart}
 use Rattle.world.proofs.DiskLemmas.{same_kept, one_kept}
 use Rattle.world.proofs.HistoryLemmas.{tells_during}
 use Rattle.world.proofs.MachineBegins.{happens_stopped_during, happens_unsent, happens_astray}

@@ -48,6 +48,30 @@ tells_same seqs old new w same tells = record {
   calls = λ i. subst (λ (l : List ℕ). AreCalls (w.up i) l (number_of w i) (seqs i)) (sym (same.calls i)) (tells.calls i);
 }
 
+-- where nothing was sent after all
+pub same_sent : (old new : History) → new ≡ record old { sent = new.sent } → new.sent.packets.items ≡ old.sent.packets.items → IsSameHistory old new
+same_sent old new rest sent = record {
+  sent = sent;
+  reached = λ k. ap (λ (h : History). get_or h.delivered.reached.items k false) rest;
+  marks = ap (λ (h : History). h.marks.items) rest;
+  reports = ap (λ (h : History). h.reports.items) rest;
+  operations = ap (λ (h : History). h.operations.items) rest;
+  marked = ap (λ (h : History). h.marked.items) rest;
+  calls = λ i. ap (λ (h : History). calls_in h.calls i) rest;
+}
+
+-- and so from one to the next
+pub same_then : (old mid new : History) → IsSameHistory old mid → IsSameHistory mid new → IsSameHistory old new
+same_then old mid new first then = record {
+  sent = then.sent ∙ first.sent;
+  reached = λ k. then.reached k ∙ first.reached k;
+  marks = then.marks ∙ first.marks;
+  reports = then.reports ∙ first.reports;
+  operations = then.operations ∙ first.operations;
+  marked = then.marked ∙ first.marked;
+  calls = λ i. then.calls i ∙ first.calls i;
+}
+
 -- it tells of as many calls
 pub tells_counted : (seqs others : ℕ → ℕ) (history : History) (w : World) → ((i : ℕ) → others i ≡ seqs i) → TellsAt seqs history w → TellsAt others history w
 tells_counted seqs others history w same tells = record {

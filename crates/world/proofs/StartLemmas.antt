@@ -1,10 +1,12 @@
 -- What the bricks show after one of them was to start.
-use Rattle.std.proofs.Common.{◌≡◌, ◌≢◌, inl, inr, ⊎_elim, ℕ, suc, ◌+◌, ◌<◌, ◌≤◌, ◌&&◌, Bool, true, false, not, cond, List, [], ◌∷◌, length, set, get_or, Option, Some, None, Result, Ok, Err, refl, sym, ap, ◌∙◌, subst, arith}
-use Rattle.std.specs.Prelude.{slice_get, IfOk, OnErr}
+use Rattle.std.proofs.Common.{◌≡◌, ◌≢◌, inl, inr, ⊎_elim, ℕ, suc, ◌+◌, ◌<◌, ◌≤◌, ◌&&◌, Bool, true, false, not, cond, List, [], ◌∷◌, length, set, get_or, map, Option, Some, None, Result, Ok, Err, refl, sym, ap, ◌∙◌, subst, arith}
+use Rattle.std.specs.Prelude.{slice_get}
 use Rattle.std.proofs.lemmas.Bool.Decides.{nat_tests}
+use Rattle.std.proofs.lemmas.Option.{slice_get_read, slice_get_within}
 use Rattle.fab_base.specs.declared.faults.NoMem.{NoMem}
 use Rattle.fab_base.specs.declared.identities.BrickId.{BrickId}
 use Rattle.fab_base.specs.Layouts.{Layout}
+use Rattle.fab_disk.specs.MemDisk.{content_of}
 use Rattle.fab_disk.specs.declared.mem_disk.MemDisk.{MemDisk}
 use Rattle.lines.specs.declared.forms.Fault.{Fault}
 use Rattle.node.specs.Running.{Running}
@@ -15,14 +17,15 @@ use Rattle.world.specs.EventCalls.{is_down}
 use Rattle.world.specs.Faults.{IsLeftOpening, StartsDown, Finds, found_of}
 use Rattle.world.specs.Disks.{KeepsOthers, IsUnwritten, ListsOpening, OfDisk}
 use Rattle.world.specs.BrickSteps.{ChangesBrick, DoesStart, StartsFrom}
-use Rattle.world.specs.Shown.{ShowsPower, ShowsBricks, StartsAs, TurnsOn, WasStarted, IsWorn, WasCutShort, Tells, disk_in, disks_of}
+use Rattle.world.specs.Shown.{AreNodesOf, IsNodeOf, ShowsPower, ShowsBricks, StartsAs, TurnsOn, WasStarted, IsWorn, WasCutShort, Tells, disk_in, disks_of}
 use Rattle.world.specs.Texts.{marks_if}
 use Rattle.world.specs.declared.bricks.Brick.{Brick}
 use Rattle.world.specs.declared.bricks.Power.{Power}
 use Rattle.world.specs.declared.bricks.Power.TheVariants.{Up, Down}
 use Rattle.world.specs.declared.histories.History.{History}
 use Rattle.world.proofs.Places.{value_here, value_elsewhere}
-use Rattle.world.proofs.DiskLemmas.{disk_at, disk_set, disks_same, others_kept, unwritten_but, one_kept, same_kept}
+use Rattle.world.proofs.BrickLemmas.{up_power}
+use Rattle.world.proofs.DiskLemmas.{brick_is, contents_same, disk_at, disk_set, disks_same, others_kept, unwritten_but, one_kept, same_kept}
 use Rattle.world.proofs.HistoryLemmas.{tells_found_started}
 use Rattle.world.proofs.MachineBegins.{happens_started, happens_unstarted, happens_unstopped}
 use Rattle.world.proofs.BrickListLemmas.{shows_after, brick_at, runs_at, rests_at, with_power, shows_kept}
@@ -322,8 +325,7 @@ turned layout bricks number old was power fault result within is same starts = r
 -- so it started, or not, or memory was refused
 abbrev pub StartedAs : Layout → World → BrickId → Option Fault → List Brick → List Brick → Result Bool NoMem → Type 0
 StartedAs layout w number fault old new (Ok started) = (events : List Event) × StartsAs layout w number fault old new started events
-StartedAs layout w number fault old new (Err refused) =
-    ShowsBricks layout new w.nodes w.after w.up w.clocks × (map content_of (disks_of new) ≡ map content_of (disks_of old))
+StartedAs layout w number fault old new (Err refused) = ShowsBricks layout new w.nodes w.after w.up w.clocks
 
 pub started_as : (layout : Layout) (old new : List Brick) (number : BrickId) (fault : Option Fault) (w : World) (result : Result Bool NoMem)
     → ShowsBricks layout old w.nodes w.after w.up w.clocks → ChangesBrick old new number (DoesStart layout number fault result)
@@ -353,8 +355,22 @@ started_as layout old new number fault w result shows changes =
         (subst (λ (p : Power). TurnsOn layout number (w.nodes number.0) (w.after number.0) disk fault p (Ok started)) (sym same)
         (starts (w.nodes number.0) (w.after number.0) (rests_at layout old w number.0 brick disk within is off shows).1))
     by (Err refused) (Down disk) now off same starts =
-        let turns = subst (λ (p : Power). TurnsOn layout number (w.nodes number.0) (w.after number.0) disk fault p (Err refused)) (sym same)
-        (starts (w.nodes number.0) (w.after number.0) (rests_at layout old w number.0 brick disk within is off shows).1) in (
-          kept_here layout old number brick disk changes.power fault w within is off shows turns.0,
-          contents_same old number.0 brick (with_power brick changes.power) is (turns.1 ∙ sym (ap (λ (p : Power). content_of (disk_in p)) off)),
-        )
+        kept_here layout old number brick disk changes.power fault w within is off shows
+        (subst (λ (p : Power). TurnsOn layout number (w.nodes number.0) (w.after number.0) disk fault p (Err refused)) (sym same)
+        (starts (w.nodes number.0) (w.after number.0) (rests_at layout old w number.0 brick disk within is off shows).1)).0
+
+-- where memory was refused, a read of each disk gives what it gave
+pub refused_contents : (layout : Layout) (old new : List Brick) (number : BrickId) (fault : Option Fault) (refused : NoMem) → AreNodesOf layout old
+    → ChangesBrick old new number (DoesStart layout number fault (Err refused)) → map content_of (disks_of new) ≡ map content_of (disks_of old)
+refused_contents layout old new number fault refused of changes =
+    ap (λ (bricks : List Brick). map content_of (disks_of bricks)) changes.now
+    ∙ contents_same old number.0 changes.brick (with_power changes.brick changes.power) (brick_is old number.0 changes.brick changes.at)
+    (by changes.brick.power (of number.0 changes.brick changes.at).shows changes.holds)
+  where
+    one : IsNodeOf layout number.0 changes.brick.power
+    one = of number.0 changes.brick changes.at
+
+    by : (was : Power) → ShowsPower layout number one.state one.after one.up was → StartsFrom layout number fault (Err refused) was changes.power
+        → content_of (disk_in changes.power) ≡ content_of (disk_in was)
+    by (Up node) shows starts = absurd (let never : Err refused ≡ Ok false = starts.1 in cc)
+    by (Down disk) shows starts = (starts one.state one.after shows.1).1

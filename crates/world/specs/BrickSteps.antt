@@ -1,18 +1,17 @@
 -- What a step of one brick makes of the bricks.
-use Rattle.std.specs.Prelude.{◌≡◌, ◌⊎◌, ℕ, Bool, true, false, List, set, slice_get, Option, Some, None, Result, Ok, Err, IfOk, OnErr}
+use Rattle.std.specs.Prelude.{◌≡◌, ℕ, Bool, false, List, set, slice_get, Option, Some, Result, Ok, IfOk, OnErr}
 use Rattle.fab_base.specs.Layouts.{Layout}
 use Rattle.fab_base.specs.declared.answers.Refusal.{Refusal}
 use Rattle.fab_base.specs.declared.asks.Ask.{Ask}
 use Rattle.fab_base.specs.declared.faults.NoMem.{NoMem}
 use Rattle.fab_base.specs.declared.identities.BrickId.{BrickId}
 use Rattle.fab_base.specs.declared.identities.GroupId.{GroupId}
-use Rattle.fab_disk.specs.declared.mem_disk.MemDisk.{MemDisk}
 use Rattle.lines.specs.declared.forms.Fault.{Fault}
 use Rattle.messages.specs.declared.packets.Packet.{Packet}
 use Rattle.stripe_code.specs.Codes.{coding}
 use Rattle.node.specs.Faults.{RefusesAs}
 use Rattle.node.specs.Outcomes.{Outcome as Sent}
-use Rattle.node.specs.Running.{Running, state_of, IsSameBrick}
+use Rattle.node.specs.Running.{state_of, IsSameBrick}
 use Rattle.node.specs.States.{BeginsAs, StepsAs}
 use Rattle.node.specs.declared.faults.NodeFault.{NodeFault}
 use Rattle.node.specs.declared.outs.Begun.{Begun}

@@ -1,10 +1,9 @@
 -- What the calls of a history write in it.
-use Rattle.std.specs.Prelude.{◌≡◌, ℕ, ◌+◌, false, not, List, [], ◌∷◌, ◌++◌, length, Option, Some, None, is_some, unwrap_or, get_or, vec_len, vec_capacity}
+use Rattle.std.specs.Prelude.{◌≡◌, ℕ, ◌+◌, false, not, List, [], ◌∷◌, ◌++◌, length, Some, None, is_some, unwrap_or, get_or, vec_len, vec_capacity}
 use Rattle.fab_base.specs.declared.asks.Ask.{Ask}
 use Rattle.fab_base.specs.declared.asks.Op.TheVariants.{ReadStripe}
 use Rattle.fab_base.specs.declared.identities.BrickId.{BrickId}
 use Rattle.messages.specs.declared.calls.Call.{Call}
-use Rattle.messages.specs.declared.packets.Packet.{Packet}
 use Rattle.reg_model.specs.declared.marks.Mark.TheVariants.{Begin, End, Crash}
 use Rattle.coord_phase.specs.Messages.{packets_from}
 use Rattle.node.specs.Outcomes.{Outcome}

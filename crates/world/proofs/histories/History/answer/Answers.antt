@@ -1,7 +1,6 @@
 -- The operation is that of the call, and its mark has its place.
-use Rattle.std.proofs.Common.{◌≡◌, ℕ, List, Option, Some, [], ◌∷◌, ◌++◌, refl, sym, ap, subst, ◌∙◌}
-use Rattle.std.specs.Prelude.{option_to_list, unwrap_or}
-use Rattle.std.proofs.lemmas.List.{with_items_is}
+use Rattle.std.proofs.Common.{ℕ, List, Option, [], ◌∷◌, ◌++◌, refl, sym, ap, subst, ◌∙◌}
+use Rattle.std.specs.Prelude.{option_to_list}
 use Rattle.std.proofs.lemmas.Option.{same_Some}
 use Rattle.reg_model.specs.declared.marks.Mark.TheVariants.{End}
 use Rattle.protocol.specs.declared.tellings.Answered.{Answered}

@@ -1,5 +1,5 @@
 -- The call is counted, and what is sent and reported is noted.
-use Rattle.std.proofs.Common.{ℕ, ◌++◌, List, ap, ◌∙◌}
+use Rattle.std.proofs.Common.{◌++◌, List, ap, ◌∙◌}
 use Rattle.std.specs.Prelude.{option_to_list}
 use Rattle.coord_phase.specs.Messages.{packets_from}
 use Rattle.protocol.specs.declared.tellings.Report.{Report}
@@ -7,7 +7,7 @@ use Rattle.protocol.specs.Worlds.{reports_of}
 use Rattle.world.specs.CallNumbers.{calls_in}
 use Rattle.world.specs.Noted.{calls_aside}
 use Rattle.world.specs.declared.histories.History.{History}
-use Rattle.world.proofs.HistoryLemmas.{spoken, spoken_aside}
+use Rattle.world.proofs.HistoryLemmas.{spoken_aside}
 use Rattle.world.proofs.histories.History.propose.Goals as goal
 
 pub returns : goal.returns

@@ -1,5 +1,5 @@
 -- What is told and answered is noted, and then what is sent and reported.
-use Rattle.std.proofs.Common.{◌++◌, List, refl, ap, subst, ◌∙◌}
+use Rattle.std.proofs.Common.{◌++◌, List, ap, subst, ◌∙◌}
 use Rattle.std.specs.Prelude.{option_to_list}
 use Rattle.coord_phase.specs.Messages.{packets_from}
 use Rattle.protocol.specs.declared.tellings.Answered.{Answered}

@@ -4,9 +4,10 @@ use Rattle.fab_base.specs.declared.identities.BrickId.{BrickId}
 use Rattle.stripe_code.specs.Codes.{coding}
 use Rattle.protocol.specs.Worlds.{Stops, is_up, happens}
 use Rattle.world.specs.Runs.{brick_of}
-use Rattle.world.specs.Shown.{Shows}
+use Rattle.world.specs.Shown.{Shows, seqs_of}
 use Rattle.world.specs.declared.simulations.Simulation.{Simulation}
 use Rattle.world.proofs.BrickListLemmas.{down_at, up_at, up_there, shows_stopped}
+use Rattle.world.proofs.HistoryLemmas.{tells_crashed, tells_same}
 use Rattle.world.proofs.MachineBegins.{happens_unstopped}
 use Rattle.world.proofs.SimulationLemmas.{on_err_always, shows_crashed, shows_still, done_here, done_nowhere}
 use Rattle.world.proofs.simulations.Simulation.crash.Goals as goal
@@ -14,7 +15,10 @@ use Rattle.world.proofs.simulations.Simulation.crash.Goals as goal
 pub returns-in_err-make_room-clause-err : goal.returns-in_err-make_room-clause-err
 returns-in_err-make_room-clause-err c =
     on_err_always c.from_residual.result
-    (record { shows = λ w shows. record { bricks = shows.bricks; history = c.make_room.ensures.same w shows.history }; contents = refl })
+    (record {
+      shows = λ w shows. record { bricks = shows.bricks; history = tells_same (seqs_of w) _ _ w c.make_room.ensures.same shows.history };
+      contents = refl;
+    })
 
 pub stop_brick-requires : goal.stop_brick-requires
 stop_brick-requires c =
@@ -44,7 +48,7 @@ returns-clause-ok c = record {
       let state : Simulation = record { bricks = c.stop_brick.new.bricks; history = c.crash.new.self } in
       subst (λ (brick : BrickId). Shows c.args.layout.now state (happens (coding c.args.layout.now) w (Stops brick None))) found.0
       (shows_crashed c.args.layout.now state w c.in-Some.brick (up_there c.args.layout.now _ w _ found.1 shows.bricks) (shows_stopped c.args.layout.now _ _ w c.in-Some.brick found.1 c.stop_brick.ensures.stops shows.bricks)
-      (c.crash.ensures (coding c.args.layout.now) w (c.make_room.ensures.same w shows.history))));
+      (tells_crashed (coding c.args.layout.now) _ _ w c.in-Some.brick (tells_same (seqs_of w) _ _ w c.make_room.ensures.same shows.history) c.crash.ensures)));
   outcome_is = λ w shows.
       (let found =
       up_at _ _ c.args.brick (brick_of c.args.brick) c.in-Some.brick c.deref.ensures.value refl c.in-Some.ensures

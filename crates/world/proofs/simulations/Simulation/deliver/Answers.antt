@@ -9,15 +9,18 @@ use Rattle.protocol.specs.Nodes.{NodeStep, put, received}
 use Rattle.protocol.specs.Worlds.{World, is_brick, is_up, packet_of, world_stepped, world_stopped}
 use Rattle.protocol.proofs.Events.{world_counting}
 use Rattle.world.specs.Disks.{KeepsOthers}
-use Rattle.world.specs.Shown.{HandledAs, HandledWhole, HandledPart, Tells, disks_of, seqs_of}
+use Rattle.world.specs.BrickSteps.{DoesHandle}
+use Rattle.world.specs.Noted.{IsSameHistory}
+use Rattle.world.specs.Shown.{Tells, disks_of, seqs_of}
 use Rattle.world.specs.CallNumbers.{calls_in}
 use Rattle.world.specs.declared.call_numbers.CallNumbers.{CallNumbers}
 use Rattle.world.specs.declared.deliveries.Deliveries.{Deliveries}
 use Rattle.world.specs.declared.histories.History.{History}
 use Rattle.world.specs.declared.simulations.Simulation.{Simulation}
-use Rattle.world.proofs.BrickListLemmas.{down_at, up_at, up_there}
+use Rattle.world.proofs.BrickListLemmas.{HandledAs, HandledWhole, HandledPart, down_at, handled_as, handled_contents, others_changed, up_at, up_there}
 use Rattle.world.proofs.DeliveryLemmas.{unsent_comes, astray_comes, whole_comes, part_comes}
-use Rattle.world.proofs.HistoryLemmas.{tells_same}
+use Rattle.world.proofs.HistoryLemmas.{tells_same, tells_delivered, tells_crashed}
+use Rattle.world.proofs.HearingLemmas.{tells_step}
 use Rattle.world.proofs.MachineSteps.{received_opens_reads}
 use Rattle.world.proofs.RunLaws.{reached_numbered}
 use Rattle.world.proofs.SimulationLemmas.{on_err_always, tells_replies}
@@ -34,16 +37,25 @@ some_number packets zero packet is = absurd (let never : Some packet ≡ None = 
 some_number packets (suc k) packet is = omega arith
 
 -- the room that was made, and the notes that no message was delivered, tell nothing
-still : (old new : History) (w : World) → ((w : World) → Tells old w → Tells new w) → (d : Deliveries)
+still : (old new : History) (w : World) → IsSameHistory old new → (d : Deliveries)
     → ((k : ℕ) → get_or d.reached.items k false ≡ get_or new.delivered.reached.items k false) → (calls : CallNumbers)
     → ((i : ℕ) → calls_in calls i ≡ calls_in new.calls i) → Tells old w → Tells (record new { delivered = d; calls = calls }) w
 still old new w same d reached calls are tells =
-    tells_same (seqs_of w) new (record new { delivered = d; calls = calls }) w refl reached refl refl refl refl are (same w tells)
+    tells_same (seqs_of w) old (record new { delivered = d; calls = calls }) w
+    (record {
+      sent = same.sent;
+      reached = λ k. reached k ∙ same.reached k;
+      marks = same.marks;
+      reports = same.reports;
+      operations = same.operations;
+      marked = same.marked;
+      calls = λ i. are i ∙ same.calls i;
+    }) tells
 
 pub returns-in_err-make_room-clause-err : goal.returns-in_err-make_room-clause-err
 returns-in_err-make_room-clause-err c =
     on_err_always c.from_residual.result
-    (record { shows = λ w shows. record { bricks = shows.bricks; history = c.make_room.ensures.same w shows.history }; contents = refl })
+    (record { shows = λ w shows. record { bricks = shows.bricks; history = tells_same (seqs_of w) _ _ w c.make_room.ensures.same shows.history }; contents = refl })
 
 pub returns-in_err-expect-clause-err : goal.returns-in_err-expect-clause-err
 returns-in_err-expect-clause-err c =
@@ -72,25 +84,26 @@ returns-in_err-outs-clause-err c =
     on_err_always c.from_residual-in_err-outs.result
     (record {
       shows = λ w shows. record {
-        bricks = c.in_err-outs.ensures.handled c.args.layout.now w shows.bricks;
+        bricks = handled_as c.args.layout.now c.args.self.now.bricks.items _ c.in-Some-find_up.to c.in-Some.packet.now c.args.fault w _ shows.bricks
+            c.in_err-outs.ensures.handles;
         history = still c.args.self.now.history c.make_room.new.self w c.make_room.ensures.same _ c.expect.ensures.same _ c.reserve.ensures.same shows.history;
       };
-      contents = c.in_err-outs.ensures.contents;
+      contents = handled_contents c.args.self.now.bricks.items _ c.in-Some-find_up.to c.in-Some.packet.now c.args.fault _ c.in_err-outs.ensures.handles;
     })
 
 pub returns-in-None-clause-ok : goal.returns-in-None-clause-ok
 returns-in-None-clause-ok c w reached shows =
     unsent_comes c.args.layout.now w (record { bricks = c.args.self.now.bricks; history = c.make_room.new.self }) c.args.message c.args.fault
-    (the_packet _ _ _ c.args.message _ c.deref.ensures.value (c.make_room.ensures.same w shows.history).packets c.in-None.ensures)
-    (record { bricks = shows.bricks; history = c.make_room.ensures.same w shows.history })
+    (the_packet _ _ _ c.args.message _ c.deref.ensures.value (tells_same (seqs_of w) _ _ w c.make_room.ensures.same shows.history).packets c.in-None.ensures)
+    (record { bricks = shows.bricks; history = tells_same (seqs_of w) _ _ w c.make_room.ensures.same shows.history })
 
 pub returns-in-None-find_up-clause-ok : goal.returns-in-None-find_up-clause-ok
 returns-in-None-find_up-clause-ok c w reached shows =
     astray_comes c.args.layout.now w (record { bricks = c.args.self.now.bricks; history = c.make_room.new.self }) c.args.message c.args.fault
     c.in-Some.packet.now
-    (the_packet _ _ _ c.args.message _ c.deref.ensures.value (c.make_room.ensures.same w shows.history).packets c.in-Some.ensures)
+    (the_packet _ _ _ c.args.message _ c.deref.ensures.value (tells_same (seqs_of w) _ _ w c.make_room.ensures.same shows.history).packets c.in-Some.ensures)
     (down_at c.args.layout.now _ _ c.from.result c.in-Some.packet.now.to c.deref-2.ensures.value c.from.ensures c.in-None-find_up.ensures w shows.bricks)
-    (record { bricks = shows.bricks; history = c.make_room.ensures.same w shows.history })
+    (record { bricks = shows.bricks; history = tells_same (seqs_of w) _ _ w c.make_room.ensures.same shows.history })
 
 pub hand_over-requires : goal.hand_over-requires
 hand_over-requires c =
@@ -117,24 +130,27 @@ returns-in-Some-2-clause-ok c w reached shows =
     let step : NodeStep = received (coding c.args.layout.now) to (w.clocks to.0) (w.nodes to.0) packet in
     let did : HandledWhole c.args.layout.now w to packet c.args.fault c.args.self.now.bricks.items c.hand_over.new.bricks.items c.in-Some-2.outs =
     subst (λ (outs : Option Sent). HandledAs c.args.layout.now w to packet c.args.fault c.args.self.now.bricks.items c.hand_over.new.bricks.items (Ok outs))
-    c.in-Some-2.is (c.in_ok-outs.ensures.handled c.args.layout.now w shows.bricks)
+    c.in-Some-2.is (handled_as c.args.layout.now c.args.self.now.bricks.items _ to packet c.args.fault w _ shows.bricks c.in_ok-outs.ensures.handles)
     in
     let opens = received_opens_reads (coding c.args.layout.now) to (w.clocks to.0) (w.nodes to.0) packet
     (λ k call open_at. reached_numbered c.args.layout.now w reached to.0 k call open_at) in
-    let told = c.make_room.ensures.same w shows.history in
+    let told = tells_same (seqs_of w) _ _ w c.make_room.ensures.same shows.history in
     let up = up_there c.args.layout.now _ w _ found.1 shows.bricks in
     whole_comes c.args.layout.now w c.args.self.now new c.args.message c.args.fault packet
     (the_packet _ _ _ c.args.message _ c.deref.ensures.value told.packets c.in-Some.ensures)
     (subst (λ (b : BrickId). is_up c.args.layout.now w b ≡ true) found.0 up)
-    (subst (λ (b : BrickId). KeepsOthers (Some b) (disks_of c.args.self.now.bricks.items) (disks_of c.hand_over.new.bricks.items)) found.0 c.hand_over.ensures.others)
+    (subst (λ (b : BrickId). KeepsOthers (Some b) (disks_of c.args.self.now.bricks.items) (disks_of c.hand_over.new.bricks.items)) found.0
+    (others_changed c.args.self.now.bricks.items _ to (DoesHandle packet c.args.fault _) c.hand_over.ensures.handles))
     c.in-Some-2.outs
     (subst (λ (b : BrickId). HandledWhole c.args.layout.now w b packet c.args.fault c.args.self.now.bricks.items c.hand_over.new.bricks.items c.in-Some-2.outs) found.0 did)
     (subst (λ (b : BrickId). Tells c.step.new.self (world_stepped (coding c.args.layout.now) v b
     (received (coding c.args.layout.now) b (w.clocks b.0) (w.nodes b.0) packet))) found.0
-    (c.step.ensures (coding c.args.layout.now) step did.packets did.told did.answers did.reports v
+    (tells_step (coding c.args.layout.now) _ _ v to c.in-Some-2.outs step.node step
     (tells_replies c.args.layout.now _ w c.args.message packet
-    (c.deliver.ensures.delivered w (still c.args.self.now.history c.make_room.new.self w c.make_room.ensures.same _ c.expect.ensures.same _ c.reserve.ensures.same shows.history)))
-    (and_parts (is_brick c.args.layout.now to) (w.up to.0) up).1 opens))
+    (tells_delivered (seqs_of w) _ _ w c.args.message c.deliver.ensures.rest c.deliver.ensures.delivered
+    (still c.args.self.now.history c.make_room.new.self w c.make_room.ensures.same _ c.expect.ensures.same _ c.reserve.ensures.same shows.history)))
+    (and_parts (is_brick c.args.layout.now to) (w.up to.0) up).1 opens
+    (record { packets = did.packets; told = did.told; answers = did.answers; reports = did.reports; state_is = refl }) c.step.ensures))
 
 pub returns-in-None-2-clause-ok : goal.returns-in-None-2-clause-ok
 returns-in-None-2-clause-ok c w reached shows =
@@ -146,15 +162,18 @@ returns-in-None-2-clause-ok c w reached shows =
     in
     let did : HandledPart c.args.layout.now w to packet c.args.fault c.args.self.now.bricks.items c.hand_over.new.bricks.items =
     subst (λ (outs : Option Sent). HandledAs c.args.layout.now w to packet c.args.fault c.args.self.now.bricks.items c.hand_over.new.bricks.items (Ok outs))
-    c.in-None-2.is (c.in_ok-outs.ensures.handled c.args.layout.now w shows.bricks)
+    c.in-None-2.is (handled_as c.args.layout.now c.args.self.now.bricks.items _ to packet c.args.fault w _ shows.bricks c.in_ok-outs.ensures.handles)
     in
-    let told = c.make_room.ensures.same w shows.history in
+    let told = tells_same (seqs_of w) _ _ w c.make_room.ensures.same shows.history in
     part_comes c.args.layout.now w c.args.self.now new c.args.message c.args.fault packet
     (the_packet _ _ _ c.args.message _ c.deref.ensures.value told.packets c.in-Some.ensures)
     (subst (λ (b : BrickId). is_up c.args.layout.now w b ≡ true) found.0 (up_there c.args.layout.now _ w _ found.1 shows.bricks))
-    (subst (λ (b : BrickId). KeepsOthers (Some b) (disks_of c.args.self.now.bricks.items) (disks_of c.hand_over.new.bricks.items)) found.0 c.hand_over.ensures.others)
+    (subst (λ (b : BrickId). KeepsOthers (Some b) (disks_of c.args.self.now.bricks.items) (disks_of c.hand_over.new.bricks.items)) found.0
+    (others_changed c.args.self.now.bricks.items _ to (DoesHandle packet c.args.fault _) c.hand_over.ensures.handles))
     (subst (λ (b : BrickId). HandledPart c.args.layout.now w b packet c.args.fault c.args.self.now.bricks.items c.hand_over.new.bricks.items) found.0 did)
     (subst (λ (b : BrickId). Tells c.crash.new.self (world_stopped (coding c.args.layout.now)
     (record w { reached = put w.reached c.args.message true }) b None)) found.0
-    (c.crash.ensures (coding c.args.layout.now) (record w { reached = put w.reached c.args.message true })
-    (c.deliver-in-None-2.ensures.delivered w (still c.args.self.now.history c.make_room.new.self w c.make_room.ensures.same _ c.expect.ensures.same _ c.reserve.ensures.same shows.history))))
+    (tells_crashed (coding c.args.layout.now) _ _ (record w { reached = put w.reached c.args.message true }) to
+    (tells_delivered (seqs_of w) _ _ w c.args.message c.deliver-in-None-2.ensures.rest c.deliver-in-None-2.ensures.delivered
+    (still c.args.self.now.history c.make_room.new.self w c.make_room.ensures.same _ c.expect.ensures.same _ c.reserve.ensures.same shows.history))
+    c.crash.ensures))
