@@ -1,6 +1,6 @@
 -- What the bricks show, after a step of one of them.
 use Rattle.std.proofs.Common.{◌≡◌, ◌≢◌, ℕ, ◌+◌, ◌<◌, ◌≤◌, ◌&&◌, nat_lt, Bool, true, false, ⊎_elim, List, [], ◌∷◌, ◌++◌, length, set, get_or, map, Option, Some, None, refl, sym, ap, ◌∙◌, subst, arith, length-append}
-use Rattle.std.specs.Prelude.{slice_get, option_and_then, unwrap_or, Result, Ok, Err, IfSome}
+use Rattle.std.specs.Prelude.{slice_get, option_and_then, unwrap_or, Result, Err, IfSome}
 use Rattle.std.specs.Option.{option_map}
 use Rattle.std.proofs.lemmas.Bool.Decides.{nat_tests}
 use Rattle.std.proofs.lemmas.List.{length-set}
@@ -17,22 +17,20 @@ use Rattle.brick_store.specs.Bricks.{Brick as Store}
 use Rattle.brick_store.specs.Images.{IsListed}
 use Rattle.node.specs.Outcomes.{Outcome}
 use Rattle.stripe_code.specs.Codes.{coding}
-use Rattle.node.specs.Calls.{packet_calls}
 use Rattle.node.specs.Running.{Running, state_of, shape_at, IsSameBrick}
 use Rattle.protocol.specs.Worlds.{World, first_world, is_up}
 use Rattle.fab_base.specs.Layouts.{Layout}
 use Rattle.protocol.specs.Nodes as machine
 use Rattle.world.specs.Runs.{brick_of}
-use Rattle.world.specs.Disks.{KeepsOthers, AreFreshDisks, AreUnwritten, IsUnwritten, ListsPacket, OfDisk, first_listed}
-use Rattle.world.specs.Faults.{IsReached, IsLeft, plan_of}
-use Rattle.world.specs.BrickSteps.{ChangesBrick, RunsOn, DoesHandle}
-use Rattle.world.specs.Shown.{IsRunning, Rests, ShowsPower, ShowsBrick, ShowsBricks, IsFreshBrick, Takes, IsNodeOf, IsUpWith, Runs, IsUp, FindsUp, StopsBrick, AreNodesOf, disk_in, disks_of, node_in, running_at, clock_at}
+use Rattle.world.specs.Disks.{AreFreshDisks, first_listed}
+use Rattle.world.specs.BrickSteps.{ChangesBrick, RunsOn, DoesHandle, Stops}
+use Rattle.world.specs.Shown.{IsRunning, ShowsPower, ShowsBrick, ShowsBricks, IsFreshBrick, Takes, IsNodeOf, IsUpWith, Runs, IsUp, FindsUp, AreNodesOf, disk_in, disks_of, node_in, running_at, clock_at}
 use Rattle.lines.specs.declared.forms.Fault.{Fault}
-use Rattle.world.proofs.DiskLemmas.{brick_is, disk_at, disk_set, disks_same, contents_same, unwritten_but}
+use Rattle.world.proofs.DiskLemmas.{contents_changed, disks_kept}
 use Rattle.world.specs.declared.bricks.Brick.{Brick}
 use Rattle.world.specs.declared.bricks.Power.{Power}
 use Rattle.world.specs.declared.bricks.Power.TheVariants.{Up, Down}
-use Rattle.world.proofs.BrickLemmas.{kept_same, still_runs, runs_own, as_shown, up_power}
+use Rattle.world.proofs.BrickLemmas.{kept_same, still_runs, runs_own, as_shown}
 use Rattle.world.proofs.DownLemmas.{rests_off}
 use Rattle.world.proofs.Places.{each_value, grown, replaced, slice_get_not_none, value_here, value_elsewhere}
 
@@ -57,74 +55,57 @@ shows_after layout bricks b brick w v is stay shows = record {
       (replaced bricks b brick i x at);
 }
 
--- what the brick of a number is
-pub brick_at : (layout : Layout) (bricks : List Brick) (w : World) (b : ℕ) (brick : Brick) → b < length bricks
-    → brick ≡ get_or bricks b brick → ShowsBricks layout bricks w.nodes w.after w.up w.clocks
-    → ShowsBrick layout b brick (w.nodes b) (w.after b) (w.up b) (w.clocks b)
-brick_at layout bricks w b brick within is shows = shows.each b brick (slice_get_read bricks (length bricks) b brick refl within is)
+-- What the bricks show where one may have changed.
+module _ {layout : Layout} {old new : List Brick} {number : BrickId} {Holds : Brick → Power → Type 0} (w : World)
+    (shows : ShowsBricks layout old w.nodes w.after w.up w.clocks) (changes : ChangesBrick old new number Holds) where
+  pub shown_there : ShowsBrick layout number.0 changes.brick (w.nodes number.0) (w.after number.0) (w.up number.0) (w.clocks number.0)
+  shown_there = shows.each number.0 changes.brick changes.at
 
--- what a brick is that runs
-pub runs_at : (layout : Layout) (bricks : List Brick) (w : World) (b : ℕ) (brick : Brick) (node : Running MemDisk) → b < length bricks
-    → brick ≡ get_or bricks b brick → brick.power ≡ Up node → ShowsBricks layout bricks w.nodes w.after w.up w.clocks
-    → (w.up b ≡ true) × IsRunning layout (brick_of b) (w.nodes b) node
-runs_at layout bricks w b brick node within is on shows =
-    subst (λ (power : Power). ShowsPower layout (brick_of b) (w.nodes b) (w.after b) (w.up b) power) on (brick_at layout bricks w b brick within is shows).power
+  -- it is another now
+  pub shows_now : (v : World) → ShowsPower layout number (v.nodes number.0) (v.after number.0) (v.up number.0) changes.power → w.clocks number.0 ≡ v.clocks number.0
+      → ((i : ℕ) → i ≢ number.0 → (v.nodes i ≡ w.nodes i) × (v.after i ≡ w.after i) × (v.up i ≡ w.up i) × (v.clocks i ≡ w.clocks i))
+      → ShowsBricks layout new v.nodes v.after v.up v.clocks
+  shows_now v power clock stay =
+      subst (λ (bricks : List Brick). ShowsBricks layout bricks v.nodes v.after v.up v.clocks) (sym changes.now)
+      (shows_after layout old number.0 (record changes.brick { power = changes.power }) w v (record { power = power; clock = shown_there.clock ∙ clock }) stay shows)
 
--- what a brick is that is down
-pub rests_at : (layout : Layout) (bricks : List Brick) (w : World) (b : ℕ) (brick : Brick) (disk : MemDisk) → b < length bricks
-    → brick ≡ get_or bricks b brick → brick.power ≡ Down disk → ShowsBricks layout bricks w.nodes w.after w.up w.clocks
-    → (w.up b ≡ false) × Rests layout (brick_of b) (w.nodes b) (w.after b) disk
-rests_at layout bricks w b brick disk within is off shows =
-    subst (λ (power : Power). ShowsPower layout (brick_of b) (w.nodes b) (w.after b) (w.up b) power) off (brick_at layout bricks w b brick within is shows).power
+  -- it took a step
+  pub shows_step : (next : machine.Node) → ShowsPower layout number next (w.after number.0) (w.up number.0) changes.power
+      → ShowsBricks layout new (machine.put w.nodes number.0 next) w.after w.up w.clocks
+  shows_step next runs =
+      shows_now (record w { nodes = machine.put w.nodes number.0 next })
+      (subst (λ (state : machine.Node). ShowsPower layout number state (w.after number.0) (w.up number.0) changes.power)
+      (sym (value_here w.nodes number.0 number.0 next refl)) runs)
+      refl (λ i other. (value_elsewhere w.nodes number.0 i next other, refl, refl, refl))
+
+  -- it is down now
+  pub shows_down : (next other : machine.Node) → ShowsPower layout number next other false changes.power
+      → ShowsBricks layout new (machine.put w.nodes number.0 next) (machine.put w.after number.0 other) (machine.put w.up number.0 false) w.clocks
+  shows_down next other is =
+      let b : ℕ = number.0 in
+      shows_now (record w { nodes = machine.put w.nodes b next; after = machine.put w.after b other; up = machine.put w.up b false })
+      (subst (λ (state : machine.Node). ShowsPower layout number state (machine.put w.after b other b) (machine.put w.up b false b) changes.power)
+      (sym (value_here w.nodes b b next refl))
+      (subst (λ (state : machine.Node). ShowsPower layout number next state (machine.put w.up b false b) changes.power)
+      (sym (value_here w.after b b other refl))
+      (subst (λ (on : Bool). ShowsPower layout number next other on changes.power) (sym (value_here w.up b b false refl)) is)))
+      refl
+      (λ i elsewhere. (value_elsewhere w.nodes b i next elsewhere, value_elsewhere w.after b i other elsewhere, value_elsewhere w.up b i false elsewhere, refl))
+
+  -- it is as it was
+  pub shows_kept : ShowsPower layout number (w.nodes number.0) (w.after number.0) (w.up number.0) changes.power → ShowsBricks layout new w.nodes w.after w.up w.clocks
+  shows_kept power = shows_now w power refl (λ i other. (refl, refl, refl, refl))
 
 -- the brick with this power
 abbrev pub with_power : Brick → Power → Brick
 with_power brick power = record { power = power; clock = brick.clock }
-
--- a brick that took a step
-pub shows_step : (layout : Layout) (bricks : List Brick) (b : ℕ) (old : Brick) (power : Power) (w : World) (next : machine.Node)
-    → old.clock ≡ w.clocks b → ShowsPower layout (brick_of b) next (w.after b) (w.up b) power
-    → ShowsBricks layout bricks w.nodes w.after w.up w.clocks → ShowsBricks layout (set bricks b (with_power old power))
-    (machine.put w.nodes b next) w.after w.up w.clocks
-shows_step layout bricks b old power w next clock runs shows =
-    shows_after layout bricks b (with_power old power) w (record w { nodes = machine.put w.nodes b next })
-    (record {
-      power = subst (λ (state : machine.Node). ShowsPower layout (brick_of b) state (w.after b) (w.up b) power) (sym (value_here w.nodes b b next refl)) runs;
-      clock = clock;
-    })
-    (λ i other. (value_elsewhere w.nodes b i next other, refl, refl, refl)) shows
-
--- a brick that is down now
-pub shows_down : (layout : Layout) (bricks : List Brick) (b : ℕ) (old : Brick) (power : Power) (w : World) (next other : machine.Node)
-    → old.clock ≡ w.clocks b → ShowsPower layout (brick_of b) next other false power → ShowsBricks layout bricks w.nodes w.after w.up w.clocks
-    → ShowsBricks layout (set bricks b (with_power old power)) (machine.put w.nodes b next) (machine.put w.after b other) (machine.put w.up b false) w.clocks
-shows_down layout bricks b old power w next other clock is shows =
-    shows_after layout bricks b (with_power old power) w
-    (record w { nodes = machine.put w.nodes b next; after = machine.put w.after b other; up = machine.put w.up b false })
-    (record {
-      power = subst (λ (state : machine.Node). ShowsPower layout (brick_of b) state (machine.put w.after b other b) (machine.put w.up b false b) power)
-          (sym (value_here w.nodes b b next refl))
-          (subst (λ (state : machine.Node). ShowsPower layout (brick_of b) next state (machine.put w.up b false b) power)
-          (sym (value_here w.after b b other refl))
-          (subst (λ (on : Bool). ShowsPower layout (brick_of b) next other on power) (sym (value_here w.up b b false refl)) is));
-      clock = clock;
-    })
-    (λ i elsewhere. (value_elsewhere w.nodes b i next elsewhere, value_elsewhere w.after b i other elsewhere, value_elsewhere w.up b i false elsewhere, refl)) shows
-
--- a brick that is as it was
-pub shows_kept : (layout : Layout) (bricks : List Brick) (b : ℕ) (old : Brick) (power : Power) (w : World) → b < length bricks → old ≡ get_or bricks b old
-    → ShowsPower layout (brick_of b) (w.nodes b) (w.after b) (w.up b) power → ShowsBricks layout bricks w.nodes w.after w.up w.clocks
-    → ShowsBricks layout (set bricks b (with_power old power)) w.nodes w.after w.up w.clocks
-shows_kept layout bricks b old power w within is power_shows shows =
-    let was = brick_at layout bricks w b old within is shows in
-    shows_after layout bricks b (with_power old power) w w (record { power = power_shows; clock = was.clock }) (λ i other. (refl, refl, refl, refl)) shows
 
 -- a brick's clock was set
 pub shows_clock : (layout : Layout) (bricks : List Brick) (b : ℕ) (old : Brick) (time : ℕ) (w : World) → b < length bricks → old ≡ get_or bricks b old
     → ShowsBricks layout bricks w.nodes w.after w.up w.clocks
     → ShowsBricks layout (set bricks b (record { power = old.power; clock = time })) w.nodes w.after w.up (machine.put w.clocks b time)
 shows_clock layout bricks b old time w within is shows =
-    let was = brick_at layout bricks w b old within is shows in
+    let was = shows.each b old (slice_get_read bricks (length bricks) b old refl within is) in
     shows_after layout bricks b (record { power = old.power; clock = time }) w (record w { clocks = machine.put w.clocks b time })
     (record { power = was.power; clock = sym (value_here w.clocks b b time refl) })
     (λ i other. (refl, refl, refl, value_elsewhere w.clocks b i time other)) shows
@@ -145,13 +126,12 @@ pub record StepsOn (layout : Layout) (new : List Brick) (w : World) (number : Br
   pub holds : Holds layout number (w.clocks number.0) (w.nodes number.0) next
   pub bricks : ShowsBricks layout new (machine.put w.nodes number.0 next) w.after w.up w.clocks
 
-pub shows_on : (layout : Layout) (old new : List Brick) (w : World) (number : BrickId) (Holds : Layout → BrickId → ℕ → machine.Node → machine.Node → Type 0)
+pub shows_on : {layout : Layout} {old new : List Brick} (w : World) {number : BrickId} (Holds : Layout → BrickId → ℕ → machine.Node → machine.Node → Type 0)
     → ShowsBricks layout old w.nodes w.after w.up w.clocks → ChangesBrick old new number (RunsOn Holds) → StepsOn layout new w number Holds
-shows_on layout old new w number Holds shows changes =
-    by changes.brick.power changes.power (shows.each number.0 changes.brick changes.at).power changes.holds refl
+shows_on {layout} {old} {new} w {number} Holds shows changes = by changes.brick.power changes.power there.power changes.holds refl
   where
-    time : changes.brick.clock ≡ w.clocks number.0
-    time = (shows.each number.0 changes.brick changes.at).clock
+    there : ShowsBrick layout number.0 changes.brick (w.nodes number.0) (w.after number.0) (w.up number.0) (w.clocks number.0)
+    there = shown_there w shows changes
 
     by : (was now : Power) → ShowsPower layout number (w.nodes number.0) (w.after number.0) (w.up number.0) was
         → IsUpWith was (λ node. IsUpWith now (λ next. IsSameBrick node next × (next.brick ≡ node.brick)
@@ -162,34 +142,23 @@ shows_on layout old new w number Holds shows changes =
         let runs = shown.1 in
         record {
           next = state_of next;
-          holds = subst (λ (t : ℕ). Holds layout number t (w.nodes number.0) (state_of next)) time
+          holds = subst (λ (t : ℕ). Holds layout number t (w.nodes number.0) (state_of next)) there.clock
               (as_shown layout number (w.nodes number.0) node runs (λ l me s. Holds l me changes.brick.clock s (state_of next)) held);
-          bricks = subst (λ (bricks : List Brick). ShowsBricks layout bricks (machine.put w.nodes number.0 (state_of next)) w.after w.up w.clocks)
-              (sym (changes.now ∙ ap (λ (power : Power). set old number.0 (with_power changes.brick power)) is))
-              (shows_step layout old number.0 changes.brick (Up next) w (state_of next) time (
+          bricks = shows_step w shows changes (state_of next)
+              (subst (λ (power : Power). ShowsPower layout number (state_of next) (w.after number.0) (w.up number.0) power) (sym is) (
                 shown.0,
                 still_runs layout number (w.nodes number.0) (state_of next) node next runs same refl
                     (kept_same layout number (w.nodes number.0) (state_of next) node next runs same.layout store refl)
                     (ap (λ (x : Store MemDisk). x.halted) store ∙ runs.runs) (subst (λ (x : Store MemDisk). IsSound x.disk) (sym store) runs.sound),
-              ) shows);
+              ));
         }
     by (Up node) (Down disk) shown holds is = absurd holds
     by (Down disk) now shown holds is = absurd holds
 
--- no disk has changed but that of the brick
-pub others_changed : (old new : List Brick) (number : BrickId) (Holds : Brick → Power → Type 0) → ChangesBrick old new number Holds
-    → KeepsOthers (Some number) (disks_of old) (disks_of new)
-others_changed old new number Holds changes =
-    subst (λ (bricks : List Brick). KeepsOthers (Some number) (disks_of old) (disks_of bricks)) (sym changes.now)
-    (others_kept old number (with_power changes.brick changes.power))
-
 -- it has the disks that there were
-pub disks_on : (old new : List Brick) (number : BrickId) (Holds : Layout → BrickId → ℕ → machine.Node → machine.Node → Type 0)
+pub disks_on : {old new : List Brick} {number : BrickId} (Holds : Layout → BrickId → ℕ → machine.Node → machine.Node → Type 0)
     → ChangesBrick old new number (RunsOn Holds) → disks_of new ≡ disks_of old
-disks_on old new number Holds changes =
-    ap disks_of changes.now
-    ∙ disks_same old number.0 changes.brick (with_power changes.brick changes.power) (brick_is old number.0 changes.brick changes.at)
-    (by changes.brick.power changes.power changes.holds)
+disks_on Holds changes = disks_kept changes (by changes.brick.power changes.power changes.holds)
   where
     by : (was now : Power) → IsUpWith was (λ node. IsUpWith now (λ next. IsSameBrick node next × (next.brick ≡ node.brick)
         × Holds node.layout node.me changes.brick.clock (state_of node) (state_of next))) → disk_in now ≡ disk_in was
@@ -211,92 +180,7 @@ asked bricks number old node next Holds within is on same store held = record {
       × Holds node.layout node.me old.clock (state_of node) (state_of next))) (sym on) (same, store, held);
 }
 
--- The bricks after one that is up was handed a message: it took it whole, or a call was befallen in the midst of that and it is down, or
--- memory was refused.
-pub record HandledWhole (layout : Layout) (w : World) (number : BrickId) (packet : Packet) (fault : Option Fault) (old new : List Brick) (outs : Outcome) : Type 0 where
-  pub packets : packets_from number outs.messages ≡ (machine.received (coding layout) number (w.clocks number.0) (w.nodes number.0) packet).packets
-  pub told : outs.told ≡ (machine.received (coding layout) number (w.clocks number.0) (w.nodes number.0) packet).told
-  pub answers : outs.answers ≡ (machine.received (coding layout) number (w.clocks number.0) (w.nodes number.0) packet).answers
-  pub reports : outs.reports ≡ (machine.received (coding layout) number (w.clocks number.0) (w.nodes number.0) packet).reports
-  pub bricks : ShowsBricks layout new
-      (machine.put w.nodes number.0 (machine.received (coding layout) number (w.clocks number.0) (w.nodes number.0) packet).node) w.after w.up w.clocks
-  pub spared : (disk : MemDisk) → slice_get (disks_of old) number.0 ≡ Some disk
-      → IsReached layout number (w.nodes number.0) packet disk (plan_of fault) → ⊥
-  pub still : ((listed : ℕ) → packet_calls layout number (w.nodes number.0) packet listed ≡ 0) → AreUnwritten (disks_of old) (disks_of new)
-  pub lists : OfDisk number (ListsPacket layout number (w.nodes number.0) packet) (disks_of old) (disks_of new)
-
-pub record HandledPart (layout : Layout) (w : World) (number : BrickId) (packet : Packet) (fault : Option Fault) (old new : List Brick) : Type 0 where
-  pub disk : MemDisk
-  pub disk_is : slice_get (disks_of old) number.0 ≡ Some disk
-  pub reached : IsReached layout number (w.nodes number.0) packet disk (plan_of fault)
-  pub bricks : ShowsBricks layout new (machine.put w.nodes number.0 (machine.stopped (w.nodes number.0)))
-      (machine.put w.after number.0 (machine.stopped (machine.absorbed (coding layout) number (w.nodes number.0) packet)))
-      (machine.put w.up number.0 false) w.clocks
-  pub left : (one : MemDisk) → slice_get (disks_of new) number.0 ≡ Some one → IsLeft layout number (machine.stopped (w.nodes number.0))
-      (machine.stopped (machine.absorbed (coding layout) number (w.nodes number.0) packet))
-      (packet_calls layout number (w.nodes number.0) packet reached.listed) fault one
-
-abbrev pub HandledAs : Layout → World → BrickId → Packet → Option Fault → List Brick → List Brick → Result (Option Outcome) NoMem → Type 0
-HandledAs layout w number packet fault old new (Ok (Some outs)) = HandledWhole layout w number packet fault old new outs
-HandledAs layout w number packet fault old new (Ok None) = HandledPart layout w number packet fault old new
-HandledAs layout w number packet fault old new (Err refused) = ShowsBricks layout new w.nodes w.after w.up w.clocks
-
--- a brick took a message
-module _ (layout : Layout) (bricks : List Brick) (number : BrickId) (old : Brick) (node : Running MemDisk) (power : Power) (packet : Packet)
-    (fault : Option Fault) (w : World) (within : number.0 < length bricks) (is : old ≡ get_or bricks number.0 old) (on : old.power ≡ Up node)
-    (shows : ShowsBricks layout bricks w.nodes w.after w.up w.clocks) where
-  at_number : ShowsBrick layout number.0 old (w.nodes number.0) (w.after number.0) (w.up number.0) (w.clocks number.0)
-  at_number = brick_at layout bricks w number.0 old within is shows
-
-  disk_here : slice_get (disks_of bricks) number.0 ≡ Some node.brick.disk
-  disk_here = disk_at bricks number.0 old within is ∙ ap (λ (p : Power). Some (disk_in p)) on
-
-  power_now : (next : machine.Node) → IsUpWith power (IsRunning layout number next) → ShowsPower layout number next (w.after number.0) (w.up number.0) power
-  power_now next runs =
-      subst (λ (up : Bool). ShowsPower layout number next (w.after number.0) up power) (sym (runs_at layout bricks w number.0 old node within is on shows).0)
-      (up_power layout number next (w.after number.0) power runs)
-
-  pub took_as : (result : Result (Option Outcome) NoMem)
-      → Takes layout number (w.nodes number.0) (w.clocks number.0) packet node.brick.disk fault power result
-      → HandledAs layout w number packet fault bricks (set bricks number.0 (with_power old power)) result
-  took_as (Ok (Some outs)) took = record {
-    packets = took.packets;
-    told = took.told;
-    answers = took.answers;
-    reports = took.reports;
-    bricks = shows_step layout bricks number.0 old power w
-        (machine.received (coding layout) number (w.clocks number.0) (w.nodes number.0) packet).node at_number.clock
-        (power_now (machine.received (coding layout) number (w.clocks number.0) (w.nodes number.0) packet).node took.on) shows;
-    spared = λ disk disk_is reached.
-        let same : node.brick.disk ≡ disk = (let e : Some node.brick.disk ≡ Some disk = sym disk_here ∙ disk_is in cc) in
-        took.spared (subst (λ (d : MemDisk). IsReached layout number (w.nodes number.0) packet d (plan_of fault)) (sym same) reached);
-    still = λ none.
-        unwritten_but bricks number old (with_power old power) within is
-        (subst (λ (p : Power). IsUnwritten (disk_in p) (disk_in power)) (sym on) (took.still none));
-    lists = λ was one was_is one_is.
-        let same : node.brick.disk ≡ was = (let e : Some node.brick.disk ≡ Some was = sym disk_here ∙ was_is in cc) in
-        let now : disk_in power ≡ one =
-        (let e : Some (disk_in power) ≡ Some one = sym (disk_set bricks number.0 (with_power old power) within) ∙ one_is in cc)
-        in
-        subst (λ (d : MemDisk). ListsPacket layout number (w.nodes number.0) packet d one) same
-        (subst (λ (d : MemDisk). ListsPacket layout number (w.nodes number.0) packet node.brick.disk d) now took.lists);
-  }
-  took_as (Ok None) took = record {
-    disk = node.brick.disk;
-    disk_is = disk_here;
-    reached = took.reached;
-    bricks = shows_down layout bricks number.0 old power w (machine.stopped (w.nodes number.0))
-        (machine.stopped (machine.absorbed (coding layout) number (w.nodes number.0) packet)) at_number.clock took.off shows;
-    left = λ one one_is.
-        let same : disk_in power ≡ one =
-        (let e : Some (disk_in power) ≡ Some one = sym (disk_set bricks number.0 (with_power old power) within) ∙ one_is in cc)
-        in
-        subst (λ (d : MemDisk). IsLeft layout number (machine.stopped (w.nodes number.0))
-        (machine.stopped (machine.absorbed (coding layout) number (w.nodes number.0) packet))
-        (packet_calls layout number (w.nodes number.0) packet took.reached.listed) fault d) same took.left;
-  }
-  took_as (Err refused) took = shows_kept layout bricks number.0 old power w within is (power_now (w.nodes number.0) took.0) shows
-
+-- a brick that was handed a message
 pub handed : (bricks : List Brick) (number : BrickId) (old : Brick) (node : Running MemDisk) (power : Power) (packet : Packet) (fault : Option Fault)
     (result : Result (Option Outcome) NoMem) → number.0 < length bricks → old ≡ get_or bricks number.0 old → old.power ≡ Up node
     → Takes node.layout node.me (state_of node) old.clock packet node.brick.disk fault power result
@@ -309,36 +193,28 @@ handed bricks number old node power packet fault result within is on takes = rec
   holds = subst (λ (was : Power). IsUpWith was (λ x. Takes x.layout x.me (state_of x) old.clock packet x.brick.disk fault power result)) (sym on) takes;
 }
 
-pub handled_as : (layout : Layout) (old new : List Brick) (number : BrickId) (packet : Packet) (fault : Option Fault) (w : World)
-    (result : Result (Option Outcome) NoMem) → ShowsBricks layout old w.nodes w.after w.up w.clocks
-    → ChangesBrick old new number (DoesHandle packet fault result) → HandledAs layout w number packet fault old new result
-handled_as layout old new number packet fault w result shows changes =
-    subst (λ (bricks : List Brick). HandledAs layout w number packet fault old bricks result) (sym changes.now) (by changes.brick.power refl changes.holds)
+-- it takes it as the machine's does
+pub takes_there : {layout : Layout} {old new : List Brick} {number : BrickId} (packet : Packet) (fault : Option Fault) (result : Result (Option Outcome) NoMem) (w : World)
+    (shows : ShowsBricks layout old w.nodes w.after w.up w.clocks) (changes : ChangesBrick old new number (DoesHandle packet fault result))
+    → Takes layout number (w.nodes number.0) (w.clocks number.0) packet (disk_in changes.brick.power) fault changes.power result
+takes_there {layout} {old} {new} {number} packet fault result w shows changes = by changes.brick.power there.power changes.holds
   where
-    within : number.0 < length old
-    within = slice_get_within old number.0 changes.brick changes.at
+    there : ShowsBrick layout number.0 changes.brick (w.nodes number.0) (w.after number.0) (w.up number.0) (w.clocks number.0)
+    there = shown_there w shows changes
 
-    is : changes.brick ≡ get_or old number.0 changes.brick
-    is = brick_is old number.0 changes.brick changes.at
-
-    by : (was : Power) → changes.brick.power ≡ was
+    by : (was : Power) → ShowsPower layout number (w.nodes number.0) (w.after number.0) (w.up number.0) was
         → IsUpWith was (λ node. Takes node.layout node.me (state_of node) changes.brick.clock packet node.brick.disk fault changes.power result)
-        → HandledAs layout w number packet fault old (set old number.0 (with_power changes.brick changes.power)) result
-    by (Up node) on takes =
-        took_as layout old number changes.brick node changes.power packet fault w within is on shows result
-        (subst (λ (time : ℕ). Takes layout number (w.nodes number.0) time packet node.brick.disk fault changes.power result)
-        (shows.each number.0 changes.brick changes.at).clock
-        (as_shown layout number (w.nodes number.0) node (runs_at layout old w number.0 changes.brick node within is on shows).1
-        (λ l me s. Takes l me s changes.brick.clock packet node.brick.disk fault changes.power result) takes))
-    by (Down disk) off takes = absurd takes
+        → Takes layout number (w.nodes number.0) (w.clocks number.0) packet (disk_in was) fault changes.power result
+    by (Up node) shown takes =
+        subst (λ (time : ℕ). Takes layout number (w.nodes number.0) time packet node.brick.disk fault changes.power result) there.clock
+        (as_shown layout number (w.nodes number.0) node shown.1
+        (λ l me s. Takes l me s changes.brick.clock packet node.brick.disk fault changes.power result) takes)
+    by (Down disk) shown takes = absurd takes
 
 -- where memory was refused, a read of each disk gives what it gave
-pub handled_contents : (old new : List Brick) (number : BrickId) (packet : Packet) (fault : Option Fault) (refused : NoMem)
+pub handled_contents : {old new : List Brick} {number : BrickId} (packet : Packet) (fault : Option Fault) (refused : NoMem)
     → ChangesBrick old new number (DoesHandle packet fault (Err refused)) → map content_of (disks_of new) ≡ map content_of (disks_of old)
-handled_contents old new number packet fault refused changes =
-    ap (λ (bricks : List Brick). map content_of (disks_of bricks)) changes.now
-    ∙ contents_same old number.0 changes.brick (with_power changes.brick changes.power) (brick_is old number.0 changes.brick changes.at)
-    (by changes.brick.power changes.holds)
+handled_contents packet fault refused changes = contents_changed changes (by changes.brick.power changes.holds)
   where
     by : (was : Power)
         → IsUpWith was (λ node. IsUpWith changes.power (IsRunning node.layout node.me (state_of node))
@@ -506,27 +382,19 @@ up_at slice bricks b brick found same here is =
     (is.0 ∙ ap brick_of here, subst (λ (xs : List Brick). IsUp xs found) same is.1)
 
 -- a brick stopped
-pub shows_stopped : (layout : Layout) (old new : List Brick) (w : World) (brick : BrickId) → IsUp old brick → StopsBrick old new brick
-    → ShowsBricks layout old w.nodes w.after w.up w.clocks
-    → ShowsBricks layout new (machine.put w.nodes brick.0 (machine.stopped (w.nodes brick.0)))
-    (machine.put w.after brick.0 (machine.stopped (w.nodes brick.0))) (machine.put w.up brick.0 false) w.clocks
-shows_stopped layout old new w brick up stops shows = by_brick (slice_get old brick.0) refl
+pub shows_stopped : {layout : Layout} {old new : List Brick} {number : BrickId} (w : World) → w.up number.0 ≡ true
+    → ShowsBricks layout old w.nodes w.after w.up w.clocks → ChangesBrick old new number Stops
+    → ShowsBricks layout new (machine.put w.nodes number.0 (machine.stopped (w.nodes number.0)))
+    (machine.put w.after number.0 (machine.stopped (w.nodes number.0))) (machine.put w.up number.0 false) w.clocks
+shows_stopped {layout} {old} {new} {number} w up shows changes =
+    shows_down w shows changes (machine.stopped (w.nodes number.0)) (machine.stopped (w.nodes number.0))
+    (subst (λ (power : Power). ShowsPower layout number (machine.stopped (w.nodes number.0)) (machine.stopped (w.nodes number.0)) false power)
+    (sym changes.holds) (by changes.brick.power (shown_there w shows changes).power))
   where
-    by_power : (power : Power) → IsUpWith power Runs → ShowsPower layout brick (w.nodes brick.0) (w.after brick.0) (w.up brick.0) power
-        → ShowsPower layout brick (machine.stopped (w.nodes brick.0)) (machine.stopped (w.nodes brick.0)) false (Down (disk_in power))
-    by_power (Up node) on shown = (refl, rests_off layout brick (w.nodes brick.0) node node.brick.disk shown.1 refl)
-    by_power (Down disk) on shown = absurd on
-
-    by_brick : (found : Option Brick) → slice_get old brick.0 ≡ found
-        → ShowsBricks layout new (machine.put w.nodes brick.0 (machine.stopped (w.nodes brick.0)))
-        (machine.put w.after brick.0 (machine.stopped (w.nodes brick.0))) (machine.put w.up brick.0 false) w.clocks
-    by_brick None at = absurd (slice_get_not_none old brick.0 up.within at)
-    by_brick (Some x) at =
-        let was = shows.each brick.0 x at in
-        subst (λ (bricks : List Brick). ShowsBricks layout bricks (machine.put w.nodes brick.0 (machine.stopped (w.nodes brick.0)))
-        (machine.put w.after brick.0 (machine.stopped (w.nodes brick.0))) (machine.put w.up brick.0 false) w.clocks) (sym (stops x at))
-        (shows_down layout old brick.0 x (Down (disk_in x.power)) w (machine.stopped (w.nodes brick.0)) (machine.stopped (w.nodes brick.0)) was.clock
-        (by_power x.power (up.on x at) was.power) shows)
+    by : (power : Power) → ShowsPower layout number (w.nodes number.0) (w.after number.0) (w.up number.0) power
+        → ShowsPower layout number (machine.stopped (w.nodes number.0)) (machine.stopped (w.nodes number.0)) false (Down (disk_in power))
+    by (Up node) shown = (refl, rests_off layout number (w.nodes number.0) node node.brick.disk shown.1 refl)
+    by (Down disk) shown = absurd (let never : true ≡ false = sym up ∙ shown.0 in cc)
 
 -- what a brick sends at a tick is what the machine's sends
 pub ticks_as : (layout : Layout) (bricks : List Brick) (w : World) (brick : BrickId) (messages : List (BrickId × Message)) → IsUp bricks brick

@@ -16,7 +16,7 @@ use Rattle.node.specs.States.{BeginsAs, StepsAs}
 use Rattle.node.specs.declared.faults.NodeFault.{NodeFault}
 use Rattle.node.specs.declared.outs.Begun.{Begun}
 use Rattle.protocol.specs.Nodes as machine
-use Rattle.world.specs.Shown.{IsUpWith, Rests, Takes, TurnsOn}
+use Rattle.world.specs.Shown.{IsUpWith, Rests, Takes, TurnsOn, disk_in}
 use Rattle.world.specs.declared.bricks.Brick.{Brick}
 use Rattle.world.specs.declared.bricks.Power.{Power}
 use Rattle.world.specs.declared.bricks.Power.TheVariants.{Up, Down}
@@ -69,3 +69,7 @@ StartsFrom layout me fault result (Down disk) power =
 
 abbrev pub DoesStart : Layout → BrickId → Option Fault → Result Bool NoMem → Brick → Power → Type 0
 DoesStart layout me fault result brick power = StartsFrom layout me fault result brick.power power
+
+-- its disk is all that is left of a brick that stops
+abbrev pub Stops : Brick → Power → Type 0
+Stops brick power = power ≡ Down (disk_in brick.power)

@@ -1,5 +1,5 @@
 -- What a world keeps, and the machine's world that it shows.
-use Rattle.std.specs.Prelude.{◌≡◌, ◌⊎◌, ℕ, zero, suc, ◌+◌, ◌<◌, ◌≤◌, ◌&&◌, Bool, true, false, not, nat_eq, nat_lt, if◌then◌else◌, List, [], ◌∷◌, length, map, set, Option, Some, None, is_some, Result, Ok, Err, option_and_then, unwrap_or, get_or, slice_get, vec_len, vec_capacity}
+use Rattle.std.specs.Prelude.{◌≡◌, ◌⊎◌, ℕ, zero, suc, ◌+◌, ◌<◌, ◌≤◌, ◌&&◌, Bool, true, false, not, nat_eq, nat_lt, if◌then◌else◌, List, [], ◌∷◌, length, map, Option, Some, None, is_some, Result, Ok, Err, option_and_then, unwrap_or, get_or, slice_get, vec_len, vec_capacity}
 use Rattle.std.specs.Bool.{Decides}
 use Rattle.std.specs.declared.cmp.Ordering.{Ordering}
 use Rattle.std.specs.Ordering.{nat_cmp, ordering_then}
@@ -206,14 +206,6 @@ running_at bricks number = option_and_then (λ brick. node_in brick.power) (slic
 abbrev pub FindsUp : List Brick → ℕ → Option BrickId → Type 0
 FindsUp bricks number None = running_at bricks number ≡ None
 FindsUp bricks number (Some brick) = (brick ≡ brick_of number) × IsUp bricks brick
-
--- a brick once it stopped: its disk is all that is left of it
-abbrev pub stopped_brick : Brick → Brick
-stopped_brick brick = record brick { power = Down (disk_in brick.power) }
-
--- the brick of a number stopped, and no other
-abbrev pub StopsBrick : List Brick → List Brick → BrickId → Type 0
-StopsBrick old new number = (brick : Brick) → slice_get old number.0 ≡ Some brick → new ≡ set old number.0 (stopped_brick brick)
 
 -- A brick that runs took a message whole: what it answered is the machine's, and it runs on.
 pub record TookWhole (layout : Layout) (me : BrickId) (state : machine.Node) (time : ℕ) (packet : Packet) (disk : MemDisk) (fault : Option Fault)

@@ -11,8 +11,8 @@ ghost use Rattle.brick_store.specs.Images.{IsListed};
 ghost use Rattle.node.specs.Running.{shape_at, state_of};
 ghost use Rattle.world.specs.Faults.{LeftBy, plan_of};
 ghost use Rattle.world.specs.Disks.{ShowsDisk, AreFreshDisks};
-ghost use Rattle.world.specs.Shown.{Rests, Runs, IsFreshBrick, ShowsBricks, Takes, TurnsOn, FindsUp, IsUp, AreNodesOf, StopsBrick, most_sent, reads_begun, disk_in, disks_of, running_at, unopened};
-ghost use Rattle.world.specs.BrickSteps.{ChangesBrick, RunsOn, DoesBegin, DoesPropose, DoesSync, DoesHandle, DoesStart};
+ghost use Rattle.world.specs.Shown.{Rests, Runs, IsFreshBrick, ShowsBricks, Takes, TurnsOn, FindsUp, IsUp, AreNodesOf, most_sent, reads_begun, disk_in, disks_of, running_at, unopened};
+ghost use Rattle.world.specs.BrickSteps.{ChangesBrick, RunsOn, DoesBegin, DoesPropose, DoesSync, DoesHandle, DoesStart, Stops};
 
 use brick_store::OpenFault;
 use fab_base::{Ask, BrickId, GroupId, IoFault, NoMem};
@@ -352,8 +352,7 @@ pub fn tick_brick(bricks: &[Brick], number: BrickId) -> Result<Messages, NoMem>
 /// A brick stops: its disk is all that is left of it.
 pub fn stop_brick(bricks: &mut Vec<Brick>, alloc: Global, number: BrickId)
     requires { number.0 < vec_len bricks.old }
-    ensures stops { StopsBrick bricks.old.items bricks.new.items number }
-    ensures disks { disks_of bricks.new.items ≡ disks_of bricks.old.items }
+    ensures { ChangesBrick bricks.old.items bricks.new.items number Stops }
 {
     let brick = &mut bricks[number.0 as usize];
     let nothing = Power::Down(MemDisk::new(alloc, Vec::new(alloc)));

@@ -45,7 +45,7 @@ returns-in-Ok-clause-ok c =
       shows = λ w reached shows.
           (let node : Node = w.nodes brick.0 in
           let step : NodeStep = invoked setting brick (w.clocks brick.0) node c.args.ask in
-          let did = shows_on layout c.args.self.now.bricks.items _ w brick (DoesBegin c.args.ask (Ok c.in-Ok.begun)) shows.bricks c.in-Ok.ensures.asks in
+          let did = shows_on w (DoesBegin c.args.ask (Ok c.in-Ok.begun)) shows.bricks c.in-Ok.ensures.asks in
           let begun = did.holds.begun in
           let up = up_there layout _ w _ c.requires shows.bricks in
           let boot : step.node.boot ≡ node.boot = invoked_boot setting brick (w.clocks brick.0) node c.args.ask in
@@ -60,8 +60,8 @@ returns-in-Ok-clause-ok c =
           begun.packets (was ∙ sym boot) begun.seq boot (invoked_next setting brick (w.clocks brick.0) node c.args.ask did.holds.refused) c.begin.ensures));
       outcome_is = λ w shows.
           sym (ap refused_or_begun (refusal_here setting w brick c.args.ask (up_there layout _ w _ c.requires shows.bricks)
-          ∙ (shows_on layout c.args.self.now.bricks.items _ w brick (DoesBegin c.args.ask (Ok c.in-Ok.begun)) shows.bricks c.in-Ok.ensures.asks).holds.refused));
-      disks = disks_on c.args.self.now.bricks.items _ brick (DoesBegin c.args.ask (Ok c.in-Ok.begun)) c.in-Ok.ensures.asks;
+          ∙ (shows_on w (DoesBegin c.args.ask (Ok c.in-Ok.begun)) shows.bricks c.in-Ok.ensures.asks).holds.refused));
+      disks = disks_on (DoesBegin c.args.ask (Ok c.in-Ok.begun)) c.in-Ok.ensures.asks;
     }
 
 pub returns-in-Err-Refused-clause-ok : goal.returns-in-Err-Refused-clause-ok
@@ -72,16 +72,16 @@ returns-in-Err-Refused-clause-ok c =
     c.in-Err-Refused.field-0-is c.in-Err-Refused.ensures.asks in
     record {
       shows = λ w reached shows.
-          (let did = shows_on layout c.args.self.now.bricks.items _ w brick (DoesBegin c.args.ask (Err (Refused c.in-Err-Refused.refusal))) shows.bricks asks in
+          (let did = shows_on w (DoesBegin c.args.ask (Err (Refused c.in-Err-Refused.refusal))) shows.bricks asks in
           shows_still layout _ w _ (happens_refused (coding layout) w brick c.args.ask c.in-Err-Refused.refusal did.holds.refused)
           (record {
             bricks = shows_unput layout _ brick.0 w did.next did.holds.stays did.bricks;
             history = tells_same (seqs_of w) _ _ w c.expect_call.ensures.same shows.history;
           }));
       outcome_is = λ w shows.
-          (let did = shows_on layout c.args.self.now.bricks.items _ w brick (DoesBegin c.args.ask (Err (Refused c.in-Err-Refused.refusal))) shows.bricks asks in
+          (let did = shows_on w (DoesBegin c.args.ask (Err (Refused c.in-Err-Refused.refusal))) shows.bricks asks in
           sym (ap refused_or_begun (refusal_here (coding layout) w brick c.args.ask (up_there layout _ w _ c.requires shows.bricks) ∙ did.holds.refused)));
-      disks = disks_on c.args.self.now.bricks.items _ brick (DoesBegin c.args.ask (Err (Refused c.in-Err-Refused.refusal))) asks;
+      disks = disks_on (DoesBegin c.args.ask (Err (Refused c.in-Err-Refused.refusal))) asks;
     }
 
 pub returns-in-Err-NoMemory-clause-err : goal.returns-in-Err-NoMemory-clause-err
@@ -90,12 +90,12 @@ returns-in-Err-NoMemory-clause-err c =
     let brick = c.args.brick in
     record {
       shows = λ w shows.
-          (let did = shows_on layout c.args.self.now.bricks.items _ w brick (DoesBegin c.args.ask (Err c.in-Err-NoMemory.field-0)) shows.bricks
+          (let did = shows_on w (DoesBegin c.args.ask (Err c.in-Err-NoMemory.field-0)) shows.bricks
           c.in-Err-NoMemory.ensures.asks in
           record {
             bricks = shows_unput layout _ brick.0 w did.next did.holds.stays did.bricks;
             history = tells_same (seqs_of w) _ _ w c.expect_call.ensures.same shows.history;
           });
       contents = ap (λ (disks : List MemDisk). map content_of disks)
-          (disks_on c.args.self.now.bricks.items _ brick (DoesBegin c.args.ask (Err c.in-Err-NoMemory.field-0)) c.in-Err-NoMemory.ensures.asks);
+          (disks_on (DoesBegin c.args.ask (Err c.in-Err-NoMemory.field-0)) c.in-Err-NoMemory.ensures.asks);
     }

@@ -40,7 +40,7 @@ returns-in-Ok-clause-ok c =
     record {
       shows = λ w reached shows.
           (let step : NodeStep = proposed setting brick (w.nodes brick.0) c.args.group c.args.members.now in
-          let did = shows_on layout c.args.self.now.bricks.items _ w brick (DoesPropose c.args.group c.args.members.now (Ok c.in-Ok.outs)) shows.bricks
+          let did = shows_on w (DoesPropose c.args.group c.args.members.now (Ok c.in-Ok.outs)) shows.bricks
           c.in-Ok.ensures.asks in
           let steps = did.holds.steps in
           let up = up_there layout _ w _ c.requires shows.bricks in
@@ -58,8 +58,8 @@ returns-in-Ok-clause-ok c =
           }) steps.packets steps.reports c.propose.ensures));
       outcome_is = λ w shows.
           sym (ap refused_or_begun (unproposed_here setting w brick c.args.group (up_there layout _ w _ c.requires shows.bricks)
-          ∙ (shows_on layout c.args.self.now.bricks.items _ w brick (DoesPropose c.args.group c.args.members.now (Ok c.in-Ok.outs)) shows.bricks c.in-Ok.ensures.asks).holds.refused));
-      disks = disks_on c.args.self.now.bricks.items _ brick (DoesPropose c.args.group c.args.members.now (Ok c.in-Ok.outs)) c.in-Ok.ensures.asks;
+          ∙ (shows_on w (DoesPropose c.args.group c.args.members.now (Ok c.in-Ok.outs)) shows.bricks c.in-Ok.ensures.asks).holds.refused));
+      disks = disks_on (DoesPropose c.args.group c.args.members.now (Ok c.in-Ok.outs)) c.in-Ok.ensures.asks;
     }
 
 pub returns-in-Err-Refused-clause-ok : goal.returns-in-Err-Refused-clause-ok
@@ -70,16 +70,16 @@ returns-in-Err-Refused-clause-ok c =
     c.in-Err-Refused.field-0-is c.in-Err-Refused.ensures.asks in
     record {
       shows = λ w reached shows.
-          (let did = shows_on layout c.args.self.now.bricks.items _ w brick (DoesPropose c.args.group c.args.members.now (Err (Refused c.in-Err-Refused.refusal))) shows.bricks asks in
+          (let did = shows_on w (DoesPropose c.args.group c.args.members.now (Err (Refused c.in-Err-Refused.refusal))) shows.bricks asks in
           shows_still layout _ w _ (happens_unproposed (coding layout) w brick c.args.group c.args.members.now c.in-Err-Refused.refusal did.holds.refused)
           (record {
             bricks = shows_unput layout _ brick.0 w did.next did.holds.stays did.bricks;
             history = tells_same (seqs_of w) _ _ w c.expect_call.ensures.same shows.history;
           }));
       outcome_is = λ w shows.
-          (let did = shows_on layout c.args.self.now.bricks.items _ w brick (DoesPropose c.args.group c.args.members.now (Err (Refused c.in-Err-Refused.refusal))) shows.bricks asks in
+          (let did = shows_on w (DoesPropose c.args.group c.args.members.now (Err (Refused c.in-Err-Refused.refusal))) shows.bricks asks in
           sym (ap refused_or_begun (unproposed_here (coding layout) w brick c.args.group (up_there layout _ w _ c.requires shows.bricks) ∙ did.holds.refused)));
-      disks = disks_on c.args.self.now.bricks.items _ brick (DoesPropose c.args.group c.args.members.now (Err (Refused c.in-Err-Refused.refusal))) asks;
+      disks = disks_on (DoesPropose c.args.group c.args.members.now (Err (Refused c.in-Err-Refused.refusal))) asks;
     }
 
 pub returns-in-Err-NoMemory-clause-err : goal.returns-in-Err-NoMemory-clause-err
@@ -88,12 +88,12 @@ returns-in-Err-NoMemory-clause-err c =
     let brick = c.args.brick in
     record {
       shows = λ w shows.
-          (let did = shows_on layout c.args.self.now.bricks.items _ w brick (DoesPropose c.args.group c.args.members.now (Err c.in-Err-NoMemory.field-0)) shows.bricks
+          (let did = shows_on w (DoesPropose c.args.group c.args.members.now (Err c.in-Err-NoMemory.field-0)) shows.bricks
           c.in-Err-NoMemory.ensures.asks in
           record {
             bricks = shows_unput layout _ brick.0 w did.next did.holds.stays did.bricks;
             history = tells_same (seqs_of w) _ _ w c.expect_call.ensures.same shows.history;
           });
       contents = ap (λ (disks : List MemDisk). map content_of disks)
-          (disks_on c.args.self.now.bricks.items _ brick (DoesPropose c.args.group c.args.members.now (Err c.in-Err-NoMemory.field-0)) c.in-Err-NoMemory.ensures.asks);
+          (disks_on (DoesPropose c.args.group c.args.members.now (Err c.in-Err-NoMemory.field-0)) c.in-Err-NoMemory.ensures.asks);
     }

@@ -41,7 +41,7 @@ returns-in-Ok-clause-ok c =
     record {
       shows = λ w reached shows.
           (let step : NodeStep = synced_at setting brick (w.clocks brick.0) (w.nodes brick.0) c.args.group in
-          let did = shows_on layout c.args.self.now.bricks.items _ w brick (DoesSync c.args.group (Ok c.in-Ok.outs)) shows.bricks c.in-Ok.ensures.asks in
+          let did = shows_on w (DoesSync c.args.group (Ok c.in-Ok.outs)) shows.bricks c.in-Ok.ensures.asks in
           let up = up_there layout _ w _ c.requires shows.bricks in
           shows_synced layout _ w brick c.args.group up did.holds.refused
           (subst (λ (n : Node). ShowsBricks layout c.ask_to_sync.new.bricks.items (put w.nodes brick.0 n) w.after w.up w.clocks) did.holds.steps.state_is did.bricks)
@@ -50,8 +50,8 @@ returns-in-Ok-clause-ok c =
           (synced_opens_reads setting brick (w.clocks brick.0) (w.nodes brick.0) c.args.group) did.holds.steps c.step.ensures));
       outcome_is = λ w shows.
           sym (ap refused_or_begun (unsynced_here setting w brick c.args.group (up_there layout _ w _ c.requires shows.bricks)
-          ∙ (shows_on layout c.args.self.now.bricks.items _ w brick (DoesSync c.args.group (Ok c.in-Ok.outs)) shows.bricks c.in-Ok.ensures.asks).holds.refused));
-      disks = disks_on c.args.self.now.bricks.items _ brick (DoesSync c.args.group (Ok c.in-Ok.outs)) c.in-Ok.ensures.asks;
+          ∙ (shows_on w (DoesSync c.args.group (Ok c.in-Ok.outs)) shows.bricks c.in-Ok.ensures.asks).holds.refused));
+      disks = disks_on (DoesSync c.args.group (Ok c.in-Ok.outs)) c.in-Ok.ensures.asks;
     }
 
 pub returns-in-Err-Refused-clause-ok : goal.returns-in-Err-Refused-clause-ok
@@ -62,16 +62,16 @@ returns-in-Err-Refused-clause-ok c =
     c.in-Err-Refused.field-0-is c.in-Err-Refused.ensures.asks in
     record {
       shows = λ w reached shows.
-          (let did = shows_on layout c.args.self.now.bricks.items _ w brick (DoesSync c.args.group (Err (Refused c.in-Err-Refused.refusal))) shows.bricks asks in
+          (let did = shows_on w (DoesSync c.args.group (Err (Refused c.in-Err-Refused.refusal))) shows.bricks asks in
           shows_still layout _ w _ (happens_unsynced (coding layout) w brick c.args.group c.in-Err-Refused.refusal did.holds.refused)
           (record {
             bricks = shows_unput layout _ brick.0 w did.next did.holds.stays did.bricks;
             history = tells_same (seqs_of w) _ _ w c.expect_call.ensures.same shows.history;
           }));
       outcome_is = λ w shows.
-          (let did = shows_on layout c.args.self.now.bricks.items _ w brick (DoesSync c.args.group (Err (Refused c.in-Err-Refused.refusal))) shows.bricks asks in
+          (let did = shows_on w (DoesSync c.args.group (Err (Refused c.in-Err-Refused.refusal))) shows.bricks asks in
           sym (ap refused_or_begun (unsynced_here (coding layout) w brick c.args.group (up_there layout _ w _ c.requires shows.bricks) ∙ did.holds.refused)));
-      disks = disks_on c.args.self.now.bricks.items _ brick (DoesSync c.args.group (Err (Refused c.in-Err-Refused.refusal))) asks;
+      disks = disks_on (DoesSync c.args.group (Err (Refused c.in-Err-Refused.refusal))) asks;
     }
 
 pub returns-in-Err-NoMemory-clause-err : goal.returns-in-Err-NoMemory-clause-err
@@ -80,12 +80,12 @@ returns-in-Err-NoMemory-clause-err c =
     let brick = c.args.brick in
     record {
       shows = λ w shows.
-          (let did = shows_on layout c.args.self.now.bricks.items _ w brick (DoesSync c.args.group (Err c.in-Err-NoMemory.field-0)) shows.bricks
+          (let did = shows_on w (DoesSync c.args.group (Err c.in-Err-NoMemory.field-0)) shows.bricks
           c.in-Err-NoMemory.ensures.asks in
           record {
             bricks = shows_unput layout _ brick.0 w did.next did.holds.stays did.bricks;
             history = tells_same (seqs_of w) _ _ w c.expect_call.ensures.same shows.history;
           });
       contents = ap (λ (disks : List MemDisk). map content_of disks)
-          (disks_on c.args.self.now.bricks.items _ brick (DoesSync c.args.group (Err c.in-Err-NoMemory.field-0)) c.in-Err-NoMemory.ensures.asks);
+          (disks_on (DoesSync c.args.group (Err c.in-Err-NoMemory.field-0)) c.in-Err-NoMemory.ensures.asks);
     }

@@ -1,23 +1,23 @@
 -- The message is the machine's, and its brick handles it as the machine's does.
-use Rattle.std.proofs.Common.{◌≡◌, ◌≤◌, ℕ, zero, suc, true, false, get_or, List, Option, Some, None, Ok, refl, sym, ap, ◌∙◌, subst, arith}
+use Rattle.std.proofs.Common.{◌≡◌, ◌≤◌, ℕ, zero, suc, Bool, true, false, get_or, List, Option, Some, None, Ok, refl, sym, ap, ◌∙◌, subst, arith}
 use Rattle.std.proofs.lemmas.Bool.{and_parts}
 use Rattle.fab_base.specs.declared.identities.BrickId.{BrickId}
 use Rattle.messages.specs.declared.packets.Packet.{Packet}
 use Rattle.node.specs.Outcomes.{Outcome as Sent}
 use Rattle.stripe_code.specs.Codes.{coding}
 use Rattle.protocol.specs.Nodes.{NodeStep, put, received}
-use Rattle.protocol.specs.Worlds.{World, is_brick, is_up, packet_of, world_stepped, world_stopped}
+use Rattle.protocol.specs.Worlds.{World, is_brick, is_up, packet_of}
 use Rattle.protocol.proofs.Events.{world_counting}
-use Rattle.world.specs.Disks.{KeepsOthers}
-use Rattle.world.specs.BrickSteps.{DoesHandle}
-use Rattle.world.specs.Noted.{IsSameHistory}
-use Rattle.world.specs.Shown.{Tells, disks_of, seqs_of}
+use Rattle.world.specs.BrickSteps.{ChangesBrick, DoesHandle}
+use Rattle.world.specs.Noted.{IsSameHistory, NotesCrash, NotesStep}
+use Rattle.world.specs.Shown.{ShowsPower, Tells, seqs_of}
+use Rattle.world.specs.declared.bricks.Brick.{Brick}
 use Rattle.world.specs.CallNumbers.{calls_in}
 use Rattle.world.specs.declared.call_numbers.CallNumbers.{CallNumbers}
 use Rattle.world.specs.declared.deliveries.Deliveries.{Deliveries}
 use Rattle.world.specs.declared.histories.History.{History}
-use Rattle.world.specs.declared.simulations.Simulation.{Simulation}
-use Rattle.world.proofs.BrickListLemmas.{HandledAs, HandledWhole, HandledPart, down_at, handled_as, handled_contents, others_changed, up_at, up_there}
+use Rattle.world.proofs.BrickLemmas.{up_power}
+use Rattle.world.proofs.BrickListLemmas.{down_at, handled_contents, shows_kept, takes_there, up_at, up_there}
 use Rattle.world.proofs.DeliveryLemmas.{unsent_comes, astray_comes, whole_comes, part_comes}
 use Rattle.world.proofs.HistoryLemmas.{tells_same, tells_delivered, tells_crashed}
 use Rattle.world.proofs.HearingLemmas.{tells_step}
@@ -81,14 +81,20 @@ returns-in_err-reserve-clause-err c =
 
 pub returns-in_err-outs-clause-err : goal.returns-in_err-outs-clause-err
 returns-in_err-outs-clause-err c =
+    let layout = c.args.layout.now in
+    let to : BrickId = c.in-Some-find_up.to in
+    let found = up_at _ _ c.from.result c.in-Some.packet.now.to to c.deref-2.ensures.value c.from.ensures c.in-Some-find_up.ensures in
+    let handles = c.in_err-outs.ensures.handles in
     on_err_always c.from_residual-in_err-outs.result
     (record {
       shows = λ w shows. record {
-        bricks = handled_as c.args.layout.now c.args.self.now.bricks.items _ c.in-Some-find_up.to c.in-Some.packet.now c.args.fault w _ shows.bricks
-            c.in_err-outs.ensures.handles;
+        bricks = shows_kept w shows.bricks handles
+            (subst (λ (on : Bool). ShowsPower layout to (w.nodes to.0) (w.after to.0) on handles.power)
+            (sym (and_parts (is_brick layout to) (w.up to.0) (up_there layout _ w _ found.1 shows.bricks)).1)
+            (up_power layout to (w.nodes to.0) (w.after to.0) handles.power (takes_there c.in-Some.packet.now c.args.fault _ w shows.bricks handles).0));
         history = still c.args.self.now.history c.make_room.new.self w c.make_room.ensures.same _ c.expect.ensures.same _ c.reserve.ensures.same shows.history;
       };
-      contents = handled_contents c.args.self.now.bricks.items _ c.in-Some-find_up.to c.in-Some.packet.now c.args.fault _ c.in_err-outs.ensures.handles;
+      contents = handled_contents c.in-Some.packet.now c.args.fault _ handles;
     })
 
 pub returns-in-None-clause-ok : goal.returns-in-None-clause-ok
@@ -120,60 +126,51 @@ deliver-requires-in-None-2-clause-some c = some_number _ c.args.message c.in-Som
 
 pub returns-in-Some-2-clause-ok : goal.returns-in-Some-2-clause-ok
 returns-in-Some-2-clause-ok c w reached shows =
-    let to : BrickId = c.in-Some-find_up.to in
+    let layout = c.args.layout.now in
     let packet : Packet = c.in-Some.packet.now in
-    let new : Simulation = record { bricks = c.hand_over.new.bricks; history = c.step.new.self } in
-    let found =
-    up_at _ _ c.from.result c.in-Some.packet.now.to c.in-Some-find_up.to c.deref-2.ensures.value c.from.ensures c.in-Some-find_up.ensures
-    in
-    let v : World = world_counting (coding c.args.layout.now) w c.args.message packet in
-    let step : NodeStep = received (coding c.args.layout.now) to (w.clocks to.0) (w.nodes to.0) packet in
-    let did : HandledWhole c.args.layout.now w to packet c.args.fault c.args.self.now.bricks.items c.hand_over.new.bricks.items c.in-Some-2.outs =
-    subst (λ (outs : Option Sent). HandledAs c.args.layout.now w to packet c.args.fault c.args.self.now.bricks.items c.hand_over.new.bricks.items (Ok outs))
-    c.in-Some-2.is (handled_as c.args.layout.now c.args.self.now.bricks.items _ to packet c.args.fault w _ shows.bricks c.in_ok-outs.ensures.handles)
-    in
-    let opens = received_opens_reads (coding c.args.layout.now) to (w.clocks to.0) (w.nodes to.0) packet
-    (λ k call open_at. reached_numbered c.args.layout.now w reached to.0 k call open_at) in
+    let to : BrickId = packet.to in
+    let old : List Brick = c.args.self.now.bricks.items in
+    let bricks : List Brick = c.hand_over.new.bricks.items in
+    let outs : Sent = c.in-Some-2.outs in
+    let found = up_at _ _ c.from.result to c.in-Some-find_up.to c.deref-2.ensures.value c.from.ensures c.in-Some-find_up.ensures in
+    let handles : ChangesBrick old bricks to (DoesHandle packet c.args.fault (Ok (Some outs))) =
+    subst (λ (b : BrickId). ChangesBrick old bricks b (DoesHandle packet c.args.fault (Ok (Some outs)))) found.0
+    (subst (λ (o : Option Sent). ChangesBrick old bricks c.in-Some-find_up.to (DoesHandle packet c.args.fault (Ok o))) c.in-Some-2.is
+    c.in_ok-outs.ensures.handles) in
+    let notes = subst (λ (b : BrickId). NotesStep c.deliver.new.self c.step.new.self b outs) found.0 c.step.ensures in
+    let took = takes_there packet c.args.fault (Ok (Some outs)) w shows.bricks handles in
+    let step : NodeStep = received (coding layout) to (w.clocks to.0) (w.nodes to.0) packet in
     let told = tells_same (seqs_of w) _ _ w c.make_room.ensures.same shows.history in
-    let up = up_there c.args.layout.now _ w _ found.1 shows.bricks in
-    whole_comes c.args.layout.now w c.args.self.now new c.args.message c.args.fault packet
-    (the_packet _ _ _ c.args.message _ c.deref.ensures.value told.packets c.in-Some.ensures)
-    (subst (λ (b : BrickId). is_up c.args.layout.now w b ≡ true) found.0 up)
-    (subst (λ (b : BrickId). KeepsOthers (Some b) (disks_of c.args.self.now.bricks.items) (disks_of c.hand_over.new.bricks.items)) found.0
-    (others_changed c.args.self.now.bricks.items _ to (DoesHandle packet c.args.fault _) c.hand_over.ensures.handles))
-    c.in-Some-2.outs
-    (subst (λ (b : BrickId). HandledWhole c.args.layout.now w b packet c.args.fault c.args.self.now.bricks.items c.hand_over.new.bricks.items c.in-Some-2.outs) found.0 did)
-    (subst (λ (b : BrickId). Tells c.step.new.self (world_stepped (coding c.args.layout.now) v b
-    (received (coding c.args.layout.now) b (w.clocks b.0) (w.nodes b.0) packet))) found.0
-    (tells_step (coding c.args.layout.now) _ _ v to c.in-Some-2.outs step.node step
-    (tells_replies c.args.layout.now _ w c.args.message packet
+    let up = subst (λ (b : BrickId). is_up layout w b ≡ true) found.0 (up_there layout _ w _ found.1 shows.bricks) in
+    whole_comes layout w c.args.self.now (record { bricks = c.hand_over.new.bricks; history = c.step.new.self }) c.args.message c.args.fault packet
+    (the_packet _ _ _ c.args.message _ c.deref.ensures.value told.packets c.in-Some.ensures) up shows.bricks handles outs took
+    (tells_step (coding layout) c.deliver.new.self c.step.new.self (world_counting (coding layout) w c.args.message packet) to outs step.node step
+    (tells_replies layout _ w c.args.message packet
     (tells_delivered (seqs_of w) _ _ w c.args.message c.deliver.ensures.rest c.deliver.ensures.delivered
     (still c.args.self.now.history c.make_room.new.self w c.make_room.ensures.same _ c.expect.ensures.same _ c.reserve.ensures.same shows.history)))
-    (and_parts (is_brick c.args.layout.now to) (w.up to.0) up).1 opens
-    (record { packets = did.packets; told = did.told; answers = did.answers; reports = did.reports; state_is = refl }) c.step.ensures))
+    (and_parts (is_brick layout to) (w.up to.0) up).1
+    (received_opens_reads (coding layout) to (w.clocks to.0) (w.nodes to.0) packet
+    (λ k call open_at. reached_numbered layout w reached to.0 k call open_at))
+    (record { packets = took.packets; told = took.told; answers = took.answers; reports = took.reports; state_is = refl }) notes)
 
 pub returns-in-None-2-clause-ok : goal.returns-in-None-2-clause-ok
 returns-in-None-2-clause-ok c w reached shows =
-    let to : BrickId = c.in-Some-find_up.to in
+    let layout = c.args.layout.now in
     let packet : Packet = c.in-Some.packet.now in
-    let new : Simulation = record { bricks = c.hand_over.new.bricks; history = c.crash.new.self } in
-    let found =
-    up_at _ _ c.from.result c.in-Some.packet.now.to c.in-Some-find_up.to c.deref-2.ensures.value c.from.ensures c.in-Some-find_up.ensures
-    in
-    let did : HandledPart c.args.layout.now w to packet c.args.fault c.args.self.now.bricks.items c.hand_over.new.bricks.items =
-    subst (λ (outs : Option Sent). HandledAs c.args.layout.now w to packet c.args.fault c.args.self.now.bricks.items c.hand_over.new.bricks.items (Ok outs))
-    c.in-None-2.is (handled_as c.args.layout.now c.args.self.now.bricks.items _ to packet c.args.fault w _ shows.bricks c.in_ok-outs.ensures.handles)
-    in
+    let to : BrickId = packet.to in
+    let old : List Brick = c.args.self.now.bricks.items in
+    let bricks : List Brick = c.hand_over.new.bricks.items in
+    let found = up_at _ _ c.from.result to c.in-Some-find_up.to c.deref-2.ensures.value c.from.ensures c.in-Some-find_up.ensures in
+    let handles : ChangesBrick old bricks to (DoesHandle packet c.args.fault (Ok None)) =
+    subst (λ (b : BrickId). ChangesBrick old bricks b (DoesHandle packet c.args.fault (Ok None))) found.0
+    (subst (λ (o : Option Sent). ChangesBrick old bricks c.in-Some-find_up.to (DoesHandle packet c.args.fault (Ok o))) c.in-None-2.is
+    c.in_ok-outs.ensures.handles) in
     let told = tells_same (seqs_of w) _ _ w c.make_room.ensures.same shows.history in
-    part_comes c.args.layout.now w c.args.self.now new c.args.message c.args.fault packet
+    part_comes layout w c.args.self.now (record { bricks = c.hand_over.new.bricks; history = c.crash.new.self }) c.args.message c.args.fault packet
     (the_packet _ _ _ c.args.message _ c.deref.ensures.value told.packets c.in-Some.ensures)
-    (subst (λ (b : BrickId). is_up c.args.layout.now w b ≡ true) found.0 (up_there c.args.layout.now _ w _ found.1 shows.bricks))
-    (subst (λ (b : BrickId). KeepsOthers (Some b) (disks_of c.args.self.now.bricks.items) (disks_of c.hand_over.new.bricks.items)) found.0
-    (others_changed c.args.self.now.bricks.items _ to (DoesHandle packet c.args.fault _) c.hand_over.ensures.handles))
-    (subst (λ (b : BrickId). HandledPart c.args.layout.now w b packet c.args.fault c.args.self.now.bricks.items c.hand_over.new.bricks.items) found.0 did)
-    (subst (λ (b : BrickId). Tells c.crash.new.self (world_stopped (coding c.args.layout.now)
-    (record w { reached = put w.reached c.args.message true }) b None)) found.0
-    (tells_crashed (coding c.args.layout.now) _ _ (record w { reached = put w.reached c.args.message true }) to
+    (subst (λ (b : BrickId). is_up layout w b ≡ true) found.0 (up_there layout _ w _ found.1 shows.bricks)) shows.bricks handles
+    (takes_there packet c.args.fault (Ok None) w shows.bricks handles)
+    (tells_crashed (coding layout) _ _ (record w { reached = put w.reached c.args.message true }) to
     (tells_delivered (seqs_of w) _ _ w c.args.message c.deliver-in-None-2.ensures.rest c.deliver-in-None-2.ensures.delivered
     (still c.args.self.now.history c.make_room.new.self w c.make_room.ensures.same _ c.expect.ensures.same _ c.reserve.ensures.same shows.history))
-    c.crash.ensures))
+    (subst (λ (b : BrickId). NotesCrash c.deliver-in-None-2.new.self c.crash.new.self b) found.0 c.crash.ensures))

@@ -1,5 +1,5 @@
 -- The brick of the number starts where the machine's may.
-use Rattle.std.proofs.Common.{◌≡◌, Bool, true, false, List, Result, Ok, Err, arith, refl, subst, ap}
+use Rattle.std.proofs.Common.{Bool, true, false, Result, Ok, Err, arith, refl, subst}
 use Rattle.std.specs.Result.{OnErr}
 use Rattle.fab_base.specs.declared.faults.NoMem.{NoMem}
 use Rattle.world.specs.Runs.{brick_of}
@@ -18,14 +18,14 @@ returns-then-branch-clause-ok c w reached shows =
     start_comes c.args.layout.now w c.args.self.now (record { bricks = c.start_brick.new.bricks; history = c.args.self.now.history })
     (brick_of c.args.brick) c.args.fault true refl shows
     (subst (λ (b : Bool). StartedAs c.args.layout.now w (brick_of c.args.brick) c.args.fault c.args.self.now.bricks.items c.start_brick.new.bricks.items (Ok b))
-    c.if-branch.true (started_as c.args.layout.now c.args.self.now.bricks.items _ (brick_of c.args.brick) c.args.fault w _ shows.bricks c.in_ok-start_brick.ensures))
+    c.if-branch.true (started_as c.args.fault _ w shows.bricks c.in_ok-start_brick.ensures))
 
 pub returns-else-branch-clause-ok : goal.returns-else-branch-clause-ok
 returns-else-branch-clause-ok c w reached shows =
     start_comes c.args.layout.now w c.args.self.now (record { bricks = c.start_brick.new.bricks; history = c.args.self.now.history })
     (brick_of c.args.brick) c.args.fault false refl shows
     (subst (λ (b : Bool). StartedAs c.args.layout.now w (brick_of c.args.brick) c.args.fault c.args.self.now.bricks.items c.start_brick.new.bricks.items (Ok b))
-    c.if-branch.false (started_as c.args.layout.now c.args.self.now.bricks.items _ (brick_of c.args.brick) c.args.fault w _ shows.bricks c.in_ok-start_brick.ensures))
+    c.if-branch.false (started_as c.args.fault _ w shows.bricks c.in_ok-start_brick.ensures))
 
 -- what holds, holds of an error
 of_err : (result : Result Outcome NoMem) (P : Type 0) → P → OnErr result P
@@ -37,10 +37,8 @@ returns-in_err-start_brick-clause-err c =
     of_err c.from_residual.result _
     (record {
       shows = λ w shows. record {
-        bricks = started_as c.args.layout.now c.args.self.now.bricks.items _ (brick_of c.args.brick) c.args.fault w _ shows.bricks
-            c.in_err-start_brick.ensures;
+        bricks = started_as c.args.fault _ w shows.bricks c.in_err-start_brick.ensures;
         history = shows.history;
       };
-      contents = refused_contents c.args.layout.now c.args.self.now.bricks.items _ (brick_of c.args.brick) c.args.fault _ c.requires.nodes
-          c.in_err-start_brick.ensures;
+      contents = refused_contents c.args.fault _ c.requires.nodes c.in_err-start_brick.ensures;
     })
