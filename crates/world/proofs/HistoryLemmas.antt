@@ -62,14 +62,14 @@ same_sent old new rest sent = record {
 
 -- and so from one to the next
 pub same_then : (old mid new : History) → IsSameHistory old mid → IsSameHistory mid new → IsSameHistory old new
-same_then old mid new first then = record {
-  sent = then.sent ∙ first.sent;
-  reached = λ k. then.reached k ∙ first.reached k;
-  marks = then.marks ∙ first.marks;
-  reports = then.reports ∙ first.reports;
-  operations = then.operations ∙ first.operations;
-  marked = then.marked ∙ first.marked;
-  calls = λ i. then.calls i ∙ first.calls i;
+same_then old mid new first second = record {
+  sent = second.sent ∙ first.sent;
+  reached = λ k. second.reached k ∙ first.reached k;
+  marks = second.marks ∙ first.marks;
+  reports = second.reports ∙ first.reports;
+  operations = second.operations ∙ first.operations;
+  marked = second.marked ∙ first.marked;
+  calls = λ i. second.calls i ∙ first.calls i;
 }
 
 -- it tells of as many calls

@@ -1,5 +1,5 @@
 -- What is put is what is noted, at its place.
-use Rattle.std.proofs.Common.{ℕ, ◌+◌, Bool, [], ◌∷◌, ◌++◌, length, refl, ap, ◌∙◌}
+use Rattle.std.proofs.Common.{ℕ, ◌+◌, Bool, [], ◌∷◌, ◌++◌, length, sym, ap, ◌∙◌}
 use Rattle.reg_model.specs.declared.marks.Mark.TheVariants.{Begin}
 use Rattle.world.specs.CallNumbers.{calls_in}
 use Rattle.world.specs.Noted.{begun_kept, calls_with}
@@ -27,5 +27,7 @@ returns c =
       marked = ap (λ (h : History). h.marked.items) sends ∙ c.push_reserved-2.ensures.items ∙ ap (λ (n : ℕ). old.marked.items ++ (n + 1) ∷ []) count;
       calls = λ i. ap (λ (h : History). calls_in h.calls i) sends ∙ c.add.ensures i
           ∙ ap (λ (n : ℕ). calls_with old.calls c.args.brick.0 (n + 1) i) count;
-      rest = refl;
+      rest = sends
+          ∙ ap (λ (h : History). record old { sent = c.send.new.self.sent; marks = h.marks; operations = h.operations; marked = h.marked; calls = h.calls })
+          (sym sends);
     }
