@@ -21,20 +21,21 @@ use Rattle.protocol.specs.Calms.{IsCalm, operation_marked}
 use Rattle.world.specs.Runs.{brick_of}
 use Rattle.world.specs.Faults.{IsEventsOf, IsLeft, IsReached, plan_of}
 use Rattle.world.specs.BrickSteps.{ChangesBrick}
-use Rattle.world.specs.Disks.{KeepsOthers, LeavesDisks, ListsEvent, ListsHandled, ListsPacket, receiver_of, changes_disk_of}
+use Rattle.world.specs.Noted.{IsSameHistory}
+use Rattle.world.specs.Disks.{KeepsDisks, KeepsOthers, LeavesDisks, ListsEvent, ListsHandled, ListsPacket, receiver_of, changes_disk_of}
 use Rattle.world.specs.EventCalls.{handled_calls}
-use Rattle.world.specs.declared.bricks.Brick.{Brick}
 use Rattle.world.specs.declared.bricks.Power.{Power}
-use Rattle.world.specs.Shown.{IsRunning, IsUpWith, Shows, ShowsBricks, ShowsPower, TookPart, TookWhole, disk_in, StartsAs, Tells, Comes, TakesEvent, StaysAs, RunsLine, RefusesLine, disks_of}
+use Rattle.world.specs.Shown.{IsRunning, IsUpWith, Shows, ShowsBricks, ShowsPower, TookPart, TookWhole, disk_in, seqs_of, StartsAs, Tells, Comes, TakesEvent, StaysAs, RunsLine, RefusesLine, disks_of}
 use Rattle.world.specs.Texts.{marks_if, is_deliverable, outcome_of, outcome_text, new_marks, new_reports, event_text, text_of, line_text}
 use Rattle.world.specs.declared.simulations.Outcome.{Outcome}
 use Rattle.world.specs.declared.simulations.Outcome.TheVariants.{Marks, Idle}
 use Rattle.world.specs.declared.simulations.Simulation.{Simulation}
+use Rattle.world.specs.declared.bricks.Brick.{Brick}
 use Rattle.world.specs.declared.histories.History.{History}
 use Rattle.world.proofs.BrickLemmas.{up_power}
 use Rattle.world.proofs.BrickListLemmas.{shows_down, shows_step}
 use Rattle.world.proofs.DiskLemmas.{disk_was, of_disk, of_now, one_kept, others_changed, same_kept, unwritten_changed}
-use Rattle.world.proofs.HistoryLemmas.{tells_during}
+use Rattle.world.proofs.HistoryLemmas.{tells_during, tells_same}
 use Rattle.world.proofs.MachineBegins.{happens_stopped_during, happens_unsent, happens_astray}
 use Rattle.world.proofs.RunLemmas.{nothing_text, came_text, start_few}
 use Rattle.world.proofs.SimulationLemmas.{shows_still, shows_handled, handled_here, handled_astray}
@@ -229,6 +230,27 @@ pub idle_comes : (layout : Layout) (w : World) (state : Simulation) (n : ℕ) (b
     → Comes layout w (disks_of state.bricks.items) state (Calm n bricks) Idle
 idle_comes layout w state n bricks not shows =
     ([], record { are = inr (not, refl); shows = shows; prints = refl; kept = refl })
+
+-- a state of the same bricks, whose history tells what the other's told, shows what that shows
+pub shows_alike : (layout : Layout) (old new : Simulation) (w : World) → new.bricks.items ≡ old.bricks.items → IsSameHistory old.history new.history
+    → Shows layout old w → Shows layout new w
+shows_alike layout old new w same stays shows = record {
+  bricks = subst (λ (bricks : List Brick). ShowsBricks layout bricks w.nodes w.after w.up w.clocks) (sym same) shows.bricks;
+  history = tells_same (seqs_of w) old.history new.history w stays shows.history;
+}
+
+-- what a line came to is so of a state of the same bricks, whose history tells what the other's told
+pub comes_alike : (layout : Layout) (w : World) (disks : List MemDisk) (old new : Simulation) (line : Line) (outcome : Outcome)
+    → new.bricks.items ≡ old.bricks.items → IsSameHistory old.history new.history → Comes layout w disks old line outcome → Comes layout w disks new line outcome
+comes_alike layout w disks old new line outcome same stays (events, comes) = (
+  events,
+  record {
+    are = subst (λ (bricks : List Brick). IsEventsOf layout w disks (disks_of bricks) line events) (sym same) comes.are;
+    shows = shows_alike layout old new (run (coding layout) events w) same stays comes.shows;
+    prints = comes.prints;
+    kept = subst (λ (bricks : List Brick). KeepsDisks (coding layout) w events disks (disks_of bricks)) (sym same) comes.kept;
+  },
+)
 
 -- so such a line runs that is one event, which makes no call of a disk
 pub takes_runs : (layout : Layout) (old new : Simulation) (line : Line) (event : Event) (outcome : Outcome)

@@ -276,6 +276,13 @@ impl History {
         Ok(())
     }
 
+    /// Chains what was sent, so that the messages of an operation are found among their own.
+    pub fn chain_sent(&mut self)
+        ensures { IsSameHistory self.old self.new }
+    {
+        self.sent.catch_up();
+    }
+
     /// Notes that a brick stops.
     pub fn crash(&mut self, brick: BrickId)
         requires { HasStepRoom self.old }

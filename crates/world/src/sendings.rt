@@ -12,7 +12,7 @@ use std::collections::BTreeMap;
 pub type CallKey = (u16, u32, u64);
 
 /// Every message that was sent, in order. A chain leads from the last message of each call to its first, so that messages of others need not be
-/// looked at.
+/// looked at. Only a line `calm` goes along it, so messages are chained when one asks for that, each of them once.
 #[derive(Drop)]
 pub struct Sendings {
     /// The messages.
@@ -67,25 +67,33 @@ impl Sendings {
         ensures room { vec_capacity self.new.packets ≡ vec_capacity self.old.packets }
     {
         self.packets.push_reserved(packet);
-        self.chain();
     }
 
-    /// Chains the first message that is not chained yet. Where memory is refused for that, it stays so, and is looked at with those behind it.
-    fn chain(&mut self)
+    /// Chains the messages that are not chained yet. One for which memory is refused stays so, and is looked at with those behind it.
+    pub fn catch_up(&mut self)
         ensures { self.new.packets ≡ self.old.packets }
     {
-        let place = self.links.len();
-        if place >= self.packets.len() || self.links.reserve(1).is_err() {
-            return;
+        while self.links.len() < self.packets.len() {
+            let Ok(()) = self.chain() else {
+                return;
+            };
         }
+    }
+
+    /// Chains the first message that is not chained yet.
+    fn chain(&mut self) -> Result<(), NoMem>
+        requires { vec_len self.old.links < vec_len self.old.packets }
+        ensures packets { self.new.packets ≡ self.old.packets }
+        ensures links { OnOk result (vec_len self.new.links ≡ vec_len self.old.links + 1) }
+    {
+        let place = self.links.len();
+        self.links.reserve(1)?;
         let link = match call_of(&self.packets[place]) {
-            Some(call) => match self.ends.insert(call, place + 1) {
-                Ok(before) => before.unwrap_or(0),
-                Err(_) => return,
-            },
+            Some(call) => self.ends.insert(call, place + 1)?.unwrap_or(0),
             None => 0,
         };
         self.links.push_reserved(link);
+        Ok(())
     }
 
     /// A place behind every message of a call.

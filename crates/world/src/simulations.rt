@@ -438,6 +438,7 @@ impl Simulation {
         ensures ok { IfOk result (RunsLine layout.now self.old self.new (Calm mark bricks.now)) }
         ensures err { OnErr result (RefusesLine layout.now self.old self.new (Calm mark bricks.now)) }
     {
+        self.history.chain_sent();
         let operation = self.history.number_marked(mark);
         if !self.is_calm(layout, operation, bricks) {
             return Ok(Outcome::Idle);
@@ -473,10 +474,27 @@ impl Simulation {
             else {
                 return Ok(some);
             };
-            self.deliver(alloc, layout, place as u64 + 1, None)?;
+            self.deliver_alone(alloc, layout, place as u64 + 1)?;
             from = place + 1;
             some = true;
         }
         Ok(some)
+    }
+
+    /// Delivers the message of a number to an operation that runs alone, and chains what its receiver sends.
+    fn deliver_alone(
+        &mut self,
+        alloc: Global,
+        layout: &Layout,
+        message: u64,
+    ) -> Result<Outcome, NoMem>
+        requires nodes { AreNodesOf layout.now self.old.bricks.items }
+        requires bricks { vec_len self.old.bricks ≡ layout.now.bricks }
+        ensures ok { IfOk result (RunsLine layout.now self.old self.new (Deliver message None)) }
+        ensures err { OnErr result (StaysAs layout.now self.old self.new) }
+    {
+        let outcome = self.deliver(alloc, layout, message, None)?;
+        self.history.chain_sent();
+        Ok(outcome)
     }
 }

@@ -31,16 +31,16 @@ overflow_add-place c =
     slice_get_within c.loop-record.self.history.sent.packets.items c.in-Some-next_left.place c.in-Some-next_left.ensures.2.0 c.in-Some-next_left.ensures.2.1 in
     search (rules, within, c.loop-record.self.history.sent.packets.ok)
 
-pub deliver-requires-clause-nodes : goal.deliver-requires-clause-nodes
-deliver-requires-clause-nodes c = nodes_of _ _ _ _ _ _ c.loop-record.invariant.0.2.bricks
+pub deliver_alone-requires-clause-nodes : goal.deliver_alone-requires-clause-nodes
+deliver_alone-requires-clause-nodes c = nodes_of _ _ _ _ _ _ c.loop-record.invariant.0.2.bricks
 
-pub returns-in_err-deliver-clause-cut : goal.returns-in_err-deliver-clause-cut
-returns-in_err-deliver-clause-cut c =
+pub returns-in_err-deliver_alone-clause-cut : goal.returns-in_err-deliver_alone-clause-cut
+returns-in_err-deliver_alone-clause-cut c =
     on_err_always c.from_residual.result (λ w reached shows calm marked.
     (let so = c.loop-record.invariant.1 w reached shows calm marked in
     has_begun c.args.layout.now w c.args.operation c.args.bricks.now (disks_of c.args.self.now.bricks.items) c.loop-record.self c.loop-record.from
-    c.loop-record.some calm so c.deliver.new.self (c.in_err-deliver.ensures.err.shows so.last so.shows)
-    c.in_err-deliver.ensures.err.contents))
+    c.loop-record.some calm so c.deliver_alone.new.self (c.in_err-deliver_alone.ensures.err.shows so.last so.shows)
+    c.in_err-deliver_alone.ensures.err.contents))
 
 pub overflow_add-from : goal.overflow_add-from
 overflow_add-from c =
@@ -52,18 +52,18 @@ pub loop-record-preserved : goal.loop-record-preserved
 loop-record-preserved c = (
   (
       let (v, reached, shows) = c.loop-record.invariant.0 in
-      stands_on c.args.layout.now v (disks_of c.loop-record.self.bricks.items) c.deliver.new.self (Deliver (c.in-Some-next_left.place + 1) None)
-      c.in_ok-deliver.field-0 reached (c.in_ok-deliver.ensures.ok v reached shows)
+      stands_on c.args.layout.now v (disks_of c.loop-record.self.bricks.items) c.deliver_alone.new.self (Deliver (c.in-Some-next_left.place + 1) None)
+      c.in_ok-deliver_alone.field-0 reached (c.in_ok-deliver_alone.ensures.ok v reached shows)
       ),
   λ w reached shows calm marked.
       (let so = c.loop-record.invariant.1 w reached shows calm marked in
       goes_on c.args.layout.now w c.args.operation c.args.bricks.now (disks_of c.args.self.now.bricks.items) c.loop-record.self c.loop-record.from
       c.loop-record.some calm so c.in-Some.record (opens_as c.args.layout.now so.last c.loop-record.self c.args.operation _ c.in-Some.ensures so.reached so.shows)
       c.in-Some-next_left.place
-      c.deliver.new.self c.in_ok-deliver.field-0
+      c.deliver_alone.new.self c.in_ok-deliver_alone.field-0
       (subst (λ (sent : List Packet). FindsLeft c.loop-record.self.history.delivered.reached.items c.in-Some.record c.args.bricks.now c.loop-record.from sent
       (Some c.in-Some-next_left.place)) so.shows.history.packets c.in-Some-next_left.ensures)
-      (c.in_ok-deliver.ensures.ok so.last so.reached so.shows)),
+      (c.in_ok-deliver_alone.ensures.ok so.last so.reached so.shows)),
 )
 
 pub returns-clause-run : goal.returns-clause-run
