@@ -11,8 +11,8 @@ use Rattle.stripe_code.specs.Codes.{coding}
 use Rattle.fab_base.specs.Layouts.{Layout}
 use Rattle.protocol.specs.Nodes.{Node, NodeStep, put, refusal_of, proposal_refusal, sync_refusal, invoked, proposed, synced_at, received, ticked, stopped}
 use Rattle.protocol.specs.Worlds.{World, Invokes, Proposes, Syncs, Delivers, Sets, Ticks, Stops, is_brick, is_up, packet_of, world_began, world_stepped, world_stopped, happens}
-use Rattle.world.specs.Runs.{ask_of}
-use Rattle.world.specs.Shown.{Shows, ShowsBricks, Tells, seqs_of}
+use Rattle.world.specs.Runs.{all_events, ask_of}
+use Rattle.world.specs.Shown.{IsReachedBy, Shows, ShowsBricks, Tells, seqs_of, world_in}
 use Rattle.world.specs.Texts.{marks_if, is_deliverable}
 use Rattle.world.specs.declared.simulations.Outcome.TheVariants.{Marks, Idle}
 use Rattle.world.specs.declared.bricks.Brick.{Brick}
@@ -21,6 +21,10 @@ use Rattle.world.specs.declared.simulations.Simulation.{Simulation}
 use Rattle.world.proofs.MachineBegins.{happens_begun, happens_proposed, happens_synced, happens_handled, happens_set, happens_ticked, happens_stopped}
 use Rattle.world.proofs.HistoryLemmas.{tells_other, heard_keeps}
 use Rattle.protocol.proofs.Events.{world_counting, world_handled}
+
+-- a schedule reaches the world that a state has come to
+pub come_to : (layout : Layout) (state : Simulation) → IsReachedBy layout (world_in layout state)
+come_to layout state = (all_events state.trail.course.steps ++ state.trail.course.events, refl)
 
 -- what holds anyway holds where there is an error
 pub on_err_always : {T E P : Type 0} (r : Result T E) → P → OnErr r P
