@@ -27,7 +27,7 @@ use Rattle.protocol.specs.Worlds.{World, Operation, is_up, number_of, first_worl
 use Rattle.protocol.specs.Happenings.{is_marked, writes}
 use Rattle.protocol.specs.Settings.{Setting}
 use Rattle.protocol.specs.Worlds.{Event}
-use Rattle.world.specs.Runs.{Course, brick_of, with_events, world_at}
+use Rattle.world.specs.Runs.{brick_of, with_events, world_at}
 use Rattle.world.specs.CallNumbers.{AreCalls, HasCallRoom, calls_in}
 use Rattle.world.specs.Faults.{HoldsOne, IsEventsOf, IsStartOf, IsLeft, IsLeftOpening, IsReached, IsReachedOpening, Finds, plan_of, found_of}
 use Rattle.world.specs.Disks.{ShowsDisk, first_listed, IsUnwritten, KeepsDisks, LeavesContents, ListsPacket, ListsOpening}
@@ -537,8 +537,7 @@ is_empty [] = true
 is_empty (event ∷ events) = false
 
 -- An operation ran alone among these bricks: these are its deliveries, and the state shows the world that they leave.
-pub record HasRun (layout : Layout) (w : World) (n : ℕ) (bricks : List BrickId) (disks : List MemDisk) (state : Simulation) (some : Bool) : Type 0 where
-  pub events : List Event
+pub record HasRun (layout : Layout) (w : World) (n : ℕ) (bricks : List BrickId) (disks : List MemDisk) (state : Simulation) (some : Bool) (events : List Event) : Type 0 where
   pub some_is : some ≡ not (is_empty events)
   pub last : World
   pub prints : text_of (coding layout) w events ≡ marks_text (new_marks w last)
@@ -548,8 +547,7 @@ pub record HasRun (layout : Layout) (w : World) (n : ℕ) (bricks : List BrickId
   pub kept : KeepsDisks (coding layout) w events disks (disks_of state.bricks.items)
 
 -- so it began to
-pub record HasBegun (layout : Layout) (w : World) (n : ℕ) (bricks : List BrickId) (disks : List MemDisk) (state : Simulation) : Type 0 where
-  pub events : List Event
+pub record HasBegun (layout : Layout) (w : World) (n : ℕ) (bricks : List BrickId) (disks : List MemDisk) (state : Simulation) (events : List Event) : Type 0 where
   pub last : World
   pub begins : BeginsAlone (coding layout) n bricks w events last
   pub shows : Shows layout state last
@@ -570,10 +568,10 @@ MayRun layout state n bricks = IsCalm (coding layout) (world_in layout state) n 
 -- one that may did, from one state to another; or it began to
 abbrev pub RunsAloneTo : Layout → Simulation → Simulation → ℕ → List ℕ → Bool → Type 0
 RunsAloneTo layout old new n bricks some =
-    (has : HasRun layout (world_in layout old) n (map brick_of bricks) (disks_of old.bricks.items) new some)
-    × (new.trail.course ≡ with_events old.trail.course has.events)
+    (events : List Event) × HasRun layout (world_in layout old) n (map brick_of bricks) (disks_of old.bricks.items) new some events
+    × (new.trail.course ≡ with_events old.trail.course events)
 
 abbrev pub BeginsAloneTo : Layout → Simulation → Simulation → ℕ → List ℕ → Type 0
 BeginsAloneTo layout old new n bricks =
-    (has : HasBegun layout (world_in layout old) n (map brick_of bricks) (disks_of old.bricks.items) new)
-    × (new.trail.course ≡ with_events old.trail.course has.events)
+    (events : List Event) × HasBegun layout (world_in layout old) n (map brick_of bricks) (disks_of old.bricks.items) new events
+    × (new.trail.course ≡ with_events old.trail.course events)
