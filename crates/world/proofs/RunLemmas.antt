@@ -272,3 +272,23 @@ one_step old mid new line events none goes ended =
     ap (λ (c : Course). c.steps) ended
     ∙ ap (λ (c : Course). c.steps ++ record { line = line; events = c.events } ∷ []) goes
     ∙ ap (λ (l : List Event). old.steps ++ record { line = line; events = l ++ events } ∷ []) none
+
+-- what a line came to that was run, as of the steps before and behind it
+pub line_ran : (layout : Layout) (old mid : Simulation) (new : Course) (line : Line) (outcome : Outcome) → old.trail.course.events ≡ []
+    → GoesOn layout old mid line outcome
+    → new ≡ record { steps = mid.trail.course.steps ++ record { line = line; events = mid.trail.course.events } ∷ []; events = [] }
+    → (events : List Event)
+    × ComesTo layout (run (coding layout) (all_events old.trail.course.steps) (first_world layout)) (disks_of old.bricks.items) mid line outcome events
+    × (new.steps ≡ old.trail.course.steps ++ record { line = line; events = events } ∷ [])
+line_ran layout old mid new line outcome none (events, comes, goes) ended = (
+  events,
+  subst (λ (w : World). ComesTo layout w (disks_of old.bricks.items) mid line outcome events) (at_rest layout old.trail.course none) comes,
+  one_step old.trail.course mid.trail.course new line events none goes ended,
+)
+
+-- a state with another course shows what it showed
+pub shows_course : (layout : Layout) (old new : Simulation) (w : World) → new.bricks ≡ old.bricks → new.history ≡ old.history → Shows layout old w → Shows layout new w
+shows_course layout old new w bricks history shows = record {
+  bricks = subst (λ (b : _). ShowsBricks layout b.items w.nodes w.after w.up w.clocks) (sym bricks) shows.bricks;
+  history = subst (λ (h : _). Tells h w) (sym history) shows.history;
+}

@@ -14,4 +14,27 @@ run-requires-clause-stands c =
     subst (λ (v : World). Shows c.self.inside.layout c.self.inside.simulation v)
     (sym (at_rest c.self.inside.layout c.self.inside.simulation.trail.course c.self.invariant.ended)) c.self.invariant.shows
 
--- GHOSTS: the rest of this file is to be made over `GoesOn`, by `one_step` and then `runs_to` and `stands_run` as they are (see GHOSTS_NOTES.md).
+pub invariant_of-self : goal.invariant_of-self
+invariant_of-self c =
+    let layout = c.self.inside.layout in
+    let ran = line_ran layout c.self.inside.simulation c.run.new.self _ c.args.line.now c.in-Ok.outcome c.self.invariant.ended c.in-Ok.ensures.ok
+    c.ended-self-inside.ensures in
+    record {
+      shows = shows_course layout c.run.new.self _ _ refl refl
+          (stands_run layout c.self.inside.simulation.trail.course.steps _ (disks_of c.self.inside.simulation.bricks.items) (disks_of c.run.new.self.bricks.items)
+          c.run.new.self c.args.line.now c.in-Ok.outcome ran);
+      ended = ap (λ (course : Course). course.events) c.ended-self-inside.ensures;
+    }
+
+pub returns-in-Ok-clause-ok : goal.returns-in-Ok-clause-ok
+returns-in-Ok-clause-ok c =
+    let layout = c.self.inside.layout in
+    let new : Run = record { layout = layout; steps = c.ended-self-inside.result.course.steps; disks = disks_of c.run.new.self.bricks.items } in
+    subst (λ (r : Run). RunsTo r new c.args.line.now c.in-Ok.outcome) c.self.view_is
+    (runs_to layout c.self.inside.simulation.trail.course.steps c.ended-self-inside.result.course.steps (disks_of c.self.inside.simulation.bricks.items)
+    (disks_of c.run.new.self.bricks.items) c.run.new.self c.args.line.now c.in-Ok.outcome refl
+    (line_ran layout c.self.inside.simulation c.run.new.self c.ended-self-inside.result.course c.args.line.now c.in-Ok.outcome c.self.invariant.ended
+    c.in-Ok.ensures.ok c.ended-self-inside.ensures))
+
+-- GHOSTS: `returns-in-Ok-clause-disks`, `-marks` and `-reports` are as before, over `line_ran`. Of the arm of a line that has an operation run alone: `leaves_part`, and
+-- `stands_step` for the invariant; of the other: `other_stays`, which is `IsAsBefore`, and the invariant by `at_rest` (see GHOSTS_NOTES.md).
