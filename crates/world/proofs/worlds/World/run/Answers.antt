@@ -36,5 +36,34 @@ returns-in-Ok-clause-ok c =
     (line_ran layout c.self.inside.simulation c.run.new.self c.ended-self-inside.result.course c.args.line.now c.in-Ok.outcome c.self.invariant.ended
     c.in-Ok.ensures.ok c.ended-self-inside.ensures))
 
--- GHOSTS: `returns-in-Ok-clause-disks`, `-marks` and `-reports` are as before, over `line_ran`. Of the arm of a line that has an operation run alone: `leaves_part`, and
--- `stands_step` for the invariant; of the other: `other_stays`, which is `IsAsBefore`, and the invariant by `at_rest` (see GHOSTS_NOTES.md).
+pub returns-in-Ok-clause-disks : goal.returns-in-Ok-clause-disks
+returns-in-Ok-clause-disks c =
+    let layout = c.self.inside.layout in
+    disks_shown layout c.run.new.self c.ended-self-inside.result.course.steps
+    (stands_run layout c.self.inside.simulation.trail.course.steps c.ended-self-inside.result.course.steps (disks_of c.self.inside.simulation.bricks.items)
+    (disks_of c.run.new.self.bricks.items) c.run.new.self c.args.line.now c.in-Ok.outcome
+    (line_ran layout c.self.inside.simulation c.run.new.self c.ended-self-inside.result.course c.args.line.now c.in-Ok.outcome c.self.invariant.ended
+    c.in-Ok.ensures.ok c.ended-self-inside.ensures))
+
+pub returns-in-Ok-clause-marks : goal.returns-in-Ok-clause-marks
+returns-in-Ok-clause-marks c =
+    let layout = c.self.inside.layout in
+    let (events, comes, grown) = line_ran layout c.self.inside.simulation c.run.new.self c.ended-self-inside.result.course c.args.line.now c.in-Ok.outcome
+    c.self.invariant.ended c.in-Ok.ensures.ok c.ended-self-inside.ensures in
+    subst (λ (r : Run). length (world_of r).marks
+    ≤ length (world_of (record { layout = layout; steps = c.ended-self-inside.result.course.steps; disks = [] })).marks) c.self.view_is
+    (marks_grow layout c.self.inside.simulation.trail.course.steps c.ended-self-inside.result.course.steps
+    (record { line = c.args.line.now; events = events }) [] [] grown)
+
+pub returns-in-Ok-clause-reports : goal.returns-in-Ok-clause-reports
+returns-in-Ok-clause-reports c =
+    let layout = c.self.inside.layout in
+    let (events, comes, grown) = line_ran layout c.self.inside.simulation c.run.new.self c.ended-self-inside.result.course c.args.line.now c.in-Ok.outcome
+    c.self.invariant.ended c.in-Ok.ensures.ok c.ended-self-inside.ensures in
+    subst (λ (r : Run). length (world_of r).choices.reports
+    ≤ length (world_of (record { layout = layout; steps = c.ended-self-inside.result.course.steps; disks = [] })).choices.reports) c.self.view_is
+    (reports_grow layout c.self.inside.simulation.trail.course.steps c.ended-self-inside.result.course.steps
+    (record { line = c.args.line.now; events = events }) [] [] grown)
+
+-- GHOSTS: the two arms of an error are left. Of a line that has an operation run alone: `leaves_part`, and `stands_step` for the invariant. Of another: `other_stays`, which
+-- is `IsAsBefore`, and the invariant by `at_rest` (see GHOSTS_NOTES.md).
