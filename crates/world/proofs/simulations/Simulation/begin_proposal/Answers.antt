@@ -78,7 +78,7 @@ returns-in-Err-Refused-clause-ok c =
           }));
       outcome_is = λ w shows.
           (let did = shows_on w (DoesPropose c.args.group c.args.members.now (Err (Refused c.in-Err-Refused.refusal))) shows.bricks asks in
-          sym (ap refused_or_begun (unproposed_here (coding layout) w brick c.args.group (up_there layout _ w _ c.requires shows.bricks) ∙ did.holds.refused)));
+          rw c.in-Err-Refused.field-0-is (sym (ap refused_or_begun (unproposed_here (coding layout) w brick c.args.group (up_there layout _ w _ c.requires shows.bricks) ∙ did.holds.refused))));
       disks = disks_on (DoesPropose c.args.group c.args.members.now (Err (Refused c.in-Err-Refused.refusal))) asks;
     }
 

@@ -70,7 +70,7 @@ returns-in-Err-Refused-clause-ok c =
           }));
       outcome_is = λ w shows.
           (let did = shows_on w (DoesSync c.args.group (Err (Refused c.in-Err-Refused.refusal))) shows.bricks asks in
-          sym (ap refused_or_begun (unsynced_here (coding layout) w brick c.args.group (up_there layout _ w _ c.requires shows.bricks) ∙ did.holds.refused)));
+          rw c.in-Err-Refused.field-0-is (sym (ap refused_or_begun (unsynced_here (coding layout) w brick c.args.group (up_there layout _ w _ c.requires shows.bricks) ∙ did.holds.refused))));
       disks = disks_on (DoesSync c.args.group (Err (Refused c.in-Err-Refused.refusal))) asks;
     }
 
