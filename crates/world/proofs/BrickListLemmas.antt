@@ -30,7 +30,7 @@ use Rattle.world.proofs.DiskLemmas.{contents_changed, disks_kept}
 use Rattle.world.specs.declared.bricks.Brick.{Brick}
 use Rattle.world.specs.declared.bricks.Power.{Power}
 use Rattle.world.specs.declared.bricks.Power.TheVariants.{Up, Down}
-use Rattle.world.proofs.BrickLemmas.{kept_same, still_runs, runs_own, as_shown}
+use Rattle.world.proofs.BrickLemmas.{kept_same, still_runs, runs_own, as_shown, up_power}
 use Rattle.world.proofs.DownLemmas.{rests_off}
 use Rattle.world.proofs.Places.{each_value, grown, replaced, slice_get_not_none, value_here, value_elsewhere}
 
@@ -211,7 +211,16 @@ takes_there {layout} {old} {new} {number} packet fault result w shows changes = 
         (λ l me s. Takes l me s changes.brick.clock packet node.brick.disk fault changes.power result) takes)
     by (Down disk) shown takes = absurd takes
 
--- where memory was refused, a read of each disk gives what it gave
+-- where memory was refused, the bricks show what they showed
+pub handled_kept : {layout : Layout} {old new : List Brick} {number : BrickId} (packet : Packet) (fault : Option Fault) (refused : NoMem) (w : World)
+    → w.up number.0 ≡ true → ShowsBricks layout old w.nodes w.after w.up w.clocks → ChangesBrick old new number (DoesHandle packet fault (Err refused))
+    → ShowsBricks layout new w.nodes w.after w.up w.clocks
+handled_kept {layout} {old} {new} {number} packet fault refused w up shows changes =
+    shows_kept w shows changes
+    (subst (λ (on : Bool). ShowsPower layout number (w.nodes number.0) (w.after number.0) on changes.power) (sym up)
+    (up_power layout number (w.nodes number.0) (w.after number.0) changes.power (takes_there packet fault (Err refused) w shows changes).0))
+
+-- and a read of each disk gives what it gave
 pub handled_contents : {old new : List Brick} {number : BrickId} (packet : Packet) (fault : Option Fault) (refused : NoMem)
     → ChangesBrick old new number (DoesHandle packet fault (Err refused)) → map content_of (disks_of new) ≡ map content_of (disks_of old)
 handled_contents packet fault refused changes = contents_changed changes (by changes.brick.power changes.holds)

@@ -78,7 +78,7 @@ returns-in-Err-Refused-clause-ok c =
             history = tells_same (seqs_of w) _ _ w c.expect_call.ensures.same shows.history;
           }));
       outcome_is =
-          (sym (ap refused_or_begun (unsynced_here (coding layout) w brick c.args.group (up_there layout _ w _ c.requires.up shows.bricks) ∙ did.holds.refused)));
+          rw c.in-Err-Refused.field-0-is (sym (ap refused_or_begun (unsynced_here (coding layout) w brick c.args.group (up_there layout _ w _ c.requires.up shows.bricks) ∙ did.holds.refused)));
       disks = disks_on (DoesSync c.args.group (Err (Refused c.in-Err-Refused.refusal))) asks;
     }
 

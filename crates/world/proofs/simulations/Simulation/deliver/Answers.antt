@@ -1,5 +1,5 @@
 -- The message is the machine's, and its brick handles it as the machine's does.
-use Rattle.std.proofs.Common.{◌≡◌, ◌≤◌, ℕ, zero, suc, Bool, true, false, get_or, List, Option, Some, None, Ok, refl, sym, ap, ◌∙◌, subst, arith}
+use Rattle.std.proofs.Common.{◌≡◌, ◌≤◌, ℕ, zero, suc, true, false, get_or, List, Option, Some, None, Ok, refl, sym, ap, ◌∙◌, subst, arith}
 use Rattle.std.proofs.lemmas.Bool.{and_parts}
 use Rattle.fab_base.specs.declared.identities.BrickId.{BrickId}
 use Rattle.messages.specs.declared.packets.Packet.{Packet}
@@ -10,14 +10,13 @@ use Rattle.protocol.specs.Worlds.{World, is_brick, is_up, packet_of}
 use Rattle.protocol.proofs.Events.{world_counting}
 use Rattle.world.specs.BrickSteps.{ChangesBrick, DoesHandle}
 use Rattle.world.specs.Noted.{IsSameHistory, NotesCrash, NotesStep}
-use Rattle.world.specs.Shown.{ShowsPower, Tells, seqs_of, world_in}
+use Rattle.world.specs.Shown.{Tells, seqs_of, world_in}
 use Rattle.world.specs.declared.bricks.Brick.{Brick}
 use Rattle.world.specs.CallNumbers.{calls_in}
 use Rattle.world.specs.declared.call_numbers.CallNumbers.{CallNumbers}
 use Rattle.world.specs.declared.deliveries.Deliveries.{Deliveries}
 use Rattle.world.specs.declared.histories.History.{History}
-use Rattle.world.proofs.BrickLemmas.{up_power}
-use Rattle.world.proofs.BrickListLemmas.{down_at, handled_contents, shows_kept, takes_there, up_at, up_there}
+use Rattle.world.proofs.BrickListLemmas.{down_at, handled_contents, handled_kept, takes_there, up_at, up_there}
 use Rattle.world.proofs.DeliveryLemmas.{unsent_comes, astray_comes, whole_comes, part_comes}
 use Rattle.world.proofs.HistoryLemmas.{tells_same, tells_delivered, tells_crashed}
 use Rattle.world.proofs.HearingLemmas.{tells_step}
@@ -97,10 +96,8 @@ returns-in_err-outs-clause-err c =
     (record {
       trail = refl;
       shows = record {
-        bricks = shows_kept w shows.bricks handles
-            (subst (λ (on : Bool). ShowsPower layout to (w.nodes to.0) (w.after to.0) on handles.power)
-            (sym (and_parts (is_brick layout to) (w.up to.0) (up_there layout _ w _ found.1 shows.bricks)).1)
-            (up_power layout to (w.nodes to.0) (w.after to.0) handles.power (takes_there c.in-Some.packet.now c.args.fault _ w shows.bricks handles).0));
+        bricks = handled_kept c.in-Some.packet.now c.args.fault _ w
+            (and_parts (is_brick layout to) (w.up to.0) (up_there layout _ w _ found.1 shows.bricks)).1 shows.bricks handles;
         history = still c.args.self.now.history c.make_room.new.self w c.make_room.ensures.same _ c.expect.ensures.same _ c.reserve.ensures.same shows.history;
       };
       contents = handled_contents c.in-Some.packet.now c.args.fault _ handles;
@@ -164,7 +161,8 @@ returns-in-Some-2-clause-ok c =
     (the_packet _ _ _ c.args.message _ c.deref.ensures.value told.packets c.in-Some.ensures) up shows.bricks handles outs took
     (tells_step (coding layout) c.deliver.new.self c.step.new.self (world_counting (coding layout) w c.args.message packet) to outs step.node step
     (tells_replies layout _ w c.args.message packet
-    (tells_delivered (seqs_of w) _ _ w c.args.message c.deliver.ensures.rest c.deliver.ensures.delivered
+    (tells_delivered (seqs_of w) (record c.make_room.new.self { delivered = c.expect.new.self; calls = c.reserve.new.self }) c.deliver.new.self w
+    c.args.message c.deliver.ensures.rest c.deliver.ensures.delivered
     (still c.args.self.now.history c.make_room.new.self w c.make_room.ensures.same _ c.expect.ensures.same _ c.reserve.ensures.same shows.history)))
     (and_parts (is_brick layout to) (w.up to.0) up).1
     (received_opens_reads (coding layout) to (w.clocks to.0) (w.nodes to.0) packet
@@ -191,7 +189,8 @@ returns-in-None-2-clause-ok c =
     (the_packet _ _ _ c.args.message _ c.deref.ensures.value told.packets c.in-Some.ensures)
     (subst (λ (b : BrickId). is_up layout w b ≡ true) found.0 (up_there layout _ w _ found.1 shows.bricks)) shows.bricks handles
     (takes_there packet c.args.fault (Ok None) w shows.bricks handles)
-    (tells_crashed (coding layout) _ _ (record w { reached = put w.reached c.args.message true }) to
-    (tells_delivered (seqs_of w) _ _ w c.args.message c.deliver-in-None-2.ensures.rest c.deliver-in-None-2.ensures.delivered
+    (tells_crashed (coding layout) c.deliver-in-None-2.new.self c.crash.new.self (record w { reached = put w.reached c.args.message true }) to
+    (tells_delivered (seqs_of w) (record c.make_room.new.self { delivered = c.expect.new.self; calls = c.reserve.new.self }) c.deliver-in-None-2.new.self w
+    c.args.message c.deliver-in-None-2.ensures.rest c.deliver-in-None-2.ensures.delivered
     (still c.args.self.now.history c.make_room.new.self w c.make_room.ensures.same _ c.expect.ensures.same _ c.reserve.ensures.same shows.history))
     (subst (λ (b : BrickId). NotesCrash c.deliver-in-None-2.new.self c.crash.new.self b) found.0 c.crash.ensures)); }
