@@ -181,12 +181,13 @@ impl World {
                 self.simulation.trail = Trail::ended(&self.simulation.trail, line);
                 Ok(outcome)
             }
-            Err(refused) => {
-                if let Line::Calm { .. } = line {
+            Err(refused) => match line {
+                Line::Calm { .. } => {
                     self.simulation.trail = Trail::ended(&self.simulation.trail, line);
+                    Err(refused)
                 }
-                Err(refused)
-            }
+                _ => Err(refused),
+            },
         }
     }
 
