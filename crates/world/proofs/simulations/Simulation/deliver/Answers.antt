@@ -1,6 +1,7 @@
 -- The message is the machine's, and its brick handles it as the machine's does.
 use Rattle.std.proofs.Common.{◌≡◌, ◌≤◌, ℕ, zero, suc, true, false, get_or, List, Option, Some, None, Ok, refl, sym, ap, ◌∙◌, subst, arith}
 use Rattle.std.proofs.lemmas.Bool.{and_parts}
+use Rattle.fab_base.specs.declared.faults.NoMem.TheVariants.{NoMemory}
 use Rattle.fab_base.specs.declared.identities.BrickId.{BrickId}
 use Rattle.messages.specs.declared.packets.Packet.{Packet}
 use Rattle.node.specs.Outcomes.{Outcome as Sent}
@@ -87,11 +88,11 @@ returns-in_err-outs-clause-err c =
     on_err_always c.from_residual-in_err-outs.result
     (record {
       shows = λ w shows. record {
-        bricks = handled_kept c.in-Some.packet.now c.args.fault _ w
+        bricks = handled_kept c.in-Some.packet.now c.args.fault NoMemory w
             (and_parts (is_brick layout to) (w.up to.0) (up_there layout _ w _ found.1 shows.bricks)).1 shows.bricks handles;
         history = still c.args.self.now.history c.make_room.new.self w c.make_room.ensures.same _ c.expect.ensures.same _ c.reserve.ensures.same shows.history;
       };
-      contents = handled_contents c.in-Some.packet.now c.args.fault _ handles;
+      contents = handled_contents c.in-Some.packet.now c.args.fault NoMemory handles;
     })
 
 pub returns-in-None-clause-ok : goal.returns-in-None-clause-ok
