@@ -1,5 +1,5 @@
 -- One change of a store's list of frames.
-use Rattle.std.specs.Prelude.{◌≡◌, ◌⊎◌, ◌+◌, ◌<◌, ℕ, Bool, true, false, Option, Some, None, unwrap_or, List, length, Result, Err, OnOk, OnErr}
+use Rattle.std.specs.Prelude.{◌≡◌, ◌≢◌, ◌⊎◌, ◌+◌, ◌<◌, ℕ, Bool, true, false, Option, Some, None, unwrap_or, List, length, Result, Err, OnOk, OnErr}
 use Rattle.fab_disk.specs.declared.disk.Disk as on_disk
 use Rattle.fab_disk.specs.Disk.{Only}
 use Rattle.frame_store.specs.declared.frames.Frame.{Frame}
@@ -115,6 +115,10 @@ module _ {D : Type 0} (d : on_disk.Ghosts D) where
 abbrev pub IsRefused : Bool → Bool → ℕ → ℕ → Result (Unit {0}) StoreFault → Type 0
 IsRefused halted adds records live result =
     ((halted ≡ true) × (result ≡ Err Halted)) ⊎ ((halted ≡ false) × (adds ≡ true) × (live ≡ records) × (result ≡ Err (Full live)))
+
+-- nothing is refused for the number of records
+abbrev pub IsNotFull : Result (Unit {0}) StoreFault → Type 0
+IsNotFull result = (n : ℕ) → result ≢ Err (Full n)
 
 -- room for one append
 abbrev pub HasAppendRoom : {D : Type 0} → (D → ℕ → ℕ → ℕ → Type 0) → Held D → ℕ → Type 0

@@ -1,6 +1,6 @@
 //! The block of a version that is added.
 
-ghost use Rattle.std.specs.Prelude.{◌≡◌, ◌≢◌, ◌<◌, ℕ, Some, IsSome, Err, IfOk, OnOk, OnErr};
+ghost use Rattle.std.specs.Prelude.{◌≡◌, ◌≢◌, ◌<◌, ℕ, None, Some, IsSome, Err, IfOk, OnOk, OnErr};
 ghost use Rattle.std.specs.List.{Contains};
 ghost use Rattle.brick_state.specs.Slots.{slots_of};
 ghost use Rattle.brick_state.specs.States.{live};
@@ -52,6 +52,7 @@ pub fn forget_refused(
 ) -> Result<(), StoreFault>
     ensures answer { result ≡ answer }
     ensures added { OnOk answer (blocks.new ≡ blocks.old) }
+    ensures refused { OnErr answer (block_under blocks.new slot ≡ None) }
     ensures others { (other : ℕ) → other ≢ slot → block_under blocks.new other ≡ block_under blocks.old other }
 {
     match answer {

@@ -1,6 +1,6 @@
 //! The blocks that are held in memory, by their slots.
 
-ghost use Rattle.std.specs.Prelude.{◌≡◌, ◌≢◌, ◌≤◌, ◌<◌, ℕ, [], Some, IfOk, OnOk, length, option_copied, slice_set};
+ghost use Rattle.std.specs.Prelude.{◌≡◌, ◌≢◌, ◌≤◌, ◌<◌, ℕ, [], None, Some, IfOk, OnOk, length, option_copied, slice_set};
 ghost use Rattle.brick_store.specs.BlockTables.{block_under};
 
 use fab_base::{Bytes, NoMem};
@@ -55,7 +55,8 @@ impl BlockTable {
 
     /// Forgets what is held under a slot.
     pub fn forget(&mut self, slot: u32)
-        ensures { (other : ℕ) → other ≢ slot → block_under self.new other ≡ block_under self.old other }
+        ensures gone { block_under self.new slot ≡ None }
+        ensures others { (other : ℕ) → other ≢ slot → block_under self.new other ≡ block_under self.old other }
     {
         let place = slot as usize;
         if place < self.blocks.len() {

@@ -13,7 +13,7 @@ ghost use Rattle.brick_store.specs.Calls.{is_appendable};
 ghost use Rattle.brick_store.specs.Lengths.{HasMadeRoom};
 ghost use Rattle.brick_store.specs.Sizes.{longest_frame, most_listed};
 ghost use Rattle.brick_store.specs.Ends.{end_of};
-ghost use Rattle.brick_store.specs.Steps.{CanChange, IsReadAs, HasAppendRoom};
+ghost use Rattle.brick_store.specs.Steps.{CanChange, IsReadAs, HasAppendRoom, IsNotFull};
 ghost use Rattle.brick_store.specs.Openings.{Readies};
 
 use crate::faults::StoreFault;
@@ -40,6 +40,7 @@ fn renew<D: Disk>(
     ensures listed { OnOk result (size_of frames.new.frames ≤ most_listed (live (state_of index.now))) }
     ensures room { OnOk result (HasAppendRoom D.has_room frames.new body) }
     ensures readies { Readies D.Disk 8 (state_of index.now) frames.old frames.new.disk (end_of result) }
+    ensures fault { IsNotFull result }
 {
     let live = live_frames(alloc, index)?;
     frames.reserve(&live, body)?;
@@ -80,6 +81,7 @@ pub fn make_appendable<D: Disk>(
     ensures room { OnOk result (HasAppendRoom D.has_room frames.new body) }
     ensures readies { Readies D.Disk (if is_appendable whole frames.old body then 1 else 8) (state_of index.now) frames.old frames.new.disk
         (end_of result) }
+    ensures fault { IsNotFull result }
 {
     if is_appendable(frames, whole, body) {
         frames.reserve(&[], body)?;

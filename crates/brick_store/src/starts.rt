@@ -13,7 +13,7 @@ ghost use Rattle.brick_store.specs.Lengths.{IsAppended};
 ghost use Rattle.brick_store.specs.Sizes.{boot_size, framed};
 ghost use Rattle.brick_store.specs.Standing.{Leads};
 ghost use Rattle.brick_store.specs.Ends.{end_of, StateChange};
-ghost use Rattle.brick_store.specs.Steps.{IsSettled, Step, CanChange, IsReadAs, changed, HasAppendRoom};
+ghost use Rattle.brick_store.specs.Steps.{IsSettled, Step, CanChange, IsReadAs, changed, HasAppendRoom, IsNotFull};
 ghost use Rattle.brick_store.specs.Openings.{Starts};
 
 use crate::appends::append_frame;
@@ -48,6 +48,7 @@ fn append_count<D: Disk>(
     ensures made { OnOk result (state_of index.new ≡ changed (indexes.limits_of index.old) item.now (state_of index.old)) }
     ensures limits { indexes.limits_of index.new ≡ indexes.limits_of index.old }
     ensures no_memory { result ≢ Err StoreFault.NoMemory }
+    ensures fault { IsNotFull result }
 {
     append_frame(frames, frame, None)?;
     apply(index, item);
@@ -76,6 +77,7 @@ pub fn start<D: Disk>(
     ensures settled { D.tells → OnOk result (IsSettled D.Disk frames.new) }
     ensures slots { D.tells → OnOk result (KeepsSlots frames.old.shape None (D.seen frames.old.disk) (D.seen frames.new.disk)) }
     ensures starts { Starts D.Disk whole (state_of index.old) frames.old frames.new.disk (end_of result) }
+    ensures fault { IsNotFull result }
 {
     let item = Record::Kept(Kept::Boot(index.boot() + 1));
     let frame = frame_of(alloc, &item)?;
