@@ -21,7 +21,9 @@ use Rattle.node.specs.Running.{Running, state_of, shape_at, ImageShows, IsSameBr
 use Rattle.fab_base.specs.Layouts.{Layout}
 use Rattle.protocol.specs.Nodes as machine
 use Rattle.world.specs.Disks.{ShowsDisk, IsUnwritten}
-use Rattle.world.specs.Shown.{IsRunning, unopened}
+use Rattle.world.specs.Shown.{IsRunning, IsUpWith, Runs, ShowsPower, unopened}
+use Rattle.world.specs.declared.bricks.Power.{Power}
+use Rattle.world.specs.declared.bricks.Power.TheVariants.{Up, Down}
 
 -- an image is found as the one state that it stands for
 pub found_is : (shape : Shape) (st other : StateOf Version) (image : List ℕ) → IsFound shape st image → StandsFor shape other image → st ≡ other
@@ -133,3 +135,30 @@ pub still_runs : (layout : Layout) (me : BrickId) (state next : machine.Node) (n
     → IsRunning layout me next new
 still_runs layout me state next node new runs same state_is kept halted sound =
     record { layout_is = same.layout ∙ runs.layout_is; me_is = same.me ∙ runs.me_is; state_is = state_is; kept = kept; runs = halted; sound = sound }
+
+-- a brick that runs as one of a layout runs as the brick that it says it is
+pub runs_own : (layout : Layout) (me : BrickId) (state : machine.Node) (node : Running MemDisk) → IsRunning layout me state node → Runs node
+runs_own layout me state node runs = record {
+  layout_is = refl;
+  me_is = refl;
+  state_is = refl;
+  kept = subst (λ (s : machine.Node). ShowsDisk node.layout node.me s node.brick.disk) (sym runs.state_is)
+      (subst (λ (b : BrickId). ShowsDisk node.layout b state node.brick.disk) (sym runs.me_is)
+      (subst (λ (l : Layout). ShowsDisk l me state node.brick.disk) (sym runs.layout_is) runs.kept));
+  runs = runs.runs;
+  sound = runs.sound;
+}
+
+-- what is so of a brick that runs is so of it as one of the layout
+pub as_shown : (layout : Layout) (me : BrickId) (state : machine.Node) (node : Running MemDisk) → IsRunning layout me state node
+    → (P : Layout → BrickId → machine.Node → Type 0) → P node.layout node.me (state_of node) → P layout me state
+as_shown layout me state node runs P is =
+    subst (λ (s : machine.Node). P layout me s) runs.state_is
+    (subst (λ (b : BrickId). P layout b (state_of node)) runs.me_is
+    (subst (λ (l : Layout). P l node.me (state_of node)) runs.layout_is is))
+
+-- a brick that runs is up
+pub up_power : (layout : Layout) (me : BrickId) (state after : machine.Node) (power : Power) → IsUpWith power (IsRunning layout me state)
+    → ShowsPower layout me state after true power
+up_power layout me state after (Up node) runs = (refl, runs)
+up_power layout me state after (Down disk) runs = absurd runs

@@ -1,16 +1,13 @@
 -- What the bricks show, after a step of one of them.
-use Rattle.std.proofs.Common.{◌≡◌, ◌≢◌, ℕ, ◌+◌, ◌<◌, ◌≤◌, ◌&&◌, nat_lt, Bool, true, false, ⊎_elim, List, [], ◌∷◌, ◌++◌, length, set, get_or, Option, Some, None, refl, sym, ap, ◌∙◌, subst, arith, length-append}
-use Rattle.std.specs.Prelude.{slice_get, option_and_then, unwrap_or, Result, Ok, Err, IfOk, IfSome, OnErr}
+use Rattle.std.proofs.Common.{◌≡◌, ◌≢◌, ℕ, ◌+◌, ◌<◌, ◌≤◌, ◌&&◌, nat_lt, Bool, true, false, ⊎_elim, List, [], ◌∷◌, ◌++◌, length, set, get_or, map, Option, Some, None, refl, sym, ap, ◌∙◌, subst, arith, length-append}
+use Rattle.std.specs.Prelude.{slice_get, option_and_then, unwrap_or, Result, Err, IfSome}
 use Rattle.std.specs.Option.{option_map}
 use Rattle.std.proofs.lemmas.Bool.Decides.{nat_tests}
 use Rattle.std.proofs.lemmas.List.{length-set}
 use Rattle.std.proofs.lemmas.Bool.{cases_lt}
 use Rattle.std.proofs.lemmas.Option.{same_Some, slice_get_read, slice_get_within, slice_get_past, slice_get-map}
-use Rattle.std.proofs.lemmas.Result.{IfOk-weaker, on_err_weaker}
-use Rattle.fab_base.specs.declared.asks.Ask.{Ask}
 use Rattle.fab_base.specs.declared.faults.NoMem.{NoMem}
 use Rattle.fab_base.specs.declared.identities.BrickId.{BrickId}
-use Rattle.fab_base.specs.declared.identities.GroupId.{GroupId}
 use Rattle.fab_disk.specs.MemDisk.{IsSound, content_of}
 use Rattle.fab_disk.specs.declared.mem_disk.MemDisk.{MemDisk}
 use Rattle.messages.specs.declared.packets.Packet.{Packet}
@@ -18,29 +15,24 @@ use Rattle.messages.specs.declared.packets.Message.{Message}
 use Rattle.coord_phase.specs.Messages.{packets_from}
 use Rattle.brick_store.specs.Bricks.{Brick as Store}
 use Rattle.brick_store.specs.Images.{IsListed}
-use Rattle.node.specs.declared.outs.Begun.{Begun}
 use Rattle.node.specs.Outcomes.{Outcome}
-use Rattle.node.specs.declared.faults.NodeFault.{NodeFault}
 use Rattle.stripe_code.specs.Codes.{coding}
-use Rattle.node.specs.Calls.{packet_calls}
-use Rattle.node.specs.Faults.{RefusesAs}
 use Rattle.node.specs.Running.{Running, state_of, shape_at, IsSameBrick}
-use Rattle.node.specs.States.{BeginsAs, StepsAs}
 use Rattle.protocol.specs.Worlds.{World, first_world, is_up}
 use Rattle.fab_base.specs.Layouts.{Layout}
 use Rattle.protocol.specs.Nodes as machine
 use Rattle.world.specs.Runs.{brick_of}
-use Rattle.world.specs.Disks.{AreFreshDisks, IsUnwritten, ListsPacket, first_listed}
-use Rattle.world.specs.Faults.{IsReached, IsLeft, plan_of}
-use Rattle.world.specs.Shown.{IsRunning, Rests, ShowsPower, ShowsBrick, ShowsBricks, IsFreshBrick, Takes, HandledAs, SteppedAs, IsNodeOf, IsOn, IsUp, FindsUp, StopsBrick, AreNodesOf, disk_in, disks_of, node_in, running_at, clock_at}
+use Rattle.world.specs.Disks.{AreFreshDisks, first_listed}
+use Rattle.world.specs.BrickSteps.{ChangesBrick, RunsOn, DoesHandle, Stops}
+use Rattle.world.specs.Shown.{IsRunning, ShowsPower, ShowsBrick, ShowsBricks, IsFreshBrick, Takes, IsNodeOf, IsUpWith, Runs, IsUp, FindsUp, AreNodesOf, disk_in, disks_of, node_in, running_at, clock_at}
 use Rattle.lines.specs.declared.forms.Fault.{Fault}
-use Rattle.world.proofs.DiskLemmas.{disk_at, disk_set, unwritten_but}
+use Rattle.world.proofs.DiskLemmas.{contents_changed, disks_kept}
 use Rattle.world.specs.declared.bricks.Brick.{Brick}
 use Rattle.world.specs.declared.bricks.Power.{Power}
 use Rattle.world.specs.declared.bricks.Power.TheVariants.{Up, Down}
-use Rattle.world.proofs.BrickLemmas.{kept_same, still_runs}
+use Rattle.world.proofs.BrickLemmas.{kept_same, still_runs, runs_own, as_shown, up_power}
 use Rattle.world.proofs.DownLemmas.{rests_off}
-use Rattle.world.proofs.Places.{grown, replaced, slice_get_not_none, value_here, value_elsewhere}
+use Rattle.world.proofs.Places.{each_value, grown, replaced, slice_get_not_none, value_here, value_elsewhere}
 
 -- one brick changed, and no other
 pub shows_after : (layout : Layout) (bricks : List Brick) (b : ℕ) (brick : Brick) (w v : World) → ShowsBrick layout b brick (v.nodes b) (v.after b)
@@ -63,292 +55,182 @@ shows_after layout bricks b brick w v is stay shows = record {
       (replaced bricks b brick i x at);
 }
 
--- what the brick of a number is
-pub brick_at : (layout : Layout) (bricks : List Brick) (w : World) (b : ℕ) (brick : Brick) → b < length bricks
-    → brick ≡ get_or bricks b brick → ShowsBricks layout bricks w.nodes w.after w.up w.clocks
-    → ShowsBrick layout b brick (w.nodes b) (w.after b) (w.up b) (w.clocks b)
-brick_at layout bricks w b brick within is shows = shows.each b brick (slice_get_read bricks (length bricks) b brick refl within is)
+-- What the bricks show where one may have changed.
+module _ {layout : Layout} {old new : List Brick} {number : BrickId} {Holds : Brick → Power → Type 0} (w : World)
+    (shows : ShowsBricks layout old w.nodes w.after w.up w.clocks) (changes : ChangesBrick old new number Holds) where
+  pub shown_there : ShowsBrick layout number.0 changes.brick (w.nodes number.0) (w.after number.0) (w.up number.0) (w.clocks number.0)
+  shown_there = shows.each number.0 changes.brick changes.at
 
--- what a brick is that runs
-pub runs_at : (layout : Layout) (bricks : List Brick) (w : World) (b : ℕ) (brick : Brick) (node : Running MemDisk) → b < length bricks
-    → brick ≡ get_or bricks b brick → brick.power ≡ Up node → ShowsBricks layout bricks w.nodes w.after w.up w.clocks
-    → (w.up b ≡ true) × IsRunning layout (brick_of b) (w.nodes b) node
-runs_at layout bricks w b brick node within is on shows =
-    subst (λ (power : Power). ShowsPower layout (brick_of b) (w.nodes b) (w.after b) (w.up b) power) on (brick_at layout bricks w b brick within is shows).power
+  -- it is another now
+  pub shows_now : (v : World) → ShowsPower layout number (v.nodes number.0) (v.after number.0) (v.up number.0) changes.power → w.clocks number.0 ≡ v.clocks number.0
+      → ((i : ℕ) → i ≢ number.0 → (v.nodes i ≡ w.nodes i) × (v.after i ≡ w.after i) × (v.up i ≡ w.up i) × (v.clocks i ≡ w.clocks i))
+      → ShowsBricks layout new v.nodes v.after v.up v.clocks
+  shows_now v power clock stay =
+      subst (λ (bricks : List Brick). ShowsBricks layout bricks v.nodes v.after v.up v.clocks) (sym changes.now)
+      (shows_after layout old number.0 (record changes.brick { power = changes.power }) w v (record { power = power; clock = shown_there.clock ∙ clock }) stay shows)
 
--- what a brick is that is down
-pub rests_at : (layout : Layout) (bricks : List Brick) (w : World) (b : ℕ) (brick : Brick) (disk : MemDisk) → b < length bricks
-    → brick ≡ get_or bricks b brick → brick.power ≡ Down disk → ShowsBricks layout bricks w.nodes w.after w.up w.clocks
-    → (w.up b ≡ false) × Rests layout (brick_of b) (w.nodes b) (w.after b) disk
-rests_at layout bricks w b brick disk within is off shows =
-    subst (λ (power : Power). ShowsPower layout (brick_of b) (w.nodes b) (w.after b) (w.up b) power) off (brick_at layout bricks w b brick within is shows).power
+  -- it took a step
+  pub shows_step : (next : machine.Node) → ShowsPower layout number next (w.after number.0) (w.up number.0) changes.power
+      → ShowsBricks layout new (machine.put w.nodes number.0 next) w.after w.up w.clocks
+  shows_step next runs =
+      shows_now (record w { nodes = machine.put w.nodes number.0 next })
+      (subst (λ (state : machine.Node). ShowsPower layout number state (w.after number.0) (w.up number.0) changes.power)
+      (sym (value_here w.nodes number.0 number.0 next refl)) runs)
+      refl (λ i other. (value_elsewhere w.nodes number.0 i next other, refl, refl, refl))
+
+  -- it is down now
+  pub shows_down : (next other : machine.Node) → ShowsPower layout number next other false changes.power
+      → ShowsBricks layout new (machine.put w.nodes number.0 next) (machine.put w.after number.0 other) (machine.put w.up number.0 false) w.clocks
+  shows_down next other is =
+      let b : ℕ = number.0 in
+      shows_now (record w { nodes = machine.put w.nodes b next; after = machine.put w.after b other; up = machine.put w.up b false })
+      (subst (λ (state : machine.Node). ShowsPower layout number state (machine.put w.after b other b) (machine.put w.up b false b) changes.power)
+      (sym (value_here w.nodes b b next refl))
+      (subst (λ (state : machine.Node). ShowsPower layout number next state (machine.put w.up b false b) changes.power)
+      (sym (value_here w.after b b other refl))
+      (subst (λ (on : Bool). ShowsPower layout number next other on changes.power) (sym (value_here w.up b b false refl)) is)))
+      refl
+      (λ i elsewhere. (value_elsewhere w.nodes b i next elsewhere, value_elsewhere w.after b i other elsewhere, value_elsewhere w.up b i false elsewhere, refl))
+
+  -- it is as it was
+  pub shows_kept : ShowsPower layout number (w.nodes number.0) (w.after number.0) (w.up number.0) changes.power → ShowsBricks layout new w.nodes w.after w.up w.clocks
+  shows_kept power = shows_now w power refl (λ i other. (refl, refl, refl, refl))
 
 -- the brick with this power
 abbrev pub with_power : Brick → Power → Brick
 with_power brick power = record { power = power; clock = brick.clock }
-
--- a brick that took a step
-pub shows_step : (layout : Layout) (bricks : List Brick) (b : ℕ) (old : Brick) (power : Power) (w : World) (next : machine.Node)
-    → old.clock ≡ w.clocks b → ShowsPower layout (brick_of b) next (w.after b) (w.up b) power
-    → ShowsBricks layout bricks w.nodes w.after w.up w.clocks → ShowsBricks layout (set bricks b (with_power old power))
-    (machine.put w.nodes b next) w.after w.up w.clocks
-shows_step layout bricks b old power w next clock runs shows =
-    shows_after layout bricks b (with_power old power) w (record w { nodes = machine.put w.nodes b next })
-    (record {
-      power = subst (λ (state : machine.Node). ShowsPower layout (brick_of b) state (w.after b) (w.up b) power) (sym (value_here w.nodes b b next refl)) runs;
-      clock = clock;
-    })
-    (λ i other. (value_elsewhere w.nodes b i next other, refl, refl, refl)) shows
-
--- a brick that is down now
-pub shows_down : (layout : Layout) (bricks : List Brick) (b : ℕ) (old : Brick) (power : Power) (w : World) (next other : machine.Node)
-    → old.clock ≡ w.clocks b → ShowsPower layout (brick_of b) next other false power → ShowsBricks layout bricks w.nodes w.after w.up w.clocks
-    → ShowsBricks layout (set bricks b (with_power old power)) (machine.put w.nodes b next) (machine.put w.after b other) (machine.put w.up b false) w.clocks
-shows_down layout bricks b old power w next other clock is shows =
-    shows_after layout bricks b (with_power old power) w
-    (record w { nodes = machine.put w.nodes b next; after = machine.put w.after b other; up = machine.put w.up b false })
-    (record {
-      power = subst (λ (state : machine.Node). ShowsPower layout (brick_of b) state (machine.put w.after b other b) (machine.put w.up b false b) power)
-          (sym (value_here w.nodes b b next refl))
-          (subst (λ (state : machine.Node). ShowsPower layout (brick_of b) next state (machine.put w.up b false b) power)
-          (sym (value_here w.after b b other refl))
-          (subst (λ (on : Bool). ShowsPower layout (brick_of b) next other on power) (sym (value_here w.up b b false refl)) is));
-      clock = clock;
-    })
-    (λ i elsewhere. (value_elsewhere w.nodes b i next elsewhere, value_elsewhere w.after b i other elsewhere, value_elsewhere w.up b i false elsewhere, refl)) shows
-
--- a brick that is as it was
-pub shows_kept : (layout : Layout) (bricks : List Brick) (b : ℕ) (old : Brick) (power : Power) (w : World) → b < length bricks → old ≡ get_or bricks b old
-    → ShowsPower layout (brick_of b) (w.nodes b) (w.after b) (w.up b) power → ShowsBricks layout bricks w.nodes w.after w.up w.clocks
-    → ShowsBricks layout (set bricks b (with_power old power)) w.nodes w.after w.up w.clocks
-shows_kept layout bricks b old power w within is power_shows shows =
-    let was = brick_at layout bricks w b old within is shows in
-    shows_after layout bricks b (with_power old power) w w (record { power = power_shows; clock = was.clock }) (λ i other. (refl, refl, refl, refl)) shows
 
 -- a brick's clock was set
 pub shows_clock : (layout : Layout) (bricks : List Brick) (b : ℕ) (old : Brick) (time : ℕ) (w : World) → b < length bricks → old ≡ get_or bricks b old
     → ShowsBricks layout bricks w.nodes w.after w.up w.clocks
     → ShowsBricks layout (set bricks b (record { power = old.power; clock = time })) w.nodes w.after w.up (machine.put w.clocks b time)
 shows_clock layout bricks b old time w within is shows =
-    let was = brick_at layout bricks w b old within is shows in
+    let was = shows.each b old (slice_get_read bricks (length bricks) b old refl within is) in
     shows_after layout bricks b (record { power = old.power; clock = time }) w (record w { clocks = machine.put w.clocks b time })
     (record { power = was.power; clock = sym (value_here w.clocks b b time refl) })
     (λ i other. (refl, refl, refl, value_elsewhere w.clocks b i time other)) shows
 
--- a brick refuses as the machine's does
-pub asked_refused : (layout : Layout) (bricks : List Brick) (b : ℕ) (brick : Brick) (node : Running MemDisk) (ask : Ask)
-    (result : Result Begun NodeFault)
-    → b < length bricks → brick ≡ get_or bricks b brick → brick.power ≡ Up node
-    → RefusesAs result (machine.refusal_of node.layout (state_of node) ask)
-    → (w : World) → ShowsBricks layout bricks w.nodes w.after w.up w.clocks → RefusesAs result (machine.refusal_of layout (w.nodes b) ask)
-asked_refused layout bricks b brick node ask result within is on refuses w shows =
-    let runs = (runs_at layout bricks w b brick node within is on shows).1 in
-    subst (λ (x : machine.Node). RefusesAs result (machine.refusal_of layout x ask)) runs.state_is
-    (subst (λ (l : Layout). RefusesAs result (machine.refusal_of l (state_of node) ask)) runs.layout_is refuses)
+-- a brick that is as it was, whatever it is said to be
+pub shows_unput : (layout : Layout) (bricks : List Brick) (b : ℕ) (w : World) (next : machine.Node) → next ≡ w.nodes b
+    → ShowsBricks layout bricks (machine.put w.nodes b next) w.after w.up w.clocks → ShowsBricks layout bricks w.nodes w.after w.up w.clocks
+shows_unput layout bricks b w next same shows = record {
+  count = shows.count;
+  each = λ i brick at.
+      subst (λ (node : machine.Node). ShowsBrick layout i brick node (w.after i) (w.up i) (w.clocks i))
+      (each_value (λ j (x : machine.Node). x ≡ w.nodes j) w.nodes b next same (λ j other. refl) i) (shows.each i brick at);
+}
 
--- a brick begins as the machine's does
-pub asked_begun : (bricks : List Brick) (b : ℕ) (old : Brick) (node new : Running MemDisk) (ask : Ask) (result : Result Begun NodeFault)
-    → b < length bricks → old ≡ get_or bricks b old → old.power ≡ Up node → IsSameBrick node new → new.brick ≡ node.brick
-    → IfOk result (BeginsAs node.me (state_of new) (machine.invoked (coding node.layout) node.me old.clock (state_of node) ask))
-    → IfOk result (λ begun. (layout : Layout) (w : World) → ShowsBricks layout bricks w.nodes w.after w.up w.clocks
-    → (let step = machine.invoked (coding layout) (brick_of b) (w.clocks b) (w.nodes b) ask in
-    (packets_from (brick_of b) begun.messages.items ≡ step.packets) × (begun.seq ≡ step.node.seq)
-    × ShowsBricks layout (set bricks b (with_power old (Up new))) (machine.put w.nodes b step.node) w.after w.up w.clocks))
-asked_begun bricks b old node new ask result within is on same store begins =
-    IfOk-weaker result (BeginsAs node.me (state_of new) (machine.invoked (coding node.layout) node.me old.clock (state_of node) ask)) _
-    (λ begun as_machine layout w shows.
-    let at = brick_at layout bricks w b old within is shows in
-    let up = runs_at layout bricks w b old node within is on shows in
-    let runs = up.1 in
-    let alike : machine.invoked (coding node.layout) node.me old.clock (state_of node) ask
-    ≡ machine.invoked (coding layout) (brick_of b) (w.clocks b) (w.nodes b) ask =
-    ap (λ (l : Layout). machine.invoked (coding l) node.me old.clock (state_of node) ask) runs.layout_is
-    ∙ ap (λ (x : BrickId). machine.invoked (coding layout) x old.clock (state_of node) ask) runs.me_is
-    ∙ ap (λ (t : ℕ). machine.invoked (coding layout) (brick_of b) t (state_of node) ask) at.clock
-    ∙ ap (λ (x : machine.Node). machine.invoked (coding layout) (brick_of b) (w.clocks b) x ask) runs.state_is
-    in
-    let next : machine.Node = (machine.invoked (coding layout) (brick_of b) (w.clocks b) (w.nodes b) ask).node in (
-      ap (λ (x : BrickId). packets_from x begun.messages.items) (sym runs.me_is) ∙ as_machine.packets ∙ ap (λ (x : machine.NodeStep). x.packets) alike,
-      as_machine.seq ∙ ap (λ (x : machine.NodeStep). x.node.seq) alike,
-      shows_step layout bricks b old (Up new) w next at.clock (
-        up.0,
-        still_runs layout (brick_of b) (w.nodes b) next node new runs same (as_machine.state_is ∙ ap (λ (x : machine.NodeStep). x.node) alike)
-            (kept_same layout (brick_of b) (w.nodes b) next node new runs same.layout store (as_machine.state_is ∙ ap (λ (x : machine.NodeStep). x.node) alike))
-            (ap (λ (x : Store MemDisk). x.halted) store ∙ runs.runs) (subst (λ (x : Store MemDisk). IsSound x.disk) (sym store) runs.sound),
-      )
-          shows,
-    ))
-    begins
+-- What a brick that runs on over its store makes of the bricks.
+pub record StepsOn (layout : Layout) (new : List Brick) (w : World) (number : BrickId) (Holds : Layout → BrickId → ℕ → machine.Node → machine.Node → Type 0) : Type 0 where
+  pub next : machine.Node
+  pub holds : Holds layout number (w.clocks number.0) (w.nodes number.0) next
+  pub bricks : ShowsBricks layout new (machine.put w.nodes number.0 next) w.after w.up w.clocks
 
--- a brick that was asked to propose refuses as the machine's does
-pub proposing_refused : (layout : Layout) (bricks : List Brick) (b : ℕ) (brick : Brick) (node : Running MemDisk) (group : GroupId)
-    (result : Result Outcome NodeFault)
-    → b < length bricks → brick ≡ get_or bricks b brick → brick.power ≡ Up node
-    → RefusesAs result (machine.proposal_refusal node.layout (state_of node) group.0)
-    → (w : World) → ShowsBricks layout bricks w.nodes w.after w.up w.clocks → RefusesAs result (machine.proposal_refusal layout (w.nodes b) group.0)
-proposing_refused layout bricks b brick node group result within is on refuses w shows =
-    let runs = (runs_at layout bricks w b brick node within is on shows).1 in
-    subst (λ (x : machine.Node). RefusesAs result (machine.proposal_refusal layout x group.0)) runs.state_is
-    (subst (λ (l : Layout). RefusesAs result (machine.proposal_refusal l (state_of node) group.0)) runs.layout_is refuses)
+pub shows_on : {layout : Layout} {old new : List Brick} (w : World) {number : BrickId} (Holds : Layout → BrickId → ℕ → machine.Node → machine.Node → Type 0)
+    → ShowsBricks layout old w.nodes w.after w.up w.clocks → ChangesBrick old new number (RunsOn Holds) → StepsOn layout new w number Holds
+shows_on {layout} {old} {new} w {number} Holds shows changes = by changes.brick.power changes.power there.power changes.holds refl
+  where
+    there : ShowsBrick layout number.0 changes.brick (w.nodes number.0) (w.after number.0) (w.up number.0) (w.clocks number.0)
+    there = shown_there w shows changes
 
--- so to synchronise
-pub syncing_refused : (layout : Layout) (bricks : List Brick) (b : ℕ) (brick : Brick) (node : Running MemDisk) (group : GroupId)
-    (result : Result Outcome NodeFault)
-    → b < length bricks → brick ≡ get_or bricks b brick → brick.power ≡ Up node
-    → RefusesAs result (machine.sync_refusal node.layout (state_of node) group.0)
-    → (w : World) → ShowsBricks layout bricks w.nodes w.after w.up w.clocks → RefusesAs result (machine.sync_refusal layout (w.nodes b) group.0)
-syncing_refused layout bricks b brick node group result within is on refuses w shows =
-    let runs = (runs_at layout bricks w b brick node within is on shows).1 in
-    subst (λ (x : machine.Node). RefusesAs result (machine.sync_refusal layout x group.0)) runs.state_is
-    (subst (λ (l : Layout). RefusesAs result (machine.sync_refusal l (state_of node) group.0)) runs.layout_is refuses)
+    by : (was now : Power) → ShowsPower layout number (w.nodes number.0) (w.after number.0) (w.up number.0) was
+        → IsUpWith was (λ node. IsUpWith now (λ next. IsSameBrick node next × (next.brick ≡ node.brick)
+        × Holds node.layout node.me changes.brick.clock (state_of node) (state_of next)))
+        → changes.power ≡ now → StepsOn layout new w number Holds
+    by (Up node) (Up next) shown holds is =
+        let (same, store, held) = holds in
+        let runs = shown.1 in
+        record {
+          next = state_of next;
+          holds = subst (λ (t : ℕ). Holds layout number t (w.nodes number.0) (state_of next)) there.clock
+              (as_shown layout number (w.nodes number.0) node runs (λ l me s. Holds l me changes.brick.clock s (state_of next)) held);
+          bricks = shows_step w shows changes (state_of next)
+              (subst (λ (power : Power). ShowsPower layout number (state_of next) (w.after number.0) (w.up number.0) power) (sym is) (
+                shown.0,
+                still_runs layout number (w.nodes number.0) (state_of next) node next runs same refl
+                    (kept_same layout number (w.nodes number.0) (state_of next) node next runs same.layout store refl)
+                    (ap (λ (x : Store MemDisk). x.halted) store ∙ runs.runs) (subst (λ (x : Store MemDisk). IsSound x.disk) (sym store) runs.sound),
+              ));
+        }
+    by (Up node) (Down disk) shown holds is = absurd holds
+    by (Down disk) now shown holds is = absurd holds
 
--- and takes the machine's step
-stepping : (bricks : List Brick) (b : ℕ) (old : Brick) (node new : Running MemDisk) (step_by : Layout → BrickId → ℕ → machine.Node → machine.NodeStep)
-    (result : Result Outcome NodeFault)
-    → b < length bricks → old ≡ get_or bricks b old → old.power ≡ Up node → IsSameBrick node new → new.brick ≡ node.brick
-    → IfOk result (StepsAs node.me (state_of new) (step_by node.layout node.me old.clock (state_of node)))
-    → IfOk result (λ outs. (layout : Layout) (w : World) → ShowsBricks layout bricks w.nodes w.after w.up w.clocks
-    → SteppedAs layout w (brick_of b) (step_by layout (brick_of b) (w.clocks b) (w.nodes b)) (set bricks b (with_power old (Up new))) outs)
-stepping bricks b old node new step_by result within is on same store begins =
-    IfOk-weaker result (StepsAs node.me (state_of new) (step_by node.layout node.me old.clock (state_of node))) _
-    (λ outs as_machine layout w shows.
-    let at = brick_at layout bricks w b old within is shows in
-    let up = runs_at layout bricks w b old node within is on shows in
-    let runs = up.1 in
-    let step : machine.NodeStep = step_by layout (brick_of b) (w.clocks b) (w.nodes b) in
-    let alike : step_by node.layout node.me old.clock (state_of node) ≡ step =
-    ap (λ (l : Layout). step_by l node.me old.clock (state_of node)) runs.layout_is
-    ∙ ap (λ (x : BrickId). step_by layout x old.clock (state_of node)) runs.me_is
-    ∙ ap (λ (t : ℕ). step_by layout (brick_of b) t (state_of node)) at.clock
-    ∙ ap (λ (x : machine.Node). step_by layout (brick_of b) (w.clocks b) x) runs.state_is
-    in
-    let state : state_of new ≡ step.node = as_machine.state_is ∙ ap (λ (x : machine.NodeStep). x.node) alike in
-    record {
-      packets =
-          ap (λ (x : BrickId). packets_from x outs.messages) (sym runs.me_is) ∙ as_machine.packets ∙ ap (λ (x : machine.NodeStep). x.packets) alike;
-      told = as_machine.told ∙ ap (λ (x : machine.NodeStep). x.told) alike;
-      answers = as_machine.answers ∙ ap (λ (x : machine.NodeStep). x.answers) alike;
-      reports = as_machine.reports ∙ ap (λ (x : machine.NodeStep). x.reports) alike;
-      bricks = shows_step layout bricks b old (Up new) w step.node at.clock (
-        up.0,
-        still_runs layout (brick_of b) (w.nodes b) step.node node new runs same state
-            (kept_same layout (brick_of b) (w.nodes b) step.node node new runs same.layout store state)
-            (ap (λ (x : Store MemDisk). x.halted) store ∙ runs.runs) (subst (λ (x : Store MemDisk). IsSound x.disk) (sym store) runs.sound),
-      )
-          shows;
-    })
-    begins
+-- it has the disks that there were
+pub disks_on : {old new : List Brick} {number : BrickId} (Holds : Layout → BrickId → ℕ → machine.Node → machine.Node → Type 0)
+    → ChangesBrick old new number (RunsOn Holds) → disks_of new ≡ disks_of old
+disks_on Holds changes = disks_kept changes (by changes.brick.power changes.power changes.holds)
+  where
+    by : (was now : Power) → IsUpWith was (λ node. IsUpWith now (λ next. IsSameBrick node next × (next.brick ≡ node.brick)
+        × Holds node.layout node.me changes.brick.clock (state_of node) (state_of next))) → disk_in now ≡ disk_in was
+    by (Up node) (Up next) holds = ap (λ (x : Store MemDisk). x.disk) holds.1
+    by (Up node) (Down disk) holds = absurd holds
+    by (Down disk) now holds = absurd holds
 
--- so it proposes, and so it synchronises
-pub proposing_begun : (bricks : List Brick) (b : ℕ) (old : Brick) (node new : Running MemDisk) (group : GroupId) (members : List BrickId)
-    (result : Result Outcome NodeFault)
-    → b < length bricks → old ≡ get_or bricks b old → old.power ≡ Up node → IsSameBrick node new → new.brick ≡ node.brick
-    → IfOk result (StepsAs node.me (state_of new) (machine.proposed (coding node.layout) node.me (state_of node) group members))
-    → IfOk result (λ outs. (layout : Layout) (w : World) → ShowsBricks layout bricks w.nodes w.after w.up w.clocks
-    → SteppedAs layout w (brick_of b) (machine.proposed (coding layout) (brick_of b) (w.nodes b) group members) (set bricks b (with_power old (Up new))) outs)
-proposing_begun bricks b old node new group members result within is on same store begins =
-    stepping bricks b old node new (λ layout me now state. machine.proposed (coding layout) me state group members) result within is on same store begins
+-- a brick that was asked, over what it was
+pub asked : (bricks : List Brick) (number : BrickId) (old : Brick) (node next : Running MemDisk) (Holds : Layout → BrickId → ℕ → machine.Node → machine.Node → Type 0)
+    → number.0 < length bricks → old ≡ get_or bricks number.0 old → old.power ≡ Up node → IsSameBrick node next → next.brick ≡ node.brick
+    → Holds node.layout node.me old.clock (state_of node) (state_of next)
+    → ChangesBrick bricks (set bricks number.0 (with_power old (Up next))) number (RunsOn Holds)
+asked bricks number old node next Holds within is on same store held = record {
+  brick = old;
+  at = slice_get_read bricks (length bricks) number.0 old refl within is;
+  power = Up next;
+  now = refl;
+  holds = subst (λ (power : Power). IsUpWith power (λ node. IsSameBrick node next × (next.brick ≡ node.brick)
+      × Holds node.layout node.me old.clock (state_of node) (state_of next))) (sym on) (same, store, held);
+}
 
-pub syncing_begun : (bricks : List Brick) (b : ℕ) (old : Brick) (node new : Running MemDisk) (group : GroupId) (result : Result Outcome NodeFault)
-    → b < length bricks → old ≡ get_or bricks b old → old.power ≡ Up node → IsSameBrick node new → new.brick ≡ node.brick
-    → IfOk result (StepsAs node.me (state_of new) (machine.synced_at (coding node.layout) node.me old.clock (state_of node) group))
-    → IfOk result (λ outs. (layout : Layout) (w : World) → ShowsBricks layout bricks w.nodes w.after w.up w.clocks
-    → SteppedAs layout w (brick_of b) (machine.synced_at (coding layout) (brick_of b) (w.clocks b) (w.nodes b) group) (set bricks b (with_power old (Up new))) outs)
-syncing_begun bricks b old node new group result within is on same store begins =
-    stepping bricks b old node new (λ layout me now state. machine.synced_at (coding layout) me now state group) result within is on same store begins
+-- a brick that was handed a message
+pub handed : (bricks : List Brick) (number : BrickId) (old : Brick) (node : Running MemDisk) (power : Power) (packet : Packet) (fault : Option Fault)
+    (result : Result (Option Outcome) NoMem) → number.0 < length bricks → old ≡ get_or bricks number.0 old → old.power ≡ Up node
+    → Takes node.layout node.me (state_of node) old.clock packet node.brick.disk fault power result
+    → ChangesBrick bricks (set bricks number.0 (with_power old power)) number (DoesHandle packet fault result)
+handed bricks number old node power packet fault result within is on takes = record {
+  brick = old;
+  at = slice_get_read bricks (length bricks) number.0 old refl within is;
+  power = power;
+  now = refl;
+  holds = subst (λ (was : Power). IsUpWith was (λ x. Takes x.layout x.me (state_of x) old.clock packet x.brick.disk fault power result)) (sym on) takes;
+}
 
--- a brick of which the machine sees the same
-pub same_shown : (bricks : List Brick) (b : ℕ) (old : Brick) (node new : Running MemDisk)
-    → b < length bricks → old ≡ get_or bricks b old → old.power ≡ Up node → IsSameBrick node new → new.brick ≡ node.brick
-    → state_of new ≡ state_of node → (layout : Layout) (w : World) → ShowsBricks layout bricks w.nodes w.after w.up w.clocks
-    → ShowsBricks layout (set bricks b (with_power old (Up new))) w.nodes w.after w.up w.clocks
-same_shown bricks b old node new within is on same store state layout w shows =
-    let at = brick_at layout bricks w b old within is shows in
-    let up = runs_at layout bricks w b old node within is on shows in
-    shows_after layout bricks b (with_power old (Up new)) w w
-    (record {
-      power = (
-        up.0,
-        still_runs layout (brick_of b) (w.nodes b) (w.nodes b) node new up.1 same (state ∙ up.1.state_is)
-            (kept_same layout (brick_of b) (w.nodes b) (w.nodes b) node new up.1 same.layout store (state ∙ up.1.state_is))
-            (ap (λ (x : Store MemDisk). x.halted) store ∙ up.1.runs) (subst (λ (x : Store MemDisk). IsSound x.disk) (sym store) up.1.sound),
-      );
-      clock = at.clock;
-    })
-    (λ i other. (refl, refl, refl, refl)) shows
+-- it takes it as the machine's does
+pub takes_there : {layout : Layout} {old new : List Brick} {number : BrickId} (packet : Packet) (fault : Option Fault) (result : Result (Option Outcome) NoMem) (w : World)
+    (shows : ShowsBricks layout old w.nodes w.after w.up w.clocks) (changes : ChangesBrick old new number (DoesHandle packet fault result))
+    → Takes layout number (w.nodes number.0) (w.clocks number.0) packet (disk_in changes.brick.power) fault changes.power result
+takes_there {layout} {old} {new} {number} packet fault result w shows changes = by changes.brick.power there.power changes.holds
+  where
+    there : ShowsBrick layout number.0 changes.brick (w.nodes number.0) (w.after number.0) (w.up number.0) (w.clocks number.0)
+    there = shown_there w shows changes
 
-pub asked_same : {T E : Type 0} (bricks : List Brick) (b : ℕ) (old : Brick) (node new : Running MemDisk) (result : Result T E)
-    → b < length bricks → old ≡ get_or bricks b old → old.power ≡ Up node → IsSameBrick node new → new.brick ≡ node.brick
-    → OnErr result (state_of new ≡ state_of node)
-    → OnErr result ((layout : Layout) (w : World) → ShowsBricks layout bricks w.nodes w.after w.up w.clocks
-    → ShowsBricks layout (set bricks b (with_power old (Up new))) w.nodes w.after w.up w.clocks)
-asked_same bricks b old node new result within is on same store err =
-    on_err_weaker result (same_shown bricks b old node new within is on same store) err
+    by : (was : Power) → ShowsPower layout number (w.nodes number.0) (w.after number.0) (w.up number.0) was
+        → IsUpWith was (λ node. Takes node.layout node.me (state_of node) changes.brick.clock packet node.brick.disk fault changes.power result)
+        → Takes layout number (w.nodes number.0) (w.clocks number.0) packet (disk_in was) fault changes.power result
+    by (Up node) shown takes =
+        subst (λ (time : ℕ). Takes layout number (w.nodes number.0) time packet node.brick.disk fault changes.power result) there.clock
+        (as_shown layout number (w.nodes number.0) node shown.1
+        (λ l me s. Takes l me s changes.brick.clock packet node.brick.disk fault changes.power result) takes)
+    by (Down disk) shown takes = absurd takes
 
--- a brick took a message
-module _ (layout : Layout) (bricks : List Brick) (number : BrickId) (old : Brick) (node : Running MemDisk) (power : Power) (packet : Packet)
-    (fault : Option Fault) (w : World) (within : number.0 < length bricks) (is : old ≡ get_or bricks number.0 old) (on : old.power ≡ Up node)
-    (shows : ShowsBricks layout bricks w.nodes w.after w.up w.clocks) where
-  at_number : ShowsBrick layout number.0 old (w.nodes number.0) (w.after number.0) (w.up number.0) (w.clocks number.0)
-  at_number = brick_at layout bricks w number.0 old within is shows
+-- where memory was refused, the bricks show what they showed
+pub handled_kept : {layout : Layout} {old new : List Brick} {number : BrickId} (packet : Packet) (fault : Option Fault) (refused : NoMem) (w : World)
+    → w.up number.0 ≡ true → ShowsBricks layout old w.nodes w.after w.up w.clocks → ChangesBrick old new number (DoesHandle packet fault (Err refused))
+    → ShowsBricks layout new w.nodes w.after w.up w.clocks
+handled_kept {layout} {old} {new} {number} packet fault refused w up shows changes =
+    shows_kept w shows changes
+    (subst (λ (on : Bool). ShowsPower layout number (w.nodes number.0) (w.after number.0) on changes.power) (sym up)
+    (up_power layout number (w.nodes number.0) (w.after number.0) changes.power (takes_there packet fault (Err refused) w shows changes).0))
 
-  disk_here : slice_get (disks_of bricks) number.0 ≡ Some node.brick.disk
-  disk_here = disk_at bricks number.0 old within is ∙ ap (λ (p : Power). Some (disk_in p)) on
-
-  power_now : (next after : machine.Node) → ((other : machine.Node) → ShowsPower layout number next other true power)
-      → ShowsPower layout number next after (w.up number.0) power
-  power_now next after shown =
-      subst (λ (up : Bool). ShowsPower layout number next after up power) (sym (runs_at layout bricks w number.0 old node within is on shows).0) (shown after)
-
-  took_as : (result : Result (Option Outcome) NoMem)
-      → Takes layout number (w.nodes number.0) (w.clocks number.0) packet node.brick.disk fault power result
-      → HandledAs layout w number packet fault bricks (set bricks number.0 (with_power old power)) result
-  took_as (Ok (Some outs)) took = record {
-    packets = took.packets;
-    told = took.told;
-    answers = took.answers;
-    reports = took.reports;
-    bricks = shows_step layout bricks number.0 old power w
-        (machine.received (coding layout) number (w.clocks number.0) (w.nodes number.0) packet).node at_number.clock
-        (power_now (machine.received (coding layout) number (w.clocks number.0) (w.nodes number.0) packet).node (w.after number.0) took.on) shows;
-    spared = λ disk disk_is reached.
-        let same : node.brick.disk ≡ disk = (let e : Some node.brick.disk ≡ Some disk = sym disk_here ∙ disk_is in cc) in
-        took.spared (subst (λ (d : MemDisk). IsReached layout number (w.nodes number.0) packet d (plan_of fault)) (sym same) reached);
-    still = λ none.
-        unwritten_but bricks number old (with_power old power) within is
-        (subst (λ (p : Power). IsUnwritten (disk_in p) (disk_in power)) (sym on) (took.still none));
-    lists = λ was one was_is one_is.
-        let same : node.brick.disk ≡ was = (let e : Some node.brick.disk ≡ Some was = sym disk_here ∙ was_is in cc) in
-        let now : disk_in power ≡ one =
-        (let e : Some (disk_in power) ≡ Some one = sym (disk_set bricks number.0 (with_power old power) within) ∙ one_is in cc)
-        in
-        subst (λ (d : MemDisk). ListsPacket layout number (w.nodes number.0) packet d one) same
-        (subst (λ (d : MemDisk). ListsPacket layout number (w.nodes number.0) packet node.brick.disk d) now took.lists);
-  }
-  took_as (Ok None) took = record {
-    disk = node.brick.disk;
-    disk_is = disk_here;
-    reached = took.reached;
-    bricks = shows_down layout bricks number.0 old power w (machine.stopped (w.nodes number.0))
-        (machine.stopped (machine.absorbed (coding layout) number (w.nodes number.0) packet)) at_number.clock took.off shows;
-    left = λ one one_is.
-        let same : disk_in power ≡ one =
-        (let e : Some (disk_in power) ≡ Some one = sym (disk_set bricks number.0 (with_power old power) within) ∙ one_is in cc)
-        in
-        subst (λ (d : MemDisk). IsLeft layout number (machine.stopped (w.nodes number.0))
-        (machine.stopped (machine.absorbed (coding layout) number (w.nodes number.0) packet))
-        (packet_calls layout number (w.nodes number.0) packet took.reached.listed) fault d) same took.left;
-  }
-  took_as (Err refused) took =
-      shows_kept layout bricks number.0 old power w within is (power_now (w.nodes number.0) (w.after number.0) took) shows
-
-  pub handled_as : (result : Result (Option Outcome) NoMem)
-      → ((state : machine.Node) → IsRunning layout number state node → Takes layout number state old.clock packet node.brick.disk fault power result)
-      → HandledAs layout w number packet fault bricks (set bricks number.0 (with_power old power)) result
-  handled_as result takes =
-      took_as result
-      (subst (λ (time : ℕ). Takes layout number (w.nodes number.0) time packet node.brick.disk fault power result) at_number.clock
-      (takes (w.nodes number.0) (runs_at layout bricks w number.0 old node within is on shows).1))
+-- and a read of each disk gives what it gave
+pub handled_contents : {old new : List Brick} {number : BrickId} (packet : Packet) (fault : Option Fault) (refused : NoMem)
+    → ChangesBrick old new number (DoesHandle packet fault (Err refused)) → map content_of (disks_of new) ≡ map content_of (disks_of old)
+handled_contents packet fault refused changes = contents_changed changes (by changes.brick.power changes.holds)
+  where
+    by : (was : Power)
+        → IsUpWith was (λ node. IsUpWith changes.power (IsRunning node.layout node.me (state_of node))
+        × (content_of (disk_in changes.power) ≡ content_of node.brick.disk))
+        → content_of (disk_in changes.power) ≡ content_of (disk_in was)
+    by (Up node) holds = holds.1
+    by (Down disk) holds = absurd holds
 
 -- bricks of the first world
 pub record AreFresh (layout : Layout) (bricks : List Brick) (n : ℕ) : Type 0 where
@@ -400,9 +282,9 @@ node_at layout bricks b brick within is of = of b brick (slice_get_read bricks (
 
 -- the brick of a number that is up is on
 pub on_at : (bricks : List Brick) (number : BrickId) (brick : Brick) (power : Power) → brick ≡ get_or bricks number.0 brick
-    → brick.power ≡ power → IsUp bricks number → IsOn power
+    → brick.power ≡ power → IsUp bricks number → IsUpWith power Runs
 on_at bricks number brick power is same up =
-    subst IsOn same (up.on brick (slice_get_read bricks (length bricks) number.0 brick refl up.within is))
+    subst (λ (p : Power). IsUpWith p Runs) same (up.on brick (slice_get_read bricks (length bricks) number.0 brick refl up.within is))
 
 -- a brick that runs is up, in any layout that it shows
 up_within : (layout : Layout) (bricks : List Brick) (w : World) (b : ℕ) → b < length bricks
@@ -476,7 +358,8 @@ found_up layout bricks b brick node within is on of =
       refl,
       record {
         within = within;
-        on = λ x here. subst (λ (y : Brick). IsOn y.power) (same_Some brick x (sym at ∙ here)) (subst IsOn (sym on) (runs.runs, runs.sound));
+        on = λ x here. subst (λ (y : Brick). IsUpWith y.power Runs) (same_Some brick x (sym at ∙ here))
+            (subst (λ (p : Power). IsUpWith p Runs) (sym on) (runs_own layout (brick_of b) one.state node runs));
       },
     )
 
@@ -485,7 +368,7 @@ pub up_there : (layout : Layout) (bricks : List Brick) (w : World) (brick : Bric
     → ShowsBricks layout bricks w.nodes w.after w.up w.clocks → is_up layout w brick ≡ true
 up_there layout bricks w brick up shows = by_brick (slice_get bricks brick.0) refl
   where
-    by_power : (power : Power) → IsOn power → ShowsPower layout brick (w.nodes brick.0) (w.after brick.0) (w.up brick.0) power → w.up brick.0 ≡ true
+    by_power : (power : Power) → IsUpWith power Runs → ShowsPower layout brick (w.nodes brick.0) (w.after brick.0) (w.up brick.0) power → w.up brick.0 ≡ true
     by_power (Up node) on shown = shown.0
     by_power (Down disk) on shown = absurd on
 
@@ -508,27 +391,19 @@ up_at slice bricks b brick found same here is =
     (is.0 ∙ ap brick_of here, subst (λ (xs : List Brick). IsUp xs found) same is.1)
 
 -- a brick stopped
-pub shows_stopped : (layout : Layout) (old new : List Brick) (w : World) (brick : BrickId) → IsUp old brick → StopsBrick old new brick
-    → ShowsBricks layout old w.nodes w.after w.up w.clocks
-    → ShowsBricks layout new (machine.put w.nodes brick.0 (machine.stopped (w.nodes brick.0)))
-    (machine.put w.after brick.0 (machine.stopped (w.nodes brick.0))) (machine.put w.up brick.0 false) w.clocks
-shows_stopped layout old new w brick up stops shows = by_brick (slice_get old brick.0) refl
+pub shows_stopped : {layout : Layout} {old new : List Brick} {number : BrickId} (w : World) → w.up number.0 ≡ true
+    → ShowsBricks layout old w.nodes w.after w.up w.clocks → ChangesBrick old new number Stops
+    → ShowsBricks layout new (machine.put w.nodes number.0 (machine.stopped (w.nodes number.0)))
+    (machine.put w.after number.0 (machine.stopped (w.nodes number.0))) (machine.put w.up number.0 false) w.clocks
+shows_stopped {layout} {old} {new} {number} w up shows changes =
+    shows_down w shows changes (machine.stopped (w.nodes number.0)) (machine.stopped (w.nodes number.0))
+    (subst (λ (power : Power). ShowsPower layout number (machine.stopped (w.nodes number.0)) (machine.stopped (w.nodes number.0)) false power)
+    (sym changes.holds) (by changes.brick.power (shown_there w shows changes).power))
   where
-    by_power : (power : Power) → IsOn power → ShowsPower layout brick (w.nodes brick.0) (w.after brick.0) (w.up brick.0) power
-        → ShowsPower layout brick (machine.stopped (w.nodes brick.0)) (machine.stopped (w.nodes brick.0)) false (Down (disk_in power))
-    by_power (Up node) on shown = (refl, rests_off layout brick (w.nodes brick.0) node node.brick.disk shown.1 refl)
-    by_power (Down disk) on shown = absurd on
-
-    by_brick : (found : Option Brick) → slice_get old brick.0 ≡ found
-        → ShowsBricks layout new (machine.put w.nodes brick.0 (machine.stopped (w.nodes brick.0)))
-        (machine.put w.after brick.0 (machine.stopped (w.nodes brick.0))) (machine.put w.up brick.0 false) w.clocks
-    by_brick None at = absurd (slice_get_not_none old brick.0 up.within at)
-    by_brick (Some x) at =
-        let was = shows.each brick.0 x at in
-        subst (λ (bricks : List Brick). ShowsBricks layout bricks (machine.put w.nodes brick.0 (machine.stopped (w.nodes brick.0)))
-        (machine.put w.after brick.0 (machine.stopped (w.nodes brick.0))) (machine.put w.up brick.0 false) w.clocks) (sym (stops x at))
-        (shows_down layout old brick.0 x (Down (disk_in x.power)) w (machine.stopped (w.nodes brick.0)) (machine.stopped (w.nodes brick.0)) was.clock
-        (by_power x.power (up.on x at) was.power) shows)
+    by : (power : Power) → ShowsPower layout number (w.nodes number.0) (w.after number.0) (w.up number.0) power
+        → ShowsPower layout number (machine.stopped (w.nodes number.0)) (machine.stopped (w.nodes number.0)) false (Down (disk_in power))
+    by (Up node) shown = (refl, rests_off layout number (w.nodes number.0) node node.brick.disk shown.1 refl)
+    by (Down disk) shown = absurd (let never : true ≡ false = sym up ∙ shown.0 in cc)
 
 -- what a brick sends at a tick is what the machine's sends
 pub ticks_as : (layout : Layout) (bricks : List Brick) (w : World) (brick : BrickId) (messages : List (BrickId × Message)) → IsUp bricks brick

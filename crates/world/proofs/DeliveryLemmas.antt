@@ -1,7 +1,7 @@
 -- What a line that delivers a message, or another line, comes to.
 use Rattle.std.proofs.Common.{◌≡◌, inl, inr, ℕ, Bool, true, false, cond, List, [], ◌∷◌, append-nil, arith, Option, Some, None, Result, Ok, Err, refl, sym, ap, ◌∙◌, subst}
 use Rattle.std.specs.Prelude.{slice_get, map, IfOk}
-use Rattle.std.proofs.lemmas.Bool.{eq-eqb}
+use Rattle.std.proofs.lemmas.Bool.{and_parts, eq-eqb}
 use Rattle.fab_base.specs.declared.identities.BrickId.{BrickId}
 use Rattle.fab_base.specs.Layouts.{Layout}
 use Rattle.fab_disk.specs.declared.disk.Plan.{Plan}
@@ -15,22 +15,27 @@ use Rattle.node.specs.Calls.{packet_calls}
 use Rattle.node.specs.Outcomes.{Outcome as Sent}
 use Rattle.stripe_code.specs.Codes.{coding}
 use Rattle.protocol.specs.Settings.{Setting}
-use Rattle.protocol.specs.Nodes.{Node, put, absorbed, stopped}
-use Rattle.protocol.specs.Worlds.{World, Event, Delivers, Stops, is_up, packet_of, reached_at, reached_during, left_after, world_stopped, happens, run}
+use Rattle.protocol.specs.Nodes.{Node, put, received, absorbed, stopped}
+use Rattle.protocol.specs.Worlds.{World, Event, Delivers, Stops, is_brick, is_up, packet_of, reached_at, reached_during, left_after, world_stopped, happens, run}
 use Rattle.protocol.specs.Calms.{IsCalm, operation_marked}
 use Rattle.world.specs.Runs.{brick_of}
-use Rattle.world.specs.Faults.{IsEventsOf, IsReached, plan_of}
-use Rattle.world.specs.Disks.{KeepsDisks, KeepsOthers, LeavesDisks, ListsEvent, ListsHandled, receiver_of, changes_disk_of}
+use Rattle.world.specs.Faults.{IsEventsOf, IsLeft, IsReached, plan_of}
+use Rattle.world.specs.BrickSteps.{ChangesBrick}
+use Rattle.world.specs.Noted.{IsSameHistory}
+use Rattle.world.specs.Disks.{KeepsDisks, KeepsOthers, LeavesDisks, ListsEvent, ListsHandled, ListsPacket, receiver_of, changes_disk_of}
 use Rattle.world.specs.EventCalls.{handled_calls}
-use Rattle.world.specs.Shown.{Shows, ShowsBricks, StartsAs, Tells, HistoryStays, Comes, TakesEvent, StaysAs, RunsLine, RefusesLine, HandledWhole, HandledPart, disks_of}
+use Rattle.world.specs.declared.bricks.Power.{Power}
+use Rattle.world.specs.Shown.{IsRunning, IsUpWith, Shows, ShowsBricks, ShowsPower, TookPart, TookWhole, disk_in, seqs_of, StartsAs, Tells, Comes, TakesEvent, StaysAs, RunsLine, RefusesLine, disks_of}
 use Rattle.world.specs.Texts.{marks_if, is_deliverable, outcome_of, outcome_text, new_marks, new_reports, event_text, text_of, line_text}
 use Rattle.world.specs.declared.simulations.Outcome.{Outcome}
 use Rattle.world.specs.declared.simulations.Outcome.TheVariants.{Marks, Idle}
 use Rattle.world.specs.declared.simulations.Simulation.{Simulation}
 use Rattle.world.specs.declared.bricks.Brick.{Brick}
 use Rattle.world.specs.declared.histories.History.{History}
-use Rattle.world.proofs.DiskLemmas.{same_kept, one_kept}
-use Rattle.world.proofs.HistoryLemmas.{tells_during}
+use Rattle.world.proofs.BrickLemmas.{up_power}
+use Rattle.world.proofs.BrickListLemmas.{shows_down, shows_step}
+use Rattle.world.proofs.DiskLemmas.{disk_was, of_disk, of_now, one_kept, others_changed, same_kept, unwritten_changed}
+use Rattle.world.proofs.HistoryLemmas.{tells_during, tells_same}
 use Rattle.world.proofs.MachineBegins.{happens_stopped_during, happens_unsent, happens_astray}
 use Rattle.world.proofs.RunLemmas.{nothing_text, came_text, start_few}
 use Rattle.world.proofs.SimulationLemmas.{shows_still, shows_handled, handled_here, handled_astray}
@@ -92,10 +97,11 @@ astray_comes layout w state number fault packet sent down shows =
         let never : true ≡ false = sym up ∙ ap (λ (p : Packet). is_up layout w p.to) same ∙ down in
         cc
 
--- A message to a brick that is up.
-module _ (layout : Layout) (w : World) (old new : Simulation) (number : ℕ) (fault : Option Fault) (packet : Packet)
+-- A message to a brick that is up, which may have changed.
+module _ (layout : Layout) (w : World) (old new : Simulation) (number : ℕ) (fault : Option Fault) (packet : Packet) {Holds : Brick → Power → Type 0}
     (sent : packet_of w.packets number ≡ Some packet) (up : is_up layout w packet.to ≡ true)
-    (others : KeepsOthers (Some packet.to) (disks_of old.bricks.items) (disks_of new.bricks.items)) where
+    (shows : ShowsBricks layout old.bricks.items w.nodes w.after w.up w.clocks)
+    (changes : ChangesBrick old.bricks.items new.bricks.items packet.to Holds) where
   changes_here : changes_disk_of layout w (Delivers number) ≡ Some packet.to
   changes_here = ap (receiver_of layout w) sent ∙ ap (λ (b : Bool). cond b (Some packet.to) None) up
 
@@ -104,19 +110,28 @@ module _ (layout : Layout) (w : World) (old new : Simulation) (number : ℕ) (fa
       ap (handled_calls layout w listed) sent
       ∙ ap (λ (b : Bool). cond b (packet_calls layout packet.to (w.nodes packet.to.0) packet listed) 0) up
 
-  pub whole_comes : (outs : Sent) → HandledWhole layout w packet.to packet fault old.bricks.items new.bricks.items outs
+  -- it is up now
+  pub on_now : (next : Node) → IsUpWith changes.power (IsRunning layout packet.to next)
+      → ShowsPower layout packet.to next (w.after packet.to.0) (w.up packet.to.0) changes.power
+  on_now next runs =
+      subst (λ (on : Bool). ShowsPower layout packet.to next (w.after packet.to.0) on changes.power)
+      (sym (and_parts (is_brick layout packet.to) (w.up packet.to.0) up).1) (up_power layout packet.to next (w.after packet.to.0) changes.power runs)
+
+  pub whole_comes : (outs : Sent)
+      → TookWhole layout packet.to (w.nodes packet.to.0) (w.clocks packet.to.0) packet (disk_in changes.brick.power) fault changes.power outs
       → Tells new.history (world_handled (coding layout) w number packet)
       → Comes layout w (disks_of old.bricks.items) new (Deliver number fault) Marks
-  whole_comes outs handled history =
+  whole_comes outs took history =
       one_event layout w (disks_of old.bricks.items) new (Deliver number fault) Marks (Delivers number)
       (inr (record { spared = λ struck. not_struck struck.packet struck.sent struck.disk struck.disk_is struck.reached; events_are = refl }))
-      (shows_handled layout new w number packet sent up handled.bricks history)
+      (shows_handled layout new w number packet sent up
+      (shows_step w shows changes _ (on_now (received (coding layout) packet.to (w.clocks packet.to.0) (w.nodes packet.to.0) packet).node took.on)) history)
       (handled_here layout w packet (packet_of w.packets number) sent up)
       (record {
-        others = subst (λ (b : Option BrickId). KeepsOthers b (disks_of old.bricks.items) (disks_of new.bricks.items)) (sym changes_here) others;
-        still = λ none. handled.still (λ listed. sym (calls_here listed) ∙ none listed true);
+        others = subst (λ (b : Option BrickId). KeepsOthers b (disks_of old.bricks.items) (disks_of new.bricks.items)) (sym changes_here) (others_changed changes);
+        still = λ none. unwritten_changed changes (took.still (λ listed. sym (calls_here listed) ∙ none listed true));
         lists = subst (λ (p : Option Packet). ListsHandled layout w p (disks_of old.bricks.items) (disks_of new.bricks.items)) (sym sent)
-            (λ is. handled.lists);
+            (λ is. of_disk changes (ListsPacket layout packet.to (w.nodes packet.to.0) packet) took.lists);
       })
     where
       not_struck : (other : Packet) → packet_of w.packets number ≡ Some other → (disk : MemDisk)
@@ -124,8 +139,11 @@ module _ (layout : Layout) (w : World) (old new : Simulation) (number : ℕ) (fa
           → IsReached layout other.to (w.nodes other.to.0) other disk (plan_of fault) → ⊥
       not_struck other is disk disk_is reached =
           let same : other ≡ packet = (let e : Some other ≡ Some packet = sym is ∙ sent in cc) in
-          handled.spared disk (subst (λ (p : Packet). slice_get (disks_of old.bricks.items) p.to.0 ≡ Some disk) same disk_is)
-          (subst (λ (p : Packet). IsReached layout p.to (w.nodes p.to.0) p disk (plan_of fault)) same reached)
+          let here : slice_get (disks_of old.bricks.items) packet.to.0 ≡ Some disk =
+          subst (λ (p : Packet). slice_get (disks_of old.bricks.items) p.to.0 ≡ Some disk) same disk_is in
+          let its : disk ≡ disk_in changes.brick.power = (let e : Some disk ≡ Some (disk_in changes.brick.power) = sym here ∙ disk_was changes in cc) in
+          took.spared (subst (λ (d : MemDisk). IsReached layout packet.to (w.nodes packet.to.0) packet d (plan_of fault)) its
+          (subst (λ (p : Packet). IsReached layout p.to (w.nodes p.to.0) p disk (plan_of fault)) same reached))
 
   left_is : left_after (coding layout) packet.to (w.nodes packet.to.0) (packet_of w.packets number)
       ≡ stopped (absorbed (coding layout) packet.to (w.nodes packet.to.0) packet)
@@ -139,28 +157,38 @@ module _ (layout : Layout) (w : World) (old new : Simulation) (number : ℕ) (fa
       ap (reached_at w.reached packet.to number) sent
       ∙ ap (λ (b : Bool). cond b (put w.reached number true) w.reached) (eq-eqb packet.to.0 packet.to.0 refl)
 
-  pub part_comes : HandledPart layout w packet.to packet fault old.bricks.items new.bricks.items
+  pub part_comes : TookPart layout packet.to (w.nodes packet.to.0) packet (disk_in changes.brick.power) fault changes.power
       → Tells new.history (world_stopped (coding layout) (record w { reached = put w.reached number true }) packet.to None)
       → Comes layout w (disks_of old.bricks.items) new (Deliver number fault) Marks
-  part_comes handled history =
+  part_comes took history =
       let v : World = world_stopped (coding layout) w packet.to (Some number) in
+      let before : Node = stopped (w.nodes packet.to.0) in
+      let after : Node = stopped (absorbed (coding layout) packet.to (w.nodes packet.to.0) packet) in
+      let calls : ℕ = packet_calls layout packet.to (w.nodes packet.to.0) packet took.reached.listed in
       one_event layout w (disks_of old.bricks.items) new (Deliver number fault) Marks (Stops packet.to (Some number))
       (inl (record {
-        struck = record { packet = packet; sent = sent; up = up; disk = handled.disk; disk_is = handled.disk_is; reached = handled.reached };
+        struck = record {
+          packet = packet;
+          sent = sent;
+          up = up;
+          disk = disk_in changes.brick.power;
+          disk_is = disk_was changes;
+          reached = took.reached;
+        };
         events_are = refl;
-        left = handled.left;
+        left = of_now changes (IsLeft layout packet.to before after calls fault) took.left;
       }))
       (subst (λ (x : World). Shows layout new x) (sym (happens_stopped_during (coding layout) w packet.to (Some number) up))
       (record {
-        bricks = subst (λ (node : Node). ShowsBricks layout new.bricks.items v.nodes (put w.after packet.to.0 node) v.up v.clocks) (sym left_is) handled.bricks;
+        bricks = subst (λ (node : Node). ShowsBricks layout new.bricks.items v.nodes (put w.after packet.to.0 node) v.up v.clocks) (sym left_is)
+            (shows_down w shows changes before after took.off);
         history = tells_during (coding layout) new.history w packet.to number reached_is history;
       }))
       (sym (ap marks_if up))
       (record {
-        others = others;
+        others = others_changed changes;
         still = λ none.
-            absurd (never_within (packet_calls layout packet.to (w.nodes packet.to.0) packet handled.reached.listed) (plan_of fault)
-            (sym (calls_here handled.reached.listed) ∙ none handled.reached.listed true) handled.reached.within);
+            absurd (never_within calls (plan_of fault) (sym (calls_here took.reached.listed) ∙ none took.reached.listed true) took.reached.within);
         lists = tt;
       })
 
@@ -204,16 +232,16 @@ idle_comes layout w state n bricks not shows =
     ([], record { are = inr (not, refl); shows = shows; prints = refl; kept = refl })
 
 -- a state of the same bricks, whose history tells what the other's told, shows what that shows
-pub shows_alike : (layout : Layout) (old new : Simulation) (w : World) → new.bricks.items ≡ old.bricks.items → HistoryStays old.history new.history
+pub shows_alike : (layout : Layout) (old new : Simulation) (w : World) → new.bricks.items ≡ old.bricks.items → IsSameHistory old.history new.history
     → Shows layout old w → Shows layout new w
 shows_alike layout old new w same stays shows = record {
   bricks = subst (λ (bricks : List Brick). ShowsBricks layout bricks w.nodes w.after w.up w.clocks) (sym same) shows.bricks;
-  history = stays w shows.history;
+  history = tells_same (seqs_of w) old.history new.history w stays shows.history;
 }
 
 -- what a line came to is so of a state of the same bricks, whose history tells what the other's told
 pub comes_alike : (layout : Layout) (w : World) (disks : List MemDisk) (old new : Simulation) (line : Line) (outcome : Outcome)
-    → new.bricks.items ≡ old.bricks.items → HistoryStays old.history new.history → Comes layout w disks old line outcome → Comes layout w disks new line outcome
+    → new.bricks.items ≡ old.bricks.items → IsSameHistory old.history new.history → Comes layout w disks old line outcome → Comes layout w disks new line outcome
 comes_alike layout w disks old new line outcome same stays (events, comes) = (
   events,
   record {

@@ -40,7 +40,7 @@ use Rattle.protocol.specs.Nodes as machine
 use Rattle.protocol.specs.Worlds.{Found, Before, After}
 use Rattle.world.specs.Disks.{ShowsDisk, IsUnwritten}
 use Rattle.world.specs.Faults.{in_memory, plan_of, opened_more, ShowsOne, HoldsOne, LeftBy, Finds, found_of}
-use Rattle.world.specs.Shown.{IsRunning, Rests, TookWhole, TookPart, WasStarted, IsWorn, WasCutShort}
+use Rattle.world.specs.Shown.{IsRunning, Rests, ShowsPower, TookWhole, TookPart, WasStarted, IsWorn, WasCutShort}
 use Rattle.world.specs.declared.bricks.Power.TheVariants.{Up, Down}
 use Rattle.world.proofs.BrickLemmas.{found_boot, stopped_shows, kept_still}
 
@@ -234,18 +234,15 @@ module _ (layout : Layout) (me : BrickId) (state after : machine.Node) (fault : 
             (opens.run tt reached.frames reached.closed
             (subst (λ (image : List ℕ). OpensAs (shape_at layout me) reached.frames reached.closed image) (sym arms.content) reached.opens)).spared refl
             (subst (λ (p : Plan). IsWithin (opening_calls (opens_appendable (shape_at layout me) reached.frames reached.closed)) p) (sym arms.planned) reached.within);
-        on = λ other. (
-          refl,
-          record {
-            layout_is = same.layout ∙ layout_is;
-            me_is = same.me ∙ me_is;
-            state_is = state_same ∙ is;
-            kept = kept_still layout me next node.brick.disk up.brick.disk still
-                (subst (λ (s : machine.Node). ShowsDisk layout me s node.brick.disk) is stands);
-            runs = halted ∙ runs;
-            sound = sound (unlisted_after node.brick.disk Whole opens);
-          },
-        );
+        on = record {
+          layout_is = same.layout ∙ layout_is;
+          me_is = same.me ∙ me_is;
+          state_is = state_same ∙ is;
+          kept = kept_still layout me next node.brick.disk up.brick.disk still
+              (subst (λ (s : machine.Node). ShowsDisk layout me s node.brick.disk) is stands);
+          runs = halted ∙ runs;
+          sound = sound (unlisted_after node.brick.disk Whole opens);
+        };
         lists = record {
           after = node.brick.listed;
           is_listed = listed_by layout me up node.brick.listed (same.layout ∙ layout_is) (same.me ∙ me_is) shape listed long;
@@ -257,13 +254,20 @@ module _ (layout : Layout) (me : BrickId) (state after : machine.Node) (fault : 
       }
 
   -- its store can't be opened once more, or memory was refused
-  pub rests_on : (left last : MemDisk) → OpensBrick in_memory layout me armed left NotBegun → ((image : List ℕ) → may_be_left last image → may_be_left left image)
+  rests_on : (left last : MemDisk) → OpensBrick in_memory layout me armed left NotBegun → ((image : List ℕ) → may_be_left last image → may_be_left left image)
       → (is_unlisted left → IsSound last) → Rests layout me state after last
   rests_on left last opens crash sound = record {
     holds = holds_less layout me state after disk last (λ image is. arms.crash image ((opens.not_begun refl).crash image (crash image is))) rests.holds;
     boots = rests.boots;
     sound = sound (unlisted_after left NotBegun opens);
   }
+
+  pub rests_still : (left last : MemDisk) → OpensBrick in_memory layout me armed left NotBegun → IsUnwritten left last → (is_unlisted left → IsSound last)
+      → ShowsPower layout me state after false (Down last) × (content_of last ≡ content_of disk)
+  rests_still left last opens still sound = (
+    (refl, rests_on left last opens still.crash sound),
+    (unwritten_by (plan_of fault) disk armed left last arms (opens.not_begun refl) still).content,
+  )
 
   pub worn : (left last : MemDisk) → OpensBrick in_memory layout me armed left NotBegun → IsWornOut (shape_at layout me) (content_of armed)
       → IsUnwritten left last → (is_unlisted left → IsSound last) → IsWorn layout me state after disk (Down last)
@@ -414,11 +418,8 @@ module _ (layout : Layout) (me : BrickId) (state : machine.Node) (time : ℕ) (p
         told = steps.told ∙ ap (λ (s : machine.NodeStep). s.told) steps_there;
         answers = steps.answers ∙ ap (λ (s : machine.NodeStep). s.answers) steps_there;
         reports = steps.reports ∙ ap (λ (s : machine.NodeStep). s.reports) steps_there;
-        on = λ after. (
-          refl,
-          on_there next new up stays_new stays_up is up_is
-              (kept_still layout me next new.brick.disk up.brick.disk still stands) halted (sound (run.stays unlisted_here)),
-        );
+        on = on_there next new up stays_new stays_up is up_is
+            (kept_still layout me next new.brick.disk up.brick.disk still stands) halted (sound (run.stays unlisted_here));
         spared = λ reached.
             let n : reached.listed ≡ armed.brick.listed =
             listed_once (shape_at layout me) (content_of node.brick.disk) reached.listed armed.brick.listed reached.is_listed listed_there
@@ -496,13 +497,15 @@ module _ (layout : Layout) (me : BrickId) (state : machine.Node) (time : ℕ) (p
       }
 
   pub took_nothing : (new up : Running MemDisk) → IsSameBrick armed new → IsSameBrick new up → state_of new ≡ state_of armed → state_of up ≡ state_of new
-      → IsUnwritten new.brick.disk up.brick.disk → Stepped new NotBegun → up.brick.halted ≡ false → (is_unlisted new.brick.disk → IsSound up.brick.disk) → IsRunning layout me state up
+      → IsUnwritten new.brick.disk up.brick.disk → Stepped new NotBegun → up.brick.halted ≡ false → (is_unlisted new.brick.disk → IsSound up.brick.disk)
+      → IsRunning layout me state up × (content_of up.brick.disk ≡ content_of node.brick.disk)
   took_nothing new up stays_new stays_up is up_is still step halted sound =
       let change = change_there new NotBegun step in
-      on_there state new up stays_new stays_up (is ∙ state_same ∙ runs.state_is) up_is
-      (kept_still layout me state node.brick.disk up.brick.disk
-      (unwritten_by (plan_of fault) node.brick.disk armed.brick.disk new.brick.disk up.brick.disk arms (change.not_begun refl) still) runs.kept) halted
-      (sound (change.run.stays unlisted_here))
+      let alone = unwritten_by (plan_of fault) node.brick.disk armed.brick.disk new.brick.disk up.brick.disk arms (change.not_begun refl) still in (
+        on_there state new up stays_new stays_up (is ∙ state_same ∙ runs.state_is) up_is
+            (kept_still layout me state node.brick.disk up.brick.disk alone runs.kept) halted (sound (change.run.stays unlisted_here)),
+        alone.content,
+      )
 
 -- a step that a fault ended, by what the fault is
 abbrev failed : (T : Type 0) → NodeFault → Result T NodeFault

@@ -23,7 +23,7 @@ use Rattle.world.specs.Faults.{opened_more, found_of}
 use Rattle.world.specs.Shown.{Rests, ShowsPower, IsFreshBrick, WasStarted, IsWorn, WasCutShort, TurnsOn, disk_in, unopened}
 use Rattle.world.specs.declared.bricks.Brick.{Brick}
 use Rattle.world.specs.declared.bricks.Power.{Power}
-use Rattle.world.proofs.BrickLemmas.{found_boot}
+use Rattle.world.proofs.BrickLemmas.{found_boot, up_power}
 use Rattle.world.proofs.DownLemmas.{holds_kept}
 
 -- a fresh disk is at rest
@@ -65,7 +65,7 @@ fresh_started layout me disk power kept was =
     let none = never_opened layout me disk was.finds.openings node same kept was.finds.shows in
     subst (λ (state : machine.Node). ShowsPower layout me state (machine.first_node layout) true power)
     (ap (λ (k : ℕ). machine.restarted (k + 1) node) none ∙ ap (λ (n : machine.Node). machine.restarted 1 n) same ∙ first_is layout)
-    (was.on (machine.first_node layout))
+    (up_power layout me (machine.restarted (was.finds.openings + 1) node) (machine.first_node layout) power was.on)
 
 fresh_opens : (layout : Layout) (openings : ℕ) → openings ≡ 0 → machine.may_open (openings + 1) (unopened layout) ≡ true
 fresh_opens layout openings none = ap (λ (k : ℕ). machine.may_open (k + 1) (unopened layout)) none

@@ -1,18 +1,21 @@
 -- What a history tells, step by step.
-use Rattle.std.proofs.Common.{◌≡◌, ◌≢◌, ℕ, zero, suc, ◌+◌, ◌<◌, ◌≤◌, ◌-◌, ◌⊎◌, inl, inr, ⊎_elim, get_or, set, Bool, true, false, not, cond, nat_eq, List, [], ◌∷◌, ◌++◌, length, Option, Some, None, refl, sym, ap, ◌∙◌, subst, arith, add-one, length-append, append-nil}
-use Rattle.std.specs.Prelude.{option_to_list, slice_get, is_some, if◌then◌else◌}
+use Rattle.std.proofs.Common.{◌≡◌, ◌≢◌, ℕ, zero, suc, ◌+◌, ◌<◌, ◌≤◌, ◌-◌, ◌⊎◌, inl, inr, ⊎_elim, get_or, set, Bool, true, false, not, cond, nat_eq, List, [], ◌∷◌, ◌++◌, length, Option, Some, None, refl, sym, ap, ◌∙◌, subst, arith, add-one, length-append, append-nil, vec_len}
+use Rattle.std.specs.Prelude.{slice_get, is_some, unwrap_or, if◌then◌else◌}
 use Rattle.std.specs.Option.{option_map}
 use Rattle.std.proofs.lemmas.Bool.{cond_both, eqb-true, eqb-false, ne_eqb, cases_eq, cases_lt}
-use Rattle.std.proofs.lemmas.List.{get_or_append_left}
-use Rattle.std.proofs.lemmas.Option.{same_Some, slice_get_past, slice_get-get_or}
+use Rattle.std.specs.Vec.{with_items}
+use Rattle.std.proofs.lemmas.List.{get_or_append_left, with_items_is}
+use Rattle.std.proofs.lemmas.Option.{slice_get_past, slice_get-get_or}
 use Rattle.fab_base.specs.declared.answers.Answer.{Answer}
 use Rattle.fab_base.specs.declared.answers.Cause.{Cause}
 use Rattle.fab_base.specs.declared.asks.Ask.{Ask}
-use Rattle.fab_base.specs.declared.asks.Op.TheVariants.{ReadStripe}
 use Rattle.fab_base.specs.declared.identities.BrickId.{BrickId}
 use Rattle.fab_base.specs.declared.stamps.Stamp.{Stamp}
 use Rattle.messages.specs.declared.calls.Call.{Call}
 use Rattle.messages.specs.declared.packets.Packet.{Packet}
+use Rattle.coord_phase.specs.Messages.{packets_from}
+use Rattle.node.specs.Outcomes.{Outcome}
+use Rattle.node.specs.declared.outs.Begun.{Begun}
 use Rattle.reg_model.specs.declared.marks.Mark.{Mark}
 use Rattle.reg_model.specs.declared.marks.Mark.TheVariants.{Begin, End, Crash}
 use Rattle.protocol.specs.declared.tellings.Report.{Report}
@@ -23,29 +26,50 @@ use Rattle.protocol.specs.declared.tellings.Told.{Told}
 use Rattle.protocol.specs.declared.tellings.Told.TheVariants.{Made, Seen, Began, Closed}
 use Rattle.protocol.specs.Settings.{Setting}
 use Rattle.protocol.specs.Worlds.{World, Operation, Choices, Found, Before, After, number_of, with_number, with_call_number, mark_of, read_of_call, world_began, world_stepped, world_stopped, world_found, world_started, world_told, world_tells, world_answered, world_answers, reports_of, reached_during, with_made, with_seen, with_closed, with_answer, is_answer}
-use Rattle.protocol.specs.Happenings.{writes}
 use Rattle.world.specs.declared.histories.History.{History}
 use Rattle.world.specs.declared.histories.OperationRecord.{OperationRecord}
 use Rattle.world.specs.CallNumbers.{AreCalls, calls_in, call_at}
-use Rattle.world.specs.Shown.{TellsOperations, AreMarked, ChangesAt, TellsOperation, TellsAt, Tells, OpensAside, made_kept, seen_kept, ended_kept, mark_kept, mark_of_kept, record_at, number_at, seqs_of, reads_begun, calls_used, calls_aside}
-use Rattle.world.specs.declared.deliveries.Deliveries.{Deliveries}
+use Rattle.world.specs.Shown.{TellsOperations, AreMarked, ChangesAt, TellsOperation, TellsAt, Tells, OpensAside, IsOfCall, AreAnswered, made_kept, seen_kept, ended_kept, mark_kept, mark_of_kept, record_at, number_at, seqs_of, reads_begun, calls_used}
+use Rattle.world.specs.Noted.{IsSameHistory, NotesBegin, NotesRead, NotesCrash, ChangesCall, NotesEnd, NotesEnds, NotesProposal, calls_with, calls_aside, number_in}
+use Rattle.world.specs.declared.call_numbers.CallNumbers.{CallNumbers}
 use Rattle.world.proofs.KeptNumbers.{KeepsMarks, changed_record, known_changed, known_begun, mark_told, marked_changed, marked_unmarked, marked_next}
-use Rattle.world.proofs.Places.{each_value, value_here, value_elsewhere, get_or_end, set_here, set_elsewhere, slice_get_not_none}
+use Rattle.world.proofs.Places.{each_value, value_here, value_elsewhere, get_or_end, set_here, set_elsewhere}
 
 -- room alone changes nothing that is told
-pub tells_same : (seqs : ℕ → ℕ) (old new : History) (w : World) → new.sent.packets.items ≡ old.sent.packets.items
-    → ((k : ℕ) → get_or new.delivered.reached.items k false ≡ get_or old.delivered.reached.items k false)
-    → new.marks.items ≡ old.marks.items → new.reports.items ≡ old.reports.items → new.operations.items ≡ old.operations.items
-    → new.marked.items ≡ old.marked.items → ((i : ℕ) → calls_in new.calls i ≡ calls_in old.calls i) → TellsAt seqs old w → TellsAt seqs new w
-tells_same seqs old new w sent reached marks reports operations marked calls tells = record {
-  packets = sent ∙ tells.packets;
-  reached = λ k. reached k ∙ tells.reached k;
-  marks = marks ∙ tells.marks;
-  reports = reports ∙ tells.reports;
-  begun = ap length operations ∙ tells.begun;
-  marked = subst (λ (l : List ℕ). AreMarked l w) (sym marked) tells.marked;
-  operations = subst (λ (kept : List OperationRecord). TellsOperations kept w.operations) (sym operations) tells.operations;
-  calls = λ i. subst (λ (l : List ℕ). AreCalls (w.up i) l (number_of w i) (seqs i)) (sym (calls i)) (tells.calls i);
+pub tells_same : (seqs : ℕ → ℕ) (old new : History) (w : World) → IsSameHistory old new → TellsAt seqs old w → TellsAt seqs new w
+tells_same seqs old new w same tells = record {
+  packets = same.sent ∙ tells.packets;
+  reached = λ k. same.reached k ∙ tells.reached k;
+  marks = same.marks ∙ tells.marks;
+  reports = same.reports ∙ tells.reports;
+  begun = ap length same.operations ∙ tells.begun;
+  marked = subst (λ (l : List ℕ). AreMarked l w) (sym same.marked) tells.marked;
+  operations = subst (λ (kept : List OperationRecord). TellsOperations kept w.operations) (sym same.operations) tells.operations;
+  calls = λ i. subst (λ (l : List ℕ). AreCalls (w.up i) l (number_of w i) (seqs i)) (sym (same.calls i)) (tells.calls i);
+}
+
+-- where nothing was sent after all
+pub same_sent : (old new : History) → new ≡ record old { sent = new.sent } → new.sent.packets.items ≡ old.sent.packets.items → IsSameHistory old new
+same_sent old new rest sent = record {
+  sent = sent;
+  reached = λ k. ap (λ (h : History). get_or h.delivered.reached.items k false) rest;
+  marks = ap (λ (h : History). h.marks.items) rest;
+  reports = ap (λ (h : History). h.reports.items) rest;
+  operations = ap (λ (h : History). h.operations.items) rest;
+  marked = ap (λ (h : History). h.marked.items) rest;
+  calls = λ i. ap (λ (h : History). calls_in h.calls i) rest;
+}
+
+-- and so from one to the next
+pub same_then : (old mid new : History) → IsSameHistory old mid → IsSameHistory mid new → IsSameHistory old new
+same_then old mid new first second = record {
+  sent = second.sent ∙ first.sent;
+  reached = λ k. second.reached k ∙ first.reached k;
+  marks = second.marks ∙ first.marks;
+  reports = second.reports ∙ first.reports;
+  operations = second.operations ∙ first.operations;
+  marked = second.marked ∙ first.marked;
+  calls = λ i. second.calls i ∙ first.calls i;
 }
 
 -- it tells of as many calls
@@ -122,22 +146,6 @@ tells_delivered seqs old new w number rest reached tells =
       calls = tells.calls;
     })
 
--- something was reported
-pub tells_reported : (seqs : ℕ → ℕ) (old new : History) (w : World) (more : List (BrickId × Report)) → new ≡ record old { reports = new.reports }
-    → new.reports.items ≡ old.reports.items ++ more → TellsAt seqs old w
-    → TellsAt seqs new (record w { choices = record w.choices { reports = w.choices.reports ++ more } })
-tells_reported seqs old new w more rest reports tells =
-    subst (λ (h : History). TellsAt seqs h (record w { choices = record w.choices { reports = w.choices.reports ++ more } })) (sym rest) (record {
-      packets = tells.packets;
-      reached = tells.reached;
-      marks = tells.marks;
-      reports = reports ∙ ap (λ (xs : List (BrickId × Report)). xs ++ more) tells.reports;
-      begun = tells.begun;
-      marked = record { count = tells.marked.count; each = tells.marked.each };
-      operations = tells.operations;
-      calls = tells.calls;
-    })
-
 -- something was sent
 pub tells_sent : (seqs : ℕ → ℕ) (old new : History) (w : World) (more : List Packet) → new ≡ record old { sent = new.sent }
     → new.sent.packets.items ≡ old.sent.packets.items ++ more → TellsAt seqs old w → TellsAt seqs new (record w { packets = w.packets ++ more })
@@ -153,47 +161,82 @@ tells_sent seqs old new w more rest sent tells =
       calls = tells.calls;
     })
 
+-- what is sent and then reported changes only that
+pub spoken : (old mid new : History) → mid ≡ record old { sent = mid.sent } → new ≡ record mid { reports = new.reports }
+    → new ≡ record old { sent = new.sent; reports = new.reports }
+spoken old mid new sends reports =
+    reports ∙ ap (λ (h : History). record h { reports = new.reports }) sends
+    ∙ ap (λ (h : History). record old { sent = h.sent; reports = new.reports }) (sym reports)
+
+-- so after a call was counted
+pub spoken_aside : (old counted mid new : History) → counted ≡ record old { calls = counted.calls } → mid ≡ record counted { sent = mid.sent }
+    → new ≡ record mid { reports = new.reports } → new ≡ record old { sent = new.sent; reports = new.reports; calls = new.calls }
+spoken_aside old counted mid new counts sends reports =
+    let all = spoken counted mid new sends reports in
+    all ∙ ap (λ (h : History). record h { sent = new.sent; reports = new.reports }) counts
+    ∙ ap (λ (h : History). record old { sent = new.sent; reports = new.reports; calls = h.calls }) (sym all)
+
+-- something was sent, and reported
+pub tells_spoken : (seqs : ℕ → ℕ) (old new : History) (w : World) (packets : List Packet) (reports : List (BrickId × Report))
+    → new ≡ record old { sent = new.sent; reports = new.reports } → new.sent.packets.items ≡ old.sent.packets.items ++ packets
+    → new.reports.items ≡ old.reports.items ++ reports → TellsAt seqs old w
+    → TellsAt seqs new (record w { packets = w.packets ++ packets; choices = record w.choices { reports = w.choices.reports ++ reports } })
+tells_spoken seqs old new w packets reports rest sent told tells =
+    let v : World = record w { packets = w.packets ++ packets; choices = record w.choices { reports = w.choices.reports ++ reports } } in
+    subst (λ (h : History). TellsAt seqs h v) (sym rest) (record {
+      packets = sent ∙ ap (λ (xs : List Packet). xs ++ packets) tells.packets;
+      reached = tells.reached;
+      marks = tells.marks;
+      reports = told ∙ ap (λ (xs : List (BrickId × Report)). xs ++ reports) tells.reports;
+      begun = tells.begun;
+      marked = record { count = tells.marked.count; each = tells.marked.each };
+      operations = tells.operations;
+      calls = tells.calls;
+    })
+
 -- a brick's step leaves all boots
 pub boots_stay : (w : World) (brick : BrickId) (node : Node) → node.boot ≡ (w.nodes brick.0).boot → (i : ℕ) → (put w.nodes brick.0 node i).boot ≡
     (w.nodes i).boot
 boots_stay w brick node same = each_value (λ i x. x.boot ≡ (w.nodes i).boot) w.nodes brick.0 node same (λ i other. refl)
 
+-- A change of what is kept of an operation is this one of the machine's, which leaves the number of its marks.
+pub record IsAlike (change : OperationRecord → OperationRecord) (next : Option Operation → Option Operation) : Type 0 where
+  pub none : next None ≡ None
+  pub some : (known : OperationRecord) (o : Operation) → TellsOperation known o
+      → (p : Operation) × (next (Some o) ≡ Some p) × TellsOperation (change known) p
+  pub marks : KeepsMarks next
+
 -- an operation that made a version
-pub made_alike : (stamp : Stamp) (base : Option Stamp) (known : OperationRecord) (o : Operation) → TellsOperation known o
-    → (p : Operation) × (with_made stamp base (Some o) ≡ Some p) × TellsOperation (made_kept stamp base known) p
-made_alike stamp base known o is = (_, refl, record { brick = is.brick; boot = is.boot; seq = is.seq; begin = is.begin; group = is.group; stripe = is.stripe; version = refl; made = refl; base = refl; writes = is.writes; answered = is.answered; mark = is.mark })
+pub made_alike : (stamp : Stamp) (base : Option Stamp) → IsAlike (made_kept stamp base) (with_made stamp base)
+made_alike stamp base = record {
+  none = refl;
+  some = λ known o is. (_, refl, record { brick = is.brick; boot = is.boot; seq = is.seq; begin = is.begin; group = is.group; stripe = is.stripe; version = refl; made = refl; base = refl; writes = is.writes; answered = is.answered; mark = is.mark });
+  marks = λ mark. elim [ None ↦ refl | Some o ↦ refl ];
+}
 
 -- an operation that read a version at once
-pub seen_alike : (stamp : Stamp) (known : OperationRecord) (o : Operation) → TellsOperation known o
-    → (p : Operation) × (with_seen stamp (Some o) ≡ Some p) × TellsOperation (seen_kept stamp known) p
-seen_alike stamp known o is = (_, refl, record { brick = is.brick; boot = is.boot; seq = is.seq; begin = is.begin; group = is.group; stripe = is.stripe; version = refl; made = is.made; base = is.base; writes = is.writes; answered = is.answered; mark = is.mark })
+pub seen_alike : (stamp : Stamp) → IsAlike (seen_kept stamp) (with_seen stamp)
+seen_alike stamp = record {
+  none = refl;
+  some = λ known o is. (_, refl, record { brick = is.brick; boot = is.boot; seq = is.seq; begin = is.begin; group = is.group; stripe = is.stripe; version = refl; made = is.made; base = is.base; writes = is.writes; answered = is.answered; mark = is.mark });
+  marks = λ mark. elim [ None ↦ refl | Some o ↦ refl ];
+}
 
 -- an operation that ended
-pub ended_alike : (answer : Answer) (known : OperationRecord) (o : Operation) → TellsOperation known o
-    → (p : Operation) × (with_answer answer (Some o) ≡ Some p) × TellsOperation (ended_kept (is_answer answer) known) p
-ended_alike answer known o is = (_, refl, record { brick = is.brick; boot = is.boot; seq = is.seq; begin = is.begin; group = is.group; stripe = is.stripe; version = is.version; made = is.made; base = is.base; writes = is.writes; answered = refl; mark = is.mark })
+pub ended_alike : (answer : Answer) → IsAlike (ended_kept (is_answer answer)) (with_answer answer)
+ended_alike answer = record {
+  none = refl;
+  some = λ known o is. (_, refl, record { brick = is.brick; boot = is.boot; seq = is.seq; begin = is.begin; group = is.group; stripe = is.stripe; version = is.version; made = is.made; base = is.base; writes = is.writes; answered = refl; mark = is.mark });
+  marks = λ mark. elim [ None ↦ refl | Some o ↦ refl ];
+}
 
 -- an operation without marks that ended
-pub closed_alike : (cause : Option Cause) (known : OperationRecord) (o : Operation) → TellsOperation known o
-    → (p : Operation) × (with_closed cause (Some o) ≡ Some p) × TellsOperation (ended_kept (not (is_some cause)) known) p
-closed_alike cause known o is = (_, refl, record { brick = is.brick; boot = is.boot; seq = is.seq; begin = is.begin; group = is.group; stripe = is.stripe; version = is.version; made = is.made; base = is.base; writes = is.writes; answered = refl; mark = is.mark })
-
--- each of these keeps the number of an operation's marks
-pub made_marks : (stamp : Stamp) (base : Option Stamp) → KeepsMarks (with_made stamp base)
-made_marks stamp base mark None = refl
-made_marks stamp base mark (Some o) = refl
-
-pub seen_marks : (stamp : Stamp) → KeepsMarks (with_seen stamp)
-seen_marks stamp mark None = refl
-seen_marks stamp mark (Some o) = refl
-
-pub answer_marks : (answer : Answer) → KeepsMarks (with_answer answer)
-answer_marks answer mark None = refl
-answer_marks answer mark (Some o) = refl
-
-pub closed_marks : (cause : Option Cause) → KeepsMarks (with_closed cause)
-closed_marks cause mark None = refl
-closed_marks cause mark (Some o) = refl
+pub closed_alike : (cause : Option Cause) → IsAlike (ended_kept (not (is_some cause))) (with_closed cause)
+closed_alike cause = record {
+  none = refl;
+  some = λ known o is. (_, refl, record { brick = is.brick; boot = is.boot; seq = is.seq; begin = is.begin; group = is.group; stripe = is.stripe; version = is.version; made = is.made; base = is.base; writes = is.writes; answered = refl; mark = is.mark });
+  marks = λ mark. elim [ None ↦ refl | Some o ↦ refl ];
+}
 
 -- a brick that stops stays at its boot and its calls so far; one that starts again has none
 stopped_boot : (node : Node) → (stopped node).boot ≡ node.boot
@@ -205,25 +248,24 @@ unfolding restarted
 restarted_seq openings node = refl
 
 -- one operation changed, and some marks came
-pub tells_changed : (seqs : ℕ → ℕ) (old new : History) (w : World) (number : ℕ) (kept after : List OperationRecord) (change : OperationRecord → OperationRecord)
-    (next : Option Operation → Option Operation) → next None ≡ None → KeepsMarks next → TellsAt seqs old w → kept ≡ old.operations.items
-    → new.operations.items ≡ after
-    → ((known : OperationRecord) (o : Operation) → TellsOperation known o → (p : Operation) × (next (Some o) ≡ Some p) × TellsOperation (change known) p)
-    → ChangesAt kept after number change → length after ≡ length kept
+pub tells_changed : (seqs : ℕ → ℕ) (old new : History) (w : World) (number : ℕ) (change : OperationRecord → OperationRecord)
+    (next : Option Operation → Option Operation) → IsAlike change next → TellsAt seqs old w
+    → ChangesAt old.operations.items new.operations.items number change → vec_len new.operations ≡ vec_len old.operations
     → new ≡ record old { operations = new.operations; marks = new.marks }
     → (marks : List Mark) → new.marks.items ≡ marks
     → TellsAt seqs new (record w { marks = marks; operations = put w.operations number (next (w.operations number)) })
-tells_changed seqs old new w number kept after change next none keeps tells are become alike changed count rest marks marked =
+tells_changed seqs old new w number change next alike tells changed count rest marks marked =
     subst (λ (h : History). TellsAt seqs h (record w { marks = marks; operations = put w.operations number (next (w.operations number)) })) (sym rest) (record {
       packets = tells.packets;
       reached = tells.reached;
       marks = marked;
       reports = tells.reports;
-      begun = ap length become ∙ count ∙ ap length are ∙ tells.begun;
-      marked = record { count = tells.marked.count; each = λ mark. tells.marked.each mark ∙ sym (marked_changed w.operations number next keeps mark w.begun) };
-      operations = subst (λ (x : List OperationRecord). TellsOperations x (put w.operations number (next (w.operations number)))) (sym become)
-          (known_changed kept after w.operations number change next none alike changed
-          (subst (λ (x : List OperationRecord). TellsOperations x w.operations) (sym are) tells.operations));
+      begun = sym new.operations.ok.0 ∙ count ∙ old.operations.ok.0 ∙ tells.begun;
+      marked = record {
+        count = tells.marked.count;
+        each = λ mark. tells.marked.each mark ∙ sym (marked_changed w.operations number next alike.marks mark w.begun);
+      };
+      operations = known_changed old.operations.items new.operations.items w.operations number change next alike.none alike.some changed tells.operations;
       calls = tells.calls;
     })
 
@@ -286,54 +328,30 @@ number_old numbers i boot seq number k other =
     ∙ ap (λ (f : ℕ → ℕ). f k) (value_here (numbers i) boot boot (put (numbers i boot) seq number) refl)
     ∙ value_elsewhere (numbers i boot) seq k number other
 
--- what is kept of an operation that began at a position
-abbrev pub begun_kept : BrickId → ℕ → ℕ → ℕ → ℕ → Ask → OperationRecord
-begun_kept brick boot seq begin mark ask =
-    record {
-      brick = brick;
-      boot = boot;
-      seq = seq;
-      begin = begin;
-      group = ask.group;
-      stripe = ask.stripe;
-      version = None;
-      made = false;
-      base = None;
-      writes = writes ask.op;
-      answered = false;
-      mark = mark;
-    }
-
 -- an operation that began
-pub tells_began : (old new : History) (w : World) (brick : BrickId) (ask : Ask) (step : NodeStep) → Tells old w → w.up brick.0 ≡ true
-    → new.sent.packets.items ≡ old.sent.packets.items ++ step.packets → new.delivered ≡ old.delivered → new.reports.items ≡ old.reports.items
-    → new.marks.items ≡ old.marks.items ++ Begin (length old.marks.items) (length old.marked.items + 1) brick ask ∷ []
-    → new.operations.items
-    ≡ old.operations.items ++ begun_kept brick step.node.boot step.node.seq (length old.marks.items) (length old.marked.items + 1) ask ∷ []
-    → new.marked.items ≡ old.marked.items ++ (length old.operations.items + 1) ∷ []
-    → ((i : ℕ) → calls_in new.calls i
-    ≡ put (calls_in old.calls) brick.0 (calls_in old.calls brick.0 ++ (length old.operations.items + 1) ∷ []) i)
+pub tells_began : (old new : History) (w : World) (brick : BrickId) (boot : ℕ) (ask : Ask) (begun : Begun) (step : NodeStep) → Tells old w
+    → w.up brick.0 ≡ true → packets_from brick begun.messages.items ≡ step.packets → boot ≡ step.node.boot → begun.seq ≡ step.node.seq
     → step.node.boot ≡ (w.nodes brick.0).boot → step.node.seq ≡ (w.nodes brick.0).seq + 1
-    → Tells new (world_began w brick ask step)
-tells_began old new w brick ask step tells up sent delivered reports marks operations marked calls boot next = record {
-  packets = sent ∙ ap (λ xs. xs ++ step.packets) tells.packets;
-  reached = λ k. ap (λ (d : Deliveries). get_or d.reached.items k false) delivered ∙ tells.reached k;
-  marks = marks ∙ ap (λ (xs : List Mark). xs ++ Begin (length xs) (length old.marked.items + 1) brick ask ∷ []) tells.marks
+    → NotesBegin old new brick boot ask begun → Tells new (world_began w brick ask step)
+tells_began old new w brick opened ask begun step tells up packets_is boot_is seq_is boot next notes = record {
+  packets = notes.sent ∙ ap (λ xs. xs ++ packets_from brick begun.messages.items) tells.packets ∙ ap (λ xs. w.packets ++ xs) packets_is;
+  reached = λ k. ap (λ (h : History). get_or h.delivered.reached.items k false) notes.rest ∙ tells.reached k;
+  marks = notes.marks ∙ ap (λ (xs : List Mark). xs ++ Begin (length xs) (length old.marked.items + 1) brick ask ∷ []) tells.marks
       ∙ ap (λ n. w.marks ++ Begin (length w.marks) (n + 1) brick ask ∷ []) tells.marked.count;
-  reports = reports ∙ tells.reports;
-  begun = ap length operations ∙ length-append old.operations.items _ ∙ ap (λ n. n + 1) tells.begun;
+  reports = ap (λ (h : History). h.reports.items) notes.rest ∙ tells.reports;
+  begun = ap length notes.operations ∙ length-append old.operations.items _ ∙ ap (λ n. n + 1) tells.begun;
   marked = record {
-    count = ap length marked ∙ length-append old.marked.items _ ∙ ap (λ n. n + 1) tells.marked.count;
-    each = λ mark. ap (λ (l : List ℕ). number_at l mark) marked
+    count = ap length notes.marked ∙ length-append old.marked.items _ ∙ ap (λ n. n + 1) tells.marked.count;
+    each = λ mark. ap (λ (l : List ℕ). number_at l mark) notes.marked
         ∙ marked_next old.marked.items w.operations w.begun (length old.operations.items + 1) began (ap (λ n. n + 1) (sym tells.marked.count))
         (ap (λ n. n + 1) tells.begun) tells.marked.each mark;
   };
-  operations = subst (λ (kept : List OperationRecord). TellsOperations kept v.operations) (sym operations)
+  operations = subst (λ (kept : List OperationRecord). TellsOperations kept v.operations) (sym notes.operations)
       (known_begun old.operations.items w.operations w.begun _ began tells.begun
       (record {
         brick = refl;
-        boot = refl;
-        seq = refl;
+        boot = boot_is;
+        seq = seq_is;
         begin = ap length tells.marks;
         group = refl;
         stripe = refl;
@@ -347,7 +365,7 @@ tells_began old new w brick ask step tells up sent delivered reports marks opera
   calls = λ i.
       subst (λ (n : ℕ). AreCalls (v.up i) (calls_in new.calls i) (number_of v i) n) (sym (seq_of i))
       (subst (λ (l : List ℕ). AreCalls (v.up i) l (number_of v i) (put (seqs_of w) brick.0 ((w.nodes brick.0).seq + 1) i))
-      (sym (calls i ∙ ap (λ n. put (calls_in old.calls) brick.0 (calls_in old.calls brick.0 ++ (n + 1) ∷ []) i) tells.begun))
+      (sym (notes.calls i ∙ ap (λ n. calls_with old.calls brick.0 (n + 1) i) tells.begun))
       (calls_grow w v (seqs_of w) (calls_in old.calls) brick.0 (w.begun + 1) up refl others older last tells.calls i));
 }
   where
@@ -401,24 +419,20 @@ tells_began old new w brick ask step tells up sent delivered reports marks opera
 
 -- a read of a synchronisation that began
 pub tells_read : (setting : Setting) (nodes : ℕ → Node) (seqs : ℕ → ℕ) (old new : History) (w : World) (brick : BrickId) (call : Call) → TellsAt seqs old w → w.up brick.0 ≡ true
-    → new ≡ record old { operations = new.operations; calls = new.calls }
-    → new.operations.items ≡ old.operations.items
-    ++ begun_kept brick call.boot call.seq (length old.marks.items) 0 (record { group = call.group; stripe = call.stripe; op = ReadStripe }) ∷ []
-    → ((i : ℕ) → calls_in new.calls i ≡ put (calls_in old.calls) brick.0 (calls_in old.calls brick.0 ++ (length old.operations.items + 1) ∷ []) i)
-    → call.boot ≡ (w.nodes brick.0).boot → call.seq ≡ seqs brick.0 + 1
+    → call.boot ≡ (w.nodes brick.0).boot → call.seq ≡ seqs brick.0 + 1 → NotesRead old new brick call
     → TellsAt (put seqs brick.0 (seqs brick.0 + 1)) new (world_told setting nodes w brick (Began call))
-tells_read setting nodes seqs old new w brick call tells up rest operations calls boot next =
-    subst (λ (h : History). TellsAt (put seqs brick.0 (seqs brick.0 + 1)) h v) (sym rest) (record {
+tells_read setting nodes seqs old new w brick call tells up boot next notes =
+    subst (λ (h : History). TellsAt (put seqs brick.0 (seqs brick.0 + 1)) h v) (sym notes.rest) (record {
       packets = tells.packets;
       reached = tells.reached;
       marks = tells.marks;
       reports = tells.reports;
-      begun = ap length operations ∙ length-append old.operations.items _ ∙ ap (λ n. n + 1) tells.begun;
+      begun = ap length notes.operations ∙ length-append old.operations.items _ ∙ ap (λ n. n + 1) tells.begun;
       marked = record {
         count = tells.marked.count;
         each = λ mark. tells.marked.each mark ∙ sym (marked_unmarked w.operations w.begun (read_of_call nodes w brick call) refl mark);
       };
-      operations = subst (λ (kept : List OperationRecord). TellsOperations kept v.operations) (sym operations)
+      operations = subst (λ (kept : List OperationRecord). TellsOperations kept v.operations) (sym notes.operations)
           (known_begun old.operations.items w.operations w.begun _ (read_of_call nodes w brick call) tells.begun
           (record {
             brick = refl;
@@ -436,7 +450,7 @@ tells_read setting nodes seqs old new w brick call tells up rest operations call
           }) tells.operations);
       calls = λ i.
           subst (λ (l : List ℕ). AreCalls (v.up i) l (number_of v i) (put seqs brick.0 (seqs brick.0 + 1) i))
-          (sym (calls i ∙ ap (λ n. put (calls_in old.calls) brick.0 (calls_in old.calls brick.0 ++ (n + 1) ∷ []) i) tells.begun))
+          (sym (notes.calls i ∙ ap (λ n. calls_with old.calls brick.0 (n + 1) i) tells.begun))
           (calls_grow w v seqs (calls_in old.calls) brick.0 (w.begun + 1) up refl others older last tells.calls i);
     })
   where
@@ -493,30 +507,40 @@ changes_at kept number default change some within n =
     let other : n ≢ number - 1 = (λ e. apart (omega arith)) in
     set_elsewhere kept (number - 1) (change (get_or kept (number - 1) default)) n other)
 
--- the number of a call is that of its operation
-pub number_is : (seqs : ℕ → ℕ) (history : History) (w : World) (b seq number : ℕ) → TellsAt seqs history w → w.up b ≡ true → 1 ≤ seq → seq ≤ seqs b
-    → Some number ≡ call_at (calls_in history.calls b) seq → number ≡ number_of w b seq
-number_is seqs history w b zero number tells up low high is = absurd (omega arith)
-number_is seqs history w b (suc k) number tells up low high is =
+-- what is kept of the operation of a call that was found changed
+pub call_changes : (old : History) (b seq number : ℕ) (change : OperationRecord → OperationRecord) (kept after : List OperationRecord)
+    → Some number ≡ call_at (calls_in old.calls b) seq → kept ≡ old.operations.items → length after ≡ vec_len old.operations
+    → ChangesAt kept after number change → ChangesCall old (record old { operations = with_items old.operations after }) b seq change
+call_changes old b seq number change kept after here are count changed = record {
+  changed = subst (λ (l : List OperationRecord). ChangesAt old.operations.items l (number_in old b seq) change)
+      (sym (with_items_is old.operations after count))
+      (subst (λ n. ChangesAt old.operations.items after n change) (ap (λ (n : Option ℕ). unwrap_or n 0) here)
+      (subst (λ (l : List OperationRecord). ChangesAt l after number change) are changed));
+  count = refl;
+  room = refl;
+  rest = refl;
+}
+
+-- and nothing where there is none
+pub call_stays : (old : History) (b seq : ℕ) (change : OperationRecord → OperationRecord) → None ≡ call_at (calls_in old.calls b) seq
+    → ChangesCall old old b seq change
+call_stays old b seq change none = record {
+  changed = subst (λ n. ChangesAt old.operations.items old.operations.items n change) (ap (λ (n : Option ℕ). unwrap_or n 0) none)
+      (changes_none old.operations.items 0 change refl);
+  count = refl;
+  room = refl;
+  rest = refl;
+}
+
+-- each call so far is of an operation, or of none, and has the number of that
+pub has_number : (seqs : ℕ → ℕ) (history : History) (w : World) (b seq : ℕ) → TellsAt seqs history w → w.up b ≡ true → IsOfCall (seqs b) seq
+    → call_at (calls_in history.calls b) seq ≡ Some (number_of w b seq)
+has_number seqs history w b zero tells up of = absurd (let low = of.0 in omega (arith, low))
+has_number seqs history w b (suc k) tells up of =
     let are = subst (λ (x : Bool). AreCalls x (calls_in history.calls b) (number_of w b) (seqs b)) up (tells.calls b) in
-    same_Some number (number_of w b (suc k))
-    (is ∙ slice_get-get_or (calls_in history.calls b) k 0 (omega (arith, are.0, high))
-    ∙ ap (λ n. Some n) (are.1 k (omega (arith, high)) ∙ ap (number_of w b) (add-one k)))
-
--- and each call so far has one
-pub has_number : (seqs : ℕ → ℕ) (history : History) (w : World) (b seq : ℕ) → TellsAt seqs history w → w.up b ≡ true → 1 ≤ seq → seq ≤ seqs b
-    → None ≡ call_at (calls_in history.calls b) seq → ⊥
-has_number seqs history w b zero tells up low high none = omega arith
-has_number seqs history w b (suc k) tells up low high none =
-    let are = subst (λ (x : Bool). AreCalls x (calls_in history.calls b) (number_of w b) (seqs b)) up (tells.calls b) in
-    slice_get_not_none (calls_in history.calls b) k (omega (arith, are.0, high)) (sym none)
-
--- where only the operations changed, the marks stay
-with_marks : (old new : History) → new ≡ record old { operations = new.operations } → new ≡ record old { operations = new.operations; marks = new.marks }
-with_marks old new rest = rest ∙ ap (λ (h : History). record old { operations = new.operations; marks = h.marks }) (sym rest)
-
-marks_stay : (old new : History) → new ≡ record old { operations = new.operations } → new.marks.items ≡ old.marks.items
-marks_stay old new rest = ap (λ (h : History). h.marks.items) rest
+    let high = of.1 in
+    slice_get-get_or (calls_in history.calls b) k 0 (omega (arith, are.0, high))
+    ∙ ap (λ n. Some n) (are.1 k (omega (arith, high)) ∙ ap (number_of w b) (add-one k))
 
 -- the end of an operation leaves the number of its marks
 marks_changed : (kept after : List OperationRecord) (number : ℕ) (answered : Bool) → ChangesAt kept after number (ended_kept answered) → (n : ℕ)
@@ -529,60 +553,41 @@ marks_changed kept after number answered changed n =
     by_number true (Some known) = refl
     by_number false found = refl
 
--- an operation made a version
-pub tells_made : (seqs : ℕ → ℕ) (old new : History) (w : World) (b seq number : ℕ) (stamp : Stamp) (base : Option Stamp) (kept after : List OperationRecord)
-    → TellsAt seqs old w → number ≡ number_of w b seq → kept ≡ old.operations.items → new.operations.items ≡ after
-    → ChangesAt kept after number (made_kept stamp base) → length after ≡ length kept → new ≡ record old { operations = new.operations }
-    → TellsAt seqs new (record w { operations = put w.operations (number_of w b seq) (with_made stamp base (w.operations (number_of w b seq))) })
-tells_made seqs old new w b seq number stamp base kept after tells is are become changed count rest =
-    tells_changed seqs old new w (number_of w b seq) kept after (made_kept stamp base) (with_made stamp base) refl (made_marks stamp base) tells are become
-    (made_alike stamp base)
-    (subst (λ n. ChangesAt kept after n (made_kept stamp base)) is changed) count (with_marks old new rest) w.marks (marks_stay old new rest ∙ tells.marks)
-
--- an operation read a version at once
-pub tells_seen : (seqs : ℕ → ℕ) (old new : History) (w : World) (b seq number : ℕ) (stamp : Stamp) (kept after : List OperationRecord)
-    → TellsAt seqs old w → number ≡ number_of w b seq → kept ≡ old.operations.items → new.operations.items ≡ after
-    → ChangesAt kept after number (seen_kept stamp) → length after ≡ length kept → new ≡ record old { operations = new.operations }
-    → TellsAt seqs new (record w { operations = put w.operations (number_of w b seq) (with_seen stamp (w.operations (number_of w b seq))) })
-tells_seen seqs old new w b seq number stamp kept after tells is are become changed count rest =
-    tells_changed seqs old new w (number_of w b seq) kept after (seen_kept stamp) (with_seen stamp) refl (seen_marks stamp) tells are become (seen_alike stamp)
-    (subst (λ n. ChangesAt kept after n (seen_kept stamp)) is changed) count (with_marks old new rest) w.marks (marks_stay old new rest ∙ tells.marks)
-
--- one without marks ended
-pub tells_closed : (seqs : ℕ → ℕ) (old new : History) (w : World) (b seq number : ℕ) (cause : Option Cause) (answered : Bool) (kept after : List OperationRecord)
-    → TellsAt seqs old w → number ≡ number_of w b seq → kept ≡ old.operations.items → new.operations.items ≡ after → answered ≡ not (is_some cause)
-    → ChangesAt kept after number (ended_kept answered) → length after ≡ length kept → new ≡ record old { operations = new.operations }
-    → TellsAt seqs new (record w { operations = put w.operations (number_of w b seq) (with_closed cause (w.operations (number_of w b seq))) })
-tells_closed seqs old new w b seq number cause answered kept after tells is are become right changed count rest =
-    tells_changed seqs old new w (number_of w b seq) kept after (ended_kept (not (is_some cause))) (with_closed cause) refl (closed_marks cause) tells are become
-    (closed_alike cause)
-    (subst (λ (x : Bool). ChangesAt kept after (number_of w b seq) (ended_kept x)) right (subst (λ n. ChangesAt kept after n (ended_kept answered)) is changed))
-    count (with_marks old new rest) w.marks (marks_stay old new rest ∙ tells.marks)
+-- what is kept of the operation of a call changed
+pub tells_call : (seqs : ℕ → ℕ) (old new : History) (w : World) (b seq : ℕ) (change : OperationRecord → OperationRecord)
+    (next : Option Operation → Option Operation) → IsAlike change next → TellsAt seqs old w → w.up b ≡ true → IsOfCall (seqs b) seq
+    → ChangesCall old new b seq change
+    → TellsAt seqs new (record w { operations = put w.operations (number_of w b seq) (next (w.operations (number_of w b seq))) })
+tells_call seqs old new w b seq change next alike tells up of changes =
+    let number : number_in old b seq ≡ number_of w b seq = ap (λ (n : Option ℕ). unwrap_or n 0) (has_number seqs old w b seq tells up of) in
+    tells_changed seqs old new w (number_of w b seq) change next alike tells
+    (subst (λ n. ChangesAt old.operations.items new.operations.items n change) number changes.changed) changes.count
+    (changes.rest ∙ ap (λ (h : History). record old { operations = new.operations; marks = h.marks }) (sym changes.rest)) w.marks
+    (ap (λ (h : History). h.marks.items) changes.rest ∙ tells.marks)
 
 -- an operation ended
-pub tells_ended : (seqs : ℕ → ℕ) (old new : History) (w : World) (brick : BrickId) (seq number mark : ℕ) (answer : Answer) (answered : Bool)
-    (kept after : List OperationRecord)
-    → TellsAt seqs old w → number ≡ number_of w brick.0 seq → kept ≡ old.operations.items → new.operations.items ≡ after → answered ≡ is_answer answer
-    → mark ≡ mark_kept after number → new.marks.items ≡ old.marks.items ++ End (length old.marks.items) mark answer ∷ []
-    → ChangesAt kept after number (ended_kept answered) → length after ≡ length kept → new ≡ record old { operations = new.operations; marks = new.marks }
-    → TellsAt seqs new (world_answered w brick (record { seq = seq; answer = answer }))
-tells_ended seqs old new w brick seq number mark answer answered kept after tells is are become right mark_is marks changed count rest =
-    let at : ChangesAt kept after (number_of w brick.0 seq) (ended_kept answered) =
-    subst (λ n. ChangesAt kept after n (ended_kept answered)) is changed in
-    let own : mark ≡ mark_of w (number_of w brick.0 seq) =
-    mark_is ∙ marks_changed kept after number answered changed number ∙ ap (λ (l : List OperationRecord). mark_kept l number) are
-    ∙ mark_told old.operations.items w.operations number tells.operations ∙ ap (λ n. mark_of w n) is in
-    tells_changed seqs old new w (number_of w brick.0 seq) kept after (ended_kept (is_answer answer)) (with_answer answer) refl (answer_marks answer) tells are become
-    (ended_alike answer)
-    (subst (λ (x : Bool). ChangesAt kept after (number_of w brick.0 seq) (ended_kept x)) right at) count rest _
-    (marks ∙ ap (λ n. old.marks.items ++ End (length old.marks.items) n answer ∷ []) own
-    ∙ ap (λ (xs : List Mark). xs ++ End (length xs) (mark_of w (number_of w brick.0 seq)) answer ∷ []) tells.marks)
+pub tells_ended : (seqs : ℕ → ℕ) (old new : History) (w : World) (brick : BrickId) (one : Answered) → TellsAt seqs old w → w.up brick.0 ≡ true
+    → IsOfCall (seqs brick.0) one.seq → NotesEnd old new brick.0 one → TellsAt seqs new (world_answered w brick one)
+tells_ended seqs old new w brick one tells up of notes =
+    let n : ℕ = number_of w brick.0 one.seq in
+    let here = has_number seqs old w brick.0 one.seq tells up of in
+    let changed : ChangesAt old.operations.items new.operations.items n (ended_kept (is_answer one.answer)) =
+    subst (λ k. ChangesAt old.operations.items new.operations.items k (ended_kept (is_answer one.answer)))
+    (ap (λ (found : Option ℕ). unwrap_or found 0) here) notes.changed in
+    let mark : mark_kept new.operations.items n ≡ mark_of w n =
+    marks_changed old.operations.items new.operations.items n (is_answer one.answer) changed n
+    ∙ mark_told old.operations.items w.operations n tells.operations in
+    tells_changed seqs old new w n (ended_kept (is_answer one.answer)) (with_answer one.answer) (ended_alike one.answer) tells changed notes.count notes.rest _
+    (notes.marks n here ∙ ap (λ k. old.marks.items ++ End (length old.marks.items) k one.answer ∷ []) mark
+    ∙ ap (λ (xs : List Mark). xs ++ End (length xs) (mark_of w n) one.answer ∷ []) tells.marks)
 
--- so the one answer of a step is told
-pub tells_one : (seqs : ℕ → ℕ) (new : History) (w : World) (brick : BrickId) (answer : Option Answered) (one : Answered) → answer ≡ Some one
-    → TellsAt seqs new (world_answered w brick one) → TellsAt seqs new (world_answers w brick (option_to_list answer))
-tells_one seqs new w brick answer one is tells =
-    subst (λ (a : Option Answered). TellsAt seqs new (world_answers w brick (option_to_list a))) (sym is) tells
+-- so did all that a step answers
+pub tells_ends : (seqs : ℕ → ℕ) (brick : BrickId) (answers : List Answered) (old new : History) (w : World) → TellsAt seqs old w → w.up brick.0 ≡ true
+    → AreAnswered (seqs brick.0) answers → NotesEnds brick answers old new → TellsAt seqs new (world_answers w brick answers)
+tells_ends seqs brick [] old new w tells up are notes = subst (λ (h : History). TellsAt seqs h w) (sym notes) tells
+tells_ends seqs brick (one ∷ more) old new w tells up are notes =
+    let (mid, ended, rest) = notes in
+    tells_ends seqs brick more mid new (world_answered w brick one) (tells_ended seqs old mid w brick one tells up are.0 ended) up are.1 rest
 
 -- What is told and answered changes operations, contents and marks alone.
 pub record KeepsRest (w v : World) : Type 0 where
@@ -674,13 +679,13 @@ aside_is setting w brick step told answers =
     ∙ ap (λ (l : List Answered). world_stepped setting w brick (record step { told = []; answers = l })) answers
 
 -- the calls of each brick, where one used up a call of no operation, or none
-calls_besides : (w : World) (calls : ℕ → List ℕ) (b : ℕ) (node : Node) (report : Option Report) → w.up b ≡ true → node.boot ≡ (w.nodes b).boot
-    → node.seq ≡ (w.nodes b).seq + calls_used (option_to_list report) → number_of w b ((w.nodes b).seq + 1) ≡ 0
-    → ((i : ℕ) → AreCalls (w.up i) (calls i) (number_of w i) (w.nodes i).seq)
-    → (i : ℕ) → AreCalls (w.up i) (calls_aside calls b report i) (w.numbers i (put w.nodes b node i).boot) (put w.nodes b node i).seq
-calls_besides w calls b node None up boot next none are i =
-    subst (λ (n : ℕ). AreCalls (w.up i) (put calls b (calls b ++ 0 ∷ []) i) (w.numbers i (put w.nodes b node i).boot) n) (seq_of (nat_eq i b))
-    (calls_grow w (record w { nodes = put w.nodes b node }) (seqs_of w) calls b 0 up refl
+calls_besides : (w : World) (calls : CallNumbers) (b : ℕ) (node : Node) (reports : List Report) → w.up b ≡ true → node.boot ≡ (w.nodes b).boot
+    → node.seq ≡ (w.nodes b).seq + calls_used reports → number_of w b ((w.nodes b).seq + 1) ≡ 0
+    → ((i : ℕ) → AreCalls (w.up i) (calls_in calls i) (number_of w i) (w.nodes i).seq)
+    → (i : ℕ) → AreCalls (w.up i) (calls_aside calls b reports i) (w.numbers i (put w.nodes b node i).boot) (put w.nodes b node i).seq
+calls_besides w calls b node [] up boot next none are i =
+    subst (λ (n : ℕ). AreCalls (w.up i) (calls_with calls b 0 i) (w.numbers i (put w.nodes b node i).boot) n) (seq_of (nat_eq i b))
+    (calls_grow w (record w { nodes = put w.nodes b node }) (seqs_of w) (calls_in calls) b 0 up refl
     (λ j other k. ap (λ (n : Node). w.numbers j n.boot k) (value_elsewhere w.nodes b j node other))
     (λ k less. at_brick (k + 1)) (at_brick ((w.nodes b).seq + 1) ∙ none) are i)
   where
@@ -690,52 +695,49 @@ calls_besides w calls b node None up boot next none are i =
     seq_of : (x : Bool) → cond x ((w.nodes b).seq + 1) (w.nodes i).seq ≡ (cond x node (w.nodes i)).seq
     seq_of true = sym next
     seq_of false = refl
-calls_besides w calls b node (Some report) up boot next none are i =
-    each_value (λ j x. AreCalls (w.up j) (calls j) (w.numbers j x.boot) x.seq) w.nodes b node
-    (subst (λ (k : ℕ). AreCalls (w.up b) (calls b) (w.numbers b node.boot) k) (let e : (w.nodes b).seq ≡ node.seq = omega (arith, next) in e)
-    (subst (λ (k : ℕ). AreCalls (w.up b) (calls b) (w.numbers b k) (w.nodes b).seq) (sym boot) (are b)))
+calls_besides w calls b node (report ∷ reports) up boot next none are i =
+    each_value (λ j x. AreCalls (w.up j) (calls_in calls j) (w.numbers j x.boot) x.seq) w.nodes b node
+    (subst (λ (k : ℕ). AreCalls (w.up b) (calls_in calls b) (w.numbers b node.boot) k) (let e : (w.nodes b).seq ≡ node.seq = omega (arith, next) in e)
+    (subst (λ (k : ℕ). AreCalls (w.up b) (calls_in calls b) (w.numbers b k) (w.nodes b).seq) (sym boot) (are b)))
     (λ j other. are j) i
 
 -- a brick was asked to propose
-pub tells_proposed : (setting : Setting) (old new : History) (w : World) (brick : BrickId) (step : NodeStep) (packets : List Packet) (report : Option Report)
-    → Tells old w → w.up brick.0 ≡ true → OpensAside w brick step → packets ≡ step.packets → option_to_list report ≡ step.reports
-    → new.sent.packets.items ≡ old.sent.packets.items ++ packets → new.delivered ≡ old.delivered → new.marks.items ≡ old.marks.items
-    → new.reports.items ≡ old.reports.items ++ reports_of brick (option_to_list report) → new.operations.items ≡ old.operations.items
-    → new.marked.items ≡ old.marked.items → ((i : ℕ) → calls_in new.calls i ≡ calls_aside (calls_in old.calls) brick.0 report i) → Tells new (world_stepped setting w brick step)
-tells_proposed setting old new w brick step packets report tells up opens sent_is report_is sent delivered marks reports operations marked calls =
+pub tells_proposed : (setting : Setting) (old new : History) (w : World) (brick : BrickId) (outs : Outcome) (step : NodeStep) → Tells old w
+    → w.up brick.0 ≡ true → OpensAside w brick step → packets_from brick outs.messages ≡ step.packets → outs.reports ≡ step.reports
+    → NotesProposal old new brick outs → Tells new (world_stepped setting w brick step)
+tells_proposed setting old new w brick outs step tells up opens packets_is reports_is notes =
     subst (Tells new) (sym (aside_is setting w brick step opens.told opens.answers)) (record {
-      packets = sent ∙ ap (λ (xs : List Packet). xs ++ packets) tells.packets ∙ ap (λ (xs : List Packet). w.packets ++ xs) sent_is;
-      reached = λ k. ap (λ (d : Deliveries). get_or d.reached.items k false) delivered ∙ tells.reached k;
-      marks = marks ∙ tells.marks;
-      reports =
-          reports ∙ ap (λ (xs : List (BrickId × Report)). xs ++ reports_of brick (option_to_list report)) tells.reports
-          ∙ ap (λ (xs : List Report). w.choices.reports ++ reports_of brick xs) report_is;
-      begun = ap length operations ∙ tells.begun;
-      marked = subst (λ (l : List ℕ). AreMarked l (world_stepped setting w brick (record step { told = []; answers = [] }))) (sym marked)
+      packets = notes.sent ∙ ap (λ (xs : List Packet). xs ++ packets_from brick outs.messages) tells.packets
+          ∙ ap (λ (xs : List Packet). w.packets ++ xs) packets_is;
+      reached = λ k. ap (λ (h : History). get_or h.delivered.reached.items k false) notes.rest ∙ tells.reached k;
+      marks = ap (λ (h : History). h.marks.items) notes.rest ∙ tells.marks;
+      reports = notes.reports ∙ ap (λ (xs : List (BrickId × Report)). xs ++ reports_of brick outs.reports) tells.reports
+          ∙ ap (λ (xs : List Report). w.choices.reports ++ reports_of brick xs) reports_is;
+      begun = ap (λ (h : History). length h.operations.items) notes.rest ∙ tells.begun;
+      marked = subst (λ (h : History). AreMarked h.marked.items (world_stepped setting w brick (record step { told = []; answers = [] }))) (sym notes.rest)
           (record { count = tells.marked.count; each = tells.marked.each });
-      operations = subst (λ (kept : List OperationRecord). TellsOperations kept w.operations) (sym operations) tells.operations;
+      operations = subst (λ (h : History). TellsOperations h.operations.items w.operations) (sym notes.rest) tells.operations;
       calls = λ i.
-          subst (λ (l : List ℕ). AreCalls (w.up i) l (w.numbers i (put w.nodes brick.0 step.node i).boot) (put w.nodes brick.0 step.node i).seq) (sym (calls i))
-          (calls_besides w (calls_in old.calls) brick.0 step.node report up opens.boot
-          (opens.seq ∙ ap (λ (xs : List Report). (w.nodes brick.0).seq + calls_used xs) (sym report_is)) opens.unnumbered tells.calls i);
+          subst (λ (l : List ℕ). AreCalls (w.up i) l (w.numbers i (put w.nodes brick.0 step.node i).boot) (put w.nodes brick.0 step.node i).seq)
+          (sym (notes.calls i))
+          (calls_besides w old.calls brick.0 step.node outs.reports up opens.boot
+          (opens.seq ∙ ap (λ (xs : List Report). (w.nodes brick.0).seq + calls_used xs) (sym reports_is)) opens.unnumbered tells.calls i);
     })
 
 -- a brick stopped, which has made no call then
-pub tells_crashed : (setting : Setting) (old new : History) (w : World) (brick : BrickId) → Tells old w
-    → new ≡ record old { marks = new.marks; calls = new.calls }
-    → new.marks.items ≡ old.marks.items ++ Crash (length old.marks.items) brick ∷ []
-    → ((i : ℕ) → calls_in new.calls i ≡ put (calls_in old.calls) brick.0 [] i) → Tells new (world_stopped setting w brick None)
-tells_crashed setting old new w brick tells rest marks calls =
-    subst (λ (h : History). Tells h (world_stopped setting w brick None)) (sym rest) (record {
+pub tells_crashed : (setting : Setting) (old new : History) (w : World) (brick : BrickId) → Tells old w → NotesCrash old new brick
+    → Tells new (world_stopped setting w brick None)
+tells_crashed setting old new w brick tells notes =
+    subst (λ (h : History). Tells h (world_stopped setting w brick None)) (sym notes.rest) (record {
       packets = tells.packets;
       reached = tells.reached;
-      marks = marks ∙ ap (λ (xs : List Mark). xs ++ Crash (length xs) brick ∷ []) tells.marks;
+      marks = notes.marks ∙ ap (λ (xs : List Mark). xs ++ Crash (length xs) brick ∷ []) tells.marks;
       reports = tells.reports;
       begun = tells.begun;
       marked = record { count = tells.marked.count; each = tells.marked.each };
       operations = tells.operations;
       calls = λ i.
-          subst (λ (l : List ℕ). AreCalls (v.up i) l (number_of v i) (v.nodes i).seq) (sym (calls i)) (by_brick i (nat_eq i brick.0));
+          subst (λ (l : List ℕ). AreCalls (v.up i) l (number_of v i) (v.nodes i).seq) (sym (notes.calls i)) (by_brick i (nat_eq i brick.0));
     })
   where
     v : World

@@ -1,30 +1,32 @@
 -- What the bricks show after one of them was to start.
-use Rattle.std.proofs.Common.{◌≡◌, ◌≢◌, inl, inr, ⊎_elim, ℕ, suc, ◌+◌, ◌<◌, ◌≤◌, ◌&&◌, Bool, true, false, not, cond, List, [], ◌∷◌, length, set, get_or, Option, Some, None, Result, Ok, Err, refl, sym, ap, ◌∙◌, subst, arith}
-use Rattle.std.specs.Prelude.{slice_get, IfOk, OnErr}
+use Rattle.std.proofs.Common.{◌≡◌, ◌≢◌, inl, inr, ⊎_elim, ℕ, suc, ◌+◌, ◌<◌, ◌≤◌, ◌&&◌, Bool, true, false, not, cond, List, [], ◌∷◌, length, set, get_or, map, Option, Some, None, Result, Ok, Err, refl, sym, ap, ◌∙◌, subst, arith}
 use Rattle.std.proofs.lemmas.Bool.Decides.{nat_tests}
+use Rattle.std.proofs.lemmas.Option.{slice_get_read, slice_get_within}
 use Rattle.fab_base.specs.declared.faults.NoMem.{NoMem}
 use Rattle.fab_base.specs.declared.identities.BrickId.{BrickId}
 use Rattle.fab_base.specs.Layouts.{Layout}
+use Rattle.fab_disk.specs.MemDisk.{content_of}
 use Rattle.fab_disk.specs.declared.mem_disk.MemDisk.{MemDisk}
 use Rattle.lines.specs.declared.forms.Fault.{Fault}
-use Rattle.node.specs.Running.{Running}
 use Rattle.stripe_code.specs.Codes.{coding}
 use Rattle.protocol.specs.Nodes as machine
 use Rattle.protocol.specs.Worlds.{World, Event, Starts, Stops, Found, Before, After, is_brick, is_up, may_start, world_found, world_started, happens}
 use Rattle.world.specs.EventCalls.{is_down}
 use Rattle.world.specs.Faults.{IsLeftOpening, StartsDown, Finds, found_of}
-use Rattle.world.specs.Disks.{KeepsOthers, IsUnwritten, ListsOpening, OfDisk}
-use Rattle.world.specs.Shown.{Rests, ShowsPower, ShowsBricks, StartsAs, TurnsOn, WasStarted, IsWorn, WasCutShort, Tells, disk_in, disks_of}
+use Rattle.world.specs.Disks.{KeepsOthers, ListsOpening}
+use Rattle.world.specs.BrickSteps.{ChangesBrick, DoesStart, StartsFrom}
+use Rattle.world.specs.Shown.{AreNodesOf, IsNodeOf, ShowsPower, ShowsBricks, StartsAs, TurnsOn, WasStarted, IsWorn, WasCutShort, Tells, disk_in, disks_of}
 use Rattle.world.specs.Texts.{marks_if}
 use Rattle.world.specs.declared.bricks.Brick.{Brick}
 use Rattle.world.specs.declared.bricks.Power.{Power}
 use Rattle.world.specs.declared.bricks.Power.TheVariants.{Up, Down}
 use Rattle.world.specs.declared.histories.History.{History}
 use Rattle.world.proofs.Places.{value_here, value_elsewhere}
-use Rattle.world.proofs.DiskLemmas.{disk_at, disk_set, disks_same, others_kept, unwritten_but, one_kept, same_kept}
+use Rattle.world.proofs.BrickLemmas.{up_power}
+use Rattle.world.proofs.DiskLemmas.{contents_changed, disk_was, disks_kept, of_disk, of_now, one_kept, others_changed, same_kept, unwritten_changed}
 use Rattle.world.proofs.HistoryLemmas.{tells_found_started}
 use Rattle.world.proofs.MachineBegins.{happens_started, happens_unstarted, happens_unstopped}
-use Rattle.world.proofs.BrickListLemmas.{shows_after, brick_at, runs_at, rests_at, with_power, shows_kept}
+use Rattle.world.proofs.BrickListLemmas.{shown_there, shows_kept, shows_now, with_power}
 
 -- an event that changes nothing
 unchanged_tells : (history : History) (w v : World) → v ≡ w → Tells history w → Tells history v
@@ -104,108 +106,73 @@ never_none true calls is none = absurd cc
 never_none false calls is none = absurd cc
 
 -- A brick that is down was to start.
-module _ (layout : Layout) (bricks : List Brick) (number : BrickId) (old : Brick) (disk : MemDisk) (power : Power) (fault : Option Fault) (w : World)
-    (within : number.0 < length bricks) (is : old ≡ get_or bricks number.0 old) (off : old.power ≡ Down disk)
-    (shows : ShowsBricks layout bricks w.nodes w.after w.up w.clocks) where
-  down_here : w.up number.0 ≡ false
-  down_here = (rests_at layout bricks w number.0 old disk within is off shows).0
-
-  abbrev new_bricks : List Brick
-  new_bricks = set bricks number.0 (with_power old power)
+module _ {layout : Layout} {old new : List Brick} {number : BrickId} {Holds : Brick → Power → Type 0} (fault : Option Fault) (w : World)
+    (shows : ShowsBricks layout old w.nodes w.after w.up w.clocks) (changes : ChangesBrick old new number Holds)
+    (down_here : w.up number.0 ≡ false) where
+  abbrev disk_here : MemDisk
+  disk_here = disk_in changes.brick.power
 
   is_down_here : is_down layout w number ≡ true
-  is_down_here = down_both (is_brick layout number) (w.up number.0) (is_there layout bricks number within shows.count) down_here
+  is_down_here =
+      down_both (is_brick layout number) (w.up number.0)
+      (is_there layout old number (slice_get_within old number.0 changes.brick changes.at) shows.count) down_here
 
-  others_here : KeepsOthers (cond (is_down layout w number) (Some number) None) (disks_of bricks) (disks_of new_bricks)
+  others_here : KeepsOthers (cond (is_down layout w number) (Some number) None) (disks_of old) (disks_of new)
   others_here =
-      subst (λ (down : Bool). KeepsOthers (cond down (Some number) None) (disks_of bricks) (disks_of new_bricks)) (sym is_down_here)
-      (others_kept bricks number (with_power old power))
+      subst (λ (down : Bool). KeepsOthers (cond down (Some number) None) (disks_of old) (disks_of new)) (sym is_down_here) (others_changed changes)
 
-  abbrev start_here : (finds : Finds layout number (w.nodes number.0) (w.after number.0) disk) → StartsDown layout w (disks_of bricks) number
-  start_here finds = record {
-    down = is_down_here;
-    disk = disk;
-    disk_is = disk_at bricks number.0 old within is ∙ ap (λ (p : Power). Some (disk_in p)) off;
-    finds = finds;
-  }
+  abbrev start_here : (finds : Finds layout number (w.nodes number.0) (w.after number.0) disk_here) → StartsDown layout w (disks_of old) number
+  start_here finds = record { down = is_down_here; disk = disk_here; disk_is = disk_was changes; finds = finds }
 
-  left_here : (finds : Finds layout number (w.nodes number.0) (w.after number.0) disk) (calls : ℕ)
-      → IsLeftOpening layout number (w.nodes number.0) (w.after number.0) disk finds calls fault (disk_in power) → (one : MemDisk)
-      → slice_get (disks_of new_bricks) number.0 ≡ Some one
-      → IsLeftOpening layout number (w.nodes number.0) (w.after number.0) disk finds calls fault one
-  left_here finds calls left one one_is =
-      let same : disk_in power ≡ one =
-      (let e : Some (disk_in power) ≡ Some one = sym (disk_set bricks number.0 (with_power old power) within) ∙ one_is in cc)
-      in
-      subst (λ (d : MemDisk). IsLeftOpening layout number (w.nodes number.0) (w.after number.0) disk finds calls fault d) same left
-
-  kept_here : ShowsPower layout number (w.nodes number.0) (w.after number.0) false power → ShowsBricks layout new_bricks w.nodes w.after w.up w.clocks
+  kept_here : ShowsPower layout number (w.nodes number.0) (w.after number.0) false changes.power → ShowsBricks layout new w.nodes w.after w.up w.clocks
   kept_here shown =
-      shows_kept layout bricks number.0 old power w within is
-      (subst (λ (up : Bool). ShowsPower layout number (w.nodes number.0) (w.after number.0) up power) (sym down_here) shown) shows
+      shows_kept w shows changes
+      (subst (λ (up : Bool). ShowsPower layout number (w.nodes number.0) (w.after number.0) up changes.power) (sym down_here) shown)
 
-  -- how long the list of its disk is then
-  lists_here : (was : WasStarted layout number (w.nodes number.0) (w.after number.0) disk fault power)
-      → OfDisk number (ListsOpening layout number (found_of (w.nodes number.0) (w.after number.0) was.finds.found)) (disks_of bricks) (disks_of new_bricks)
-  lists_here was before one before_is one_is =
-      let node : machine.Node = found_of (w.nodes number.0) (w.after number.0) was.finds.found in
-      let same : disk ≡ before =
-      (let e : Some disk ≡ Some before =
-      sym (disk_at bricks number.0 old within is ∙ ap (λ (p : Power). Some (disk_in p)) off) ∙ before_is in cc)
-      in
-      let now : disk_in power ≡ one =
-      (let e : Some (disk_in power) ≡ Some one = sym (disk_set bricks number.0 (with_power old power) within) ∙ one_is in cc)
-      in
-      subst (λ (d : MemDisk). ListsOpening layout number node d one) same
-      (subst (λ (d : MemDisk). ListsOpening layout number node disk d) now was.lists)
-
-  comes_started : WasStarted layout number (w.nodes number.0) (w.after number.0) disk fault power
-      → (events : List Event) × StartsAs layout w number fault bricks new_bricks true events
+  comes_started : WasStarted layout number (w.nodes number.0) (w.after number.0) disk_here fault changes.power
+      → (events : List Event) × StartsAs layout w number fault old new true events
   comes_started was =
       let openings : ℕ = was.finds.openings + 1 in
       let event : Event = Starts number openings was.finds.found in
       let v : World = world_started (world_found w number was.finds.found) number openings in
       let may : may_start layout w number openings ≡ true =
-      both_are (is_brick layout number) (w.up number.0) (machine.may_open openings (w.nodes number.0)) (is_there layout bricks number within shows.count) down_here was.may
+      both_are (is_brick layout number) (w.up number.0) (machine.may_open openings (w.nodes number.0)) (is_there layout old number (slice_get_within old number.0 changes.brick changes.at) shows.count) down_here was.may
       in
       let happened : happens (coding layout) w event ≡ v = happens_started (coding layout) w number openings was.finds.found may in
-      let shown : ShowsBricks layout new_bricks v.nodes v.after v.up v.clocks =
-      shows_after layout bricks number.0 (with_power old power) w v
-      (record {
-        power = subst (λ (state : machine.Node). ShowsPower layout number state (v.after number.0) (v.up number.0) power)
-            (sym (started_here w number openings was.finds.found))
-            (subst (λ (up : Bool). ShowsPower layout number (machine.restarted openings (found_of (w.nodes number.0) (w.after number.0) was.finds.found))
-            (v.after number.0) up power)
-            (sym (ap (λ (f : ℕ → Bool). f number.0) (started_up w number openings was.finds.found) ∙ value_here w.up number.0 number.0 true refl))
-            (was.on (v.after number.0)));
-        clock = (brick_at layout bricks w number.0 old within is shows).clock
-            ∙ sym (ap (λ (f : ℕ → ℕ). f number.0) (started_clocks w number openings was.finds.found));
-      })
+      let shown : ShowsBricks layout new v.nodes v.after v.up v.clocks =
+      shows_now w shows changes v
+      (subst (λ (state : machine.Node). ShowsPower layout number state (v.after number.0) (v.up number.0) changes.power)
+      (sym (started_here w number openings was.finds.found))
+      (subst (λ (up : Bool). ShowsPower layout number (machine.restarted openings (found_of (w.nodes number.0) (w.after number.0) was.finds.found))
+      (v.after number.0) up changes.power)
+      (sym (ap (λ (f : ℕ → Bool). f number.0) (started_up w number openings was.finds.found) ∙ value_here w.up number.0 number.0 true refl))
+      (up_power layout number (machine.restarted openings (found_of (w.nodes number.0) (w.after number.0) was.finds.found)) (v.after number.0) changes.power
+      was.on)))
+      (sym (ap (λ (f : ℕ → ℕ). f number.0) (started_clocks w number openings was.finds.found)))
       (λ i other. (
         started_elsewhere w number openings was.finds.found i other,
         ap (λ (f : ℕ → machine.Node). f i) (started_after w number openings was.finds.found),
         ap (λ (f : ℕ → Bool). f i) (started_up w number openings was.finds.found) ∙ value_elsewhere w.up number.0 i true other,
         ap (λ (f : ℕ → ℕ). f i) (started_clocks w number openings was.finds.found),
       ))
-      shows
       in (
         event ∷ [],
         record {
           are = inr (inl (record { start = start_here was.finds; spared = inl was.spared; events_are = refl }));
-          bricks = subst (λ (x : World). ShowsBricks layout new_bricks x.nodes x.after x.up x.clocks) (sym happened) shown;
+          bricks = subst (λ (x : World). ShowsBricks layout new x.nodes x.after x.up x.clocks) (sym happened) shown;
           comes = sym (ap marks_if may);
           tells = λ history tells. subst (λ (x : World). Tells history x) (sym happened) (tells_found_started w number openings down_here history was.finds.found tells);
-          kept = one_kept (coding layout) w event (disks_of bricks) (disks_of new_bricks)
+          kept = one_kept (coding layout) w event (disks_of old) (disks_of new)
               (record {
                 others = others_here;
                 still = λ none. absurd (never_none (may_start layout w number openings) 4 may (none 0 true));
-                lists = λ yes was_disk one was_is one_is. lists_here was was_disk one was_is one_is;
+                lists = λ yes. of_disk changes (ListsOpening layout number (found_of (w.nodes number.0) (w.after number.0) was.finds.found)) was.lists;
               });
         },
       )
 
-  comes_worn : IsWorn layout number (w.nodes number.0) (w.after number.0) disk power
-      → (events : List Event) × StartsAs layout w number fault bricks new_bricks false events
+  comes_worn : IsWorn layout number (w.nodes number.0) (w.after number.0) disk_here changes.power
+      → (events : List Event) × StartsAs layout w number fault old new false events
   comes_worn was =
       let openings : ℕ = was.finds.openings + 1 in
       let event : Event = Starts number openings was.finds.found in
@@ -216,33 +183,31 @@ module _ (layout : Layout) (bricks : List Brick) (number : BrickId) (old : Brick
         event ∷ [],
         record {
           are = inr (inl (record { start = start_here was.finds; spared = inr was.may; events_are = refl }));
-          bricks = unchanged_bricks layout new_bricks w (happens (coding layout) w event) happened (kept_here was.off);
+          bricks = unchanged_bricks layout new w (happens (coding layout) w event) happened (kept_here was.off);
           comes = sym (ap marks_if may);
           tells = λ history tells. unchanged_tells history w (happens (coding layout) w event) happened tells;
-          kept = one_kept (coding layout) w event (disks_of bricks) (disks_of new_bricks)
+          kept = one_kept (coding layout) w event (disks_of old) (disks_of new)
               (record {
                 others = others_here;
-                still = λ none.
-                    unwritten_but bricks number old (with_power old power) within is
-                    (subst (λ (p : Power). IsUnwritten (disk_in p) (disk_in power)) (sym off) was.still);
+                still = λ none. unwritten_changed changes was.still;
                 lists = λ yes. let never : true ≡ false = sym yes ∙ may in absurd cc;
               });
         },
       )
 
-  comes_cut : WasCutShort layout number (w.nodes number.0) (w.after number.0) disk fault power
-      → (events : List Event) × StartsAs layout w number fault bricks new_bricks false events
+  comes_cut : WasCutShort layout number (w.nodes number.0) (w.after number.0) disk_here fault changes.power
+      → (events : List Event) × StartsAs layout w number fault old new false events
   comes_cut was =
       let event : Event = Stops number None in
       let down : is_up layout w number ≡ false = down_never (is_brick layout number) (w.up number.0) down_here in
       let happened : happens (coding layout) w event ≡ w = happens_unstopped (coding layout) w number down in (
         event ∷ [],
         record {
-          are = inl (record { start = start_here was.finds; may = was.may; reached = was.reached; events_are = refl; left = left_here was.finds _ was.left });
-          bricks = unchanged_bricks layout new_bricks w (happens (coding layout) w event) happened (kept_here was.off);
+          are = inl (record { start = start_here was.finds; may = was.may; reached = was.reached; events_are = refl; left = of_now changes (IsLeftOpening layout number (w.nodes number.0) (w.after number.0) disk_here was.finds _ fault) was.left });
+          bricks = unchanged_bricks layout new w (happens (coding layout) w event) happened (kept_here was.off);
           comes = sym (ap marks_if down);
           tells = λ history tells. unchanged_tells history w (happens (coding layout) w event) happened tells;
-          kept = one_kept (coding layout) w event (disks_of bricks) (disks_of new_bricks)
+          kept = one_kept (coding layout) w event (disks_of old) (disks_of new)
               (record {
                 others = others_here;
                 still = λ none. absurd (never_none (is_down layout w number) 4 is_down_here (none 0 true));
@@ -251,28 +216,12 @@ module _ (layout : Layout) (bricks : List Brick) (number : BrickId) (old : Brick
         },
       )
 
-  turned_as : (started : Bool) → TurnsOn layout number (w.nodes number.0) (w.after number.0) disk fault power (Ok started)
-      → (events : List Event) × StartsAs layout w number fault bricks new_bricks started events
-  turned_as true was = comes_started was
-  turned_as false was = ⊎_elim
-      (λ (worn : IsWorn layout number (w.nodes number.0) (w.after number.0) disk power). comes_worn worn)
-      (λ (cut : WasCutShort layout number (w.nodes number.0) (w.after number.0) disk fault power). comes_cut cut) was
-
-  pub turns_here : (result : Result Bool NoMem)
-      → ((state after : machine.Node) → Rests layout number state after disk → TurnsOn layout number state after disk fault power result)
-      → TurnsOn layout number (w.nodes number.0) (w.after number.0) disk fault power result
-  turns_here result turns =
-      turns (w.nodes number.0) (w.after number.0) (rests_at layout bricks w number.0 old disk within is off shows).1
-
-  pub starts_as : (started : Bool)
-      → ((state after : machine.Node) → Rests layout number state after disk → TurnsOn layout number state after disk fault power (Ok started))
-      → (events : List Event) × StartsAs layout w number fault bricks new_bricks started events
-  starts_as started turns = turned_as started (turns_here (Ok started) turns)
-
-  pub starts_refused : (refused : NoMem)
-      → ((state after : machine.Node) → Rests layout number state after disk → TurnsOn layout number state after disk fault power (Err refused))
-      → ShowsBricks layout new_bricks w.nodes w.after w.up w.clocks
-  starts_refused refused turns = kept_here (turns_here (Err refused) turns)
+  pub starts_as : (started : Bool) → TurnsOn layout number (w.nodes number.0) (w.after number.0) disk_here fault changes.power (Ok started)
+      → (events : List Event) × StartsAs layout w number fault old new started events
+  starts_as true was = comes_started was
+  starts_as false was = ⊎_elim
+      (λ (worn : IsWorn layout number (w.nodes number.0) (w.after number.0) disk_here changes.power). comes_worn worn)
+      (λ (cut : WasCutShort layout number (w.nodes number.0) (w.after number.0) disk_here fault changes.power). comes_cut cut) was
 
 -- the start of a brick that is up, or that there is not, comes to nothing
 pub starts_not : (layout : Layout) (bricks new : List Brick) (number : BrickId) (fault : Option Fault) (w : World) → is_down layout w number ≡ false
@@ -293,18 +242,17 @@ starts_not layout bricks new number fault w not_down may same shows =
     )
 
 -- one that is up
-pub starts_up : (layout : Layout) (bricks : List Brick) (number : BrickId) (old : Brick) (node : Running MemDisk) (fault : Option Fault) (w : World)
-    → number.0 < length bricks → old ≡ get_or bricks number.0 old → old.power ≡ Up node → ShowsBricks layout bricks w.nodes w.after w.up w.clocks
-    → (events : List Event) × StartsAs layout w number fault bricks (set bricks number.0 (with_power old (Up node))) false events
-starts_up layout bricks number old node fault w within is on shows =
-    let up = (runs_at layout bricks w number.0 old node within is on shows).0 in
-    starts_not layout bricks (set bricks number.0 (with_power old (Up node))) number fault w
+starts_up : {layout : Layout} {old new : List Brick} {number : BrickId} {Holds : Brick → Power → Type 0} (fault : Option Fault) (w : World)
+    → ShowsBricks layout old w.nodes w.after w.up w.clocks → (changes : ChangesBrick old new number Holds) → w.up number.0 ≡ true
+    → changes.power ≡ changes.brick.power → (events : List Event) × StartsAs layout w number fault old new false events
+starts_up {layout} {old} {new} {number} fault w shows changes up same =
+    starts_not layout old new number fault w
     (up_not (is_brick layout number) (w.up number.0) up)
     (up_never (is_brick layout number) (w.up number.0) (machine.may_open 1 (w.nodes number.0)) up)
-    (disks_same bricks number.0 old (with_power old (Up node)) is (ap disk_in (sym on)))
-    (shows_kept layout bricks number.0 old (Up node) w within is
-    (subst (λ (power : Power). ShowsPower layout number (w.nodes number.0) (w.after number.0) (w.up number.0) power) on
-    (brick_at layout bricks w number.0 old within is shows).power) shows)
+    (disks_kept changes (ap disk_in same))
+    (shows_kept w shows changes
+    (subst (λ (power : Power). ShowsPower layout number (w.nodes number.0) (w.after number.0) (w.up number.0) power) (sym same)
+    (shown_there w shows changes).power))
 
 first_not : (x y : Bool) → x ≡ false → x && y ≡ false
 first_not false y is = refl
@@ -318,19 +266,51 @@ starts_nowhere layout bricks number fault w past shows =
     starts_not layout bricks bricks number fault w (first_not (is_brick layout number) (not (w.up number.0)) none)
     (first_not (is_brick layout number) (not (w.up number.0) && machine.may_open 1 (w.nodes number.0)) none) refl shows
 
--- what a start of a brick that is down answered
-module _ (layout : Layout) (bricks : List Brick) (number : BrickId) (old : Brick) (disk : MemDisk) (power : Power) (fault : Option Fault)
-    (within : number.0 < length bricks) (is : old ≡ get_or bricks number.0 old) (off : old.power ≡ Down disk) where
-  pub started_result : (result : Result Bool NoMem)
-      → ((state after : machine.Node) → Rests layout number state after disk → TurnsOn layout number state after disk fault power result)
-      → IfOk result (λ started. (w : World) → ShowsBricks layout bricks w.nodes w.after w.up w.clocks
-      → (events : List Event) × StartsAs layout w number fault bricks (set bricks number.0 (with_power old power)) started events)
-  started_result (Ok started) turns = λ w shows. starts_as layout bricks number old disk power fault w within is off shows started turns
-  started_result (Err refused) turns = tt
+-- what a brick that was to start is now
+pub turned : (layout : Layout) (bricks : List Brick) (number : BrickId) (old : Brick) (was power : Power) (fault : Option Fault) (result : Result Bool NoMem)
+    → number.0 < length bricks → old ≡ get_or bricks number.0 old → old.power ≡ was → StartsFrom layout number fault result was power
+    → ChangesBrick bricks (set bricks number.0 (with_power old power)) number (DoesStart layout number fault result)
+turned layout bricks number old was power fault result within is same starts = record {
+  brick = old;
+  at = slice_get_read bricks (length bricks) number.0 old refl within is;
+  power = power;
+  now = refl;
+  holds = subst (λ (p : Power). StartsFrom layout number fault result p power) (sym same) starts;
+}
 
-  pub refused_result : (result : Result Bool NoMem)
-      → ((state after : machine.Node) → Rests layout number state after disk → TurnsOn layout number state after disk fault power result)
-      → OnErr result ((w : World) → ShowsBricks layout bricks w.nodes w.after w.up w.clocks
-      → ShowsBricks layout (set bricks number.0 (with_power old power)) w.nodes w.after w.up w.clocks)
-  refused_result (Ok started) turns = tt
-  refused_result (Err refused) turns = λ w shows. starts_refused layout bricks number old disk power fault w within is off shows refused turns
+-- so it started, or not, or memory was refused
+abbrev pub StartedAs : Layout → World → BrickId → Option Fault → List Brick → List Brick → Result Bool NoMem → Type 0
+StartedAs layout w number fault old new (Ok started) = (events : List Event) × StartsAs layout w number fault old new started events
+StartedAs layout w number fault old new (Err refused) = ShowsBricks layout new w.nodes w.after w.up w.clocks
+
+pub started_as : {layout : Layout} {old new : List Brick} {number : BrickId} (fault : Option Fault) (result : Result Bool NoMem) (w : World)
+    → ShowsBricks layout old w.nodes w.after w.up w.clocks → ChangesBrick old new number (DoesStart layout number fault result)
+    → StartedAs layout w number fault old new result
+started_as {layout} {old} {new} {number} fault result w shows changes =
+    by result changes.brick.power refl (shown_there w shows changes).power changes.holds
+  where
+    by : (answer : Result Bool NoMem) (was : Power) → changes.brick.power ≡ was
+        → ShowsPower layout number (w.nodes number.0) (w.after number.0) (w.up number.0) was → StartsFrom layout number fault answer was changes.power
+        → StartedAs layout w number fault old new answer
+    by (Ok true) (Up node) on shown starts = absurd (let never : Ok true ≡ Ok false = starts.1 in cc)
+    by (Ok false) (Up node) on shown starts = starts_up fault w shows changes shown.0 (starts.0 ∙ sym on)
+    by (Err refused) (Up node) on shown starts = absurd (let never : Err refused ≡ Ok false = starts.1 in cc)
+    by (Ok started) (Down disk) off shown starts =
+        starts_as fault w shows changes shown.0 started
+        (subst (λ (p : Power). TurnsOn layout number (w.nodes number.0) (w.after number.0) (disk_in p) fault changes.power (Ok started)) (sym off)
+        (starts (w.nodes number.0) (w.after number.0) shown.1))
+    by (Err refused) (Down disk) off shown starts =
+        kept_here fault w shows changes shown.0 (starts (w.nodes number.0) (w.after number.0) shown.1).0
+
+-- where memory was refused, a read of each disk gives what it gave
+pub refused_contents : {layout : Layout} {old new : List Brick} {number : BrickId} (fault : Option Fault) (refused : NoMem) → AreNodesOf layout old
+    → ChangesBrick old new number (DoesStart layout number fault (Err refused)) → map content_of (disks_of new) ≡ map content_of (disks_of old)
+refused_contents {layout} {old} {new} {number} fault refused of changes = contents_changed changes (by changes.brick.power one.shows changes.holds)
+  where
+    one : IsNodeOf layout number.0 changes.brick.power
+    one = of number.0 changes.brick changes.at
+
+    by : (was : Power) → ShowsPower layout number one.state one.after one.up was → StartsFrom layout number fault (Err refused) was changes.power
+        → content_of (disk_in changes.power) ≡ content_of (disk_in was)
+    by (Up node) shows starts = absurd (let never : Err refused ≡ Ok false = starts.1 in cc)
+    by (Down disk) shows starts = (starts one.state one.after shows.1).1

@@ -8,6 +8,8 @@ pub mod Faults
 pub mod Disks
 pub mod Texts
 pub mod Shown
+pub mod Noted
+pub mod BrickSteps
 pub mod Walks
 pub mod Steps
 pub mod Standing

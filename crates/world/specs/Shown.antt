@@ -1,14 +1,12 @@
 -- What a world keeps, and the machine's world that it shows.
-use Rattle.std.specs.Prelude.{◌≡◌, ◌⊎◌, ℕ, zero, suc, ◌+◌, ◌<◌, ◌≤◌, ◌&&◌, Bool, true, false, not, nat_eq, nat_lt, if◌then◌else◌, List, [], ◌∷◌, ◌++◌, length, map, set, Option, Some, None, is_some, Result, Ok, Err, option_and_then, unwrap_or, get_or, slice_get, vec_len, vec_capacity}
+use Rattle.std.specs.Prelude.{◌≡◌, ◌⊎◌, ℕ, zero, suc, ◌+◌, ◌<◌, ◌≤◌, ◌&&◌, Bool, true, false, not, nat_eq, nat_lt, if◌then◌else◌, List, [], ◌∷◌, length, map, Option, Some, None, is_some, Result, Ok, Err, option_and_then, unwrap_or, get_or, slice_get, vec_len, vec_capacity}
 use Rattle.std.specs.Bool.{Decides}
 use Rattle.std.specs.declared.cmp.Ordering.{Ordering}
 use Rattle.std.specs.Ordering.{nat_cmp, ordering_then}
 use Rattle.std.specs.List.{AllByRecursion, list_any}
 use Rattle.std.specs.Option.{option_map}
-use Rattle.fab_base.specs.declared.asks.Ask.{Ask}
 use Rattle.fab_base.specs.declared.faults.NoMem.{NoMem}
 use Rattle.fab_base.specs.declared.identities.BrickId.{BrickId}
-use Rattle.fab_base.specs.declared.identities.GroupId.{GroupId}
 use Rattle.fab_base.specs.declared.member_lists.View.{View}
 use Rattle.fab_base.specs.declared.stamps.Stamp.{Stamp}
 use Rattle.fab_disk.specs.MemDisk.{IsSound, content_of}
@@ -16,10 +14,7 @@ use Rattle.fab_disk.specs.declared.mem_disk.MemDisk.{MemDisk}
 use Rattle.brick_store.specs.Calls.{opening_calls}
 use Rattle.brick_store.specs.Images.{IsListed}
 use Rattle.brick_store.specs.Openings.{opens_appendable}
-use Rattle.node.specs.declared.faults.NodeFault.{NodeFault}
-use Rattle.node.specs.declared.outs.Begun.{Begun}
 use Rattle.node.specs.Calls.{packet_calls}
-use Rattle.node.specs.Faults.{RefusesAs}
 use Rattle.node.specs.Running.{Running, state_of, shape_at}
 use Rattle.fab_base.specs.Layouts.{Layout}
 use Rattle.protocol.specs.Coordinators.{Coordinator}
@@ -28,14 +23,14 @@ use Rattle.protocol.specs.declared.tellings.Answered.{Answered}
 use Rattle.protocol.specs.declared.tellings.Report.{Report}
 use Rattle.protocol.specs.declared.tellings.Told.{Told}
 use Rattle.protocol.specs.declared.tellings.Told.TheVariants as told
-use Rattle.protocol.specs.Worlds.{World, Operation, is_up, number_of, world_tells, first_world, happens, run}
+use Rattle.protocol.specs.Worlds.{World, Operation, is_up, number_of, first_world, happens, run}
 use Rattle.protocol.specs.Happenings.{is_marked, writes}
 use Rattle.protocol.specs.Settings.{Setting}
 use Rattle.protocol.specs.Worlds.{Event}
 use Rattle.world.specs.Runs.{Step, brick_of}
 use Rattle.world.specs.CallNumbers.{AreCalls, HasCallRoom, calls_in}
 use Rattle.world.specs.Faults.{HoldsOne, IsEventsOf, IsStartOf, IsLeft, IsLeftOpening, IsReached, IsReachedOpening, Finds, plan_of, found_of}
-use Rattle.world.specs.Disks.{ShowsDisk, first_listed, IsUnwritten, AreUnwritten, KeepsDisks, LeavesContents, ListsPacket, ListsOpening, OfDisk}
+use Rattle.world.specs.Disks.{ShowsDisk, first_listed, IsUnwritten, KeepsDisks, LeavesContents, ListsPacket, ListsOpening}
 use Rattle.lines.specs.declared.forms.Fault.{Fault}
 use Rattle.lines.specs.declared.forms.Line.{Line}
 use Rattle.lines.specs.declared.forms.Line.TheVariants.{Calm}
@@ -185,15 +180,19 @@ pub record IsNodeOf (layout : Layout) (i : ℕ) (power : Power) : Type 0 where
 abbrev pub AreNodesOf : Layout → List Brick → Type 0
 AreNodesOf layout bricks = (i : ℕ) (brick : Brick) → slice_get bricks i ≡ Some brick → IsNodeOf layout i brick.power
 
--- it is on, and no call of it has failed or will
-abbrev pub IsOn : Power → Type 0
-IsOn (Up node) = (node.brick.halted ≡ false) × IsSound node.brick.disk
-IsOn (Down disk) = ⊥
+-- a brick is up, and this holds of what runs
+abbrev pub IsUpWith : Power → (Running MemDisk → Type 0) → Type 0
+IsUpWith (Up node) Holds = Holds node
+IsUpWith (Down disk) Holds = ⊥
+
+-- it runs as the brick that it says it is
+abbrev pub Runs : Running MemDisk → Type 0
+Runs node = IsRunning node.layout node.me (state_of node) node
 
 -- a brick that is up
 pub record IsUp (bricks : List Brick) (brick : BrickId) : Type 0 where
   pub within : brick.0 < length bricks
-  pub on : (x : Brick) → slice_get bricks brick.0 ≡ Some x → IsOn x.power
+  pub on : (x : Brick) → slice_get bricks brick.0 ≡ Some x → IsUpWith x.power Runs
 
 -- what runs as the brick of a number, where there is one and it is up
 abbrev pub node_in : Power → Option (Running MemDisk)
@@ -208,14 +207,6 @@ abbrev pub FindsUp : List Brick → ℕ → Option BrickId → Type 0
 FindsUp bricks number None = running_at bricks number ≡ None
 FindsUp bricks number (Some brick) = (brick ≡ brick_of number) × IsUp bricks brick
 
--- a brick once it stopped: its disk is all that is left of it
-abbrev pub stopped_brick : Brick → Brick
-stopped_brick brick = record brick { power = Down (disk_in brick.power) }
-
--- the brick of a number stopped, and no other
-abbrev pub StopsBrick : List Brick → List Brick → BrickId → Type 0
-StopsBrick old new number = (brick : Brick) → slice_get old number.0 ≡ Some brick → new ≡ set old number.0 (stopped_brick brick)
-
 -- A brick that runs took a message whole: what it answered is the machine's, and it runs on.
 pub record TookWhole (layout : Layout) (me : BrickId) (state : machine.Node) (time : ℕ) (packet : Packet) (disk : MemDisk) (fault : Option Fault)
     (power : Power) (outs : Sent) : Type 0 where
@@ -223,7 +214,7 @@ pub record TookWhole (layout : Layout) (me : BrickId) (state : machine.Node) (ti
   pub told : outs.told ≡ (machine.received (coding layout) me time state packet).told
   pub answers : outs.answers ≡ (machine.received (coding layout) me time state packet).answers
   pub reports : outs.reports ≡ (machine.received (coding layout) me time state packet).reports
-  pub on : (after : machine.Node) → ShowsPower layout me (machine.received (coding layout) me time state packet).node after true power
+  pub on : IsUpWith power (IsRunning layout me (machine.received (coding layout) me time state packet).node)
   pub spared : IsReached layout me state packet disk (plan_of fault) → ⊥
   pub still : ((listed : ℕ) → packet_calls layout me state packet listed ≡ 0) → IsUnwritten disk (disk_in power)
   pub lists : ListsPacket layout me state packet disk (disk_in power)
@@ -236,18 +227,19 @@ pub record TookPart (layout : Layout) (me : BrickId) (state : machine.Node) (pac
   pub left : IsLeft layout me (machine.stopped state) (machine.stopped (machine.absorbed (coding layout) me state packet))
       (packet_calls layout me state packet reached.listed) fault (disk_in power)
 
--- or memory was refused, and nothing has changed
+-- or memory was refused: it is as it was, and a read of its disk gives what it gave
 abbrev pub Takes : Layout → BrickId → machine.Node → ℕ → Packet → MemDisk → Option Fault → Power → Result (Option Sent) NoMem → Type 0
 Takes layout me state time packet disk fault power (Ok (Some outs)) = TookWhole layout me state time packet disk fault power outs
 Takes layout me state time packet disk fault power (Ok None) = TookPart layout me state packet disk fault power
-Takes layout me state time packet disk fault power (Err refused) = (after : machine.Node) → ShowsPower layout me state after true power
+Takes layout me state time packet disk fault power (Err refused) =
+    IsUpWith power (IsRunning layout me state) × (content_of (disk_in power) ≡ content_of disk)
 
 -- A brick that was down was started, with what its disk was found to hold.
 pub record WasStarted (layout : Layout) (me : BrickId) (state after : machine.Node) (disk : MemDisk) (fault : Option Fault) (power : Power) : Type 0 where
   pub finds : Finds layout me state after disk
   pub may : machine.may_open (finds.openings + 1) state ≡ true
   pub spared : IsReachedOpening layout me disk (plan_of fault) → ⊥
-  pub on : (other : machine.Node) → ShowsPower layout me (machine.restarted (finds.openings + 1) (found_of state after finds.found)) other true power
+  pub on : IsUpWith power (IsRunning layout me (machine.restarted (finds.openings + 1) (found_of state after finds.found)))
   pub lists : ListsOpening layout me (found_of state after finds.found) disk (disk_in power)
 
 -- or its store can't be opened once more
@@ -271,87 +263,8 @@ abbrev pub TurnsOn : Layout → BrickId → machine.Node → machine.Node → Me
 TurnsOn layout me state after disk fault power (Ok true) = WasStarted layout me state after disk fault power
 TurnsOn layout me state after disk fault power (Ok false) =
     IsWorn layout me state after disk power ⊎ WasCutShort layout me state after disk fault power
-TurnsOn layout me state after disk fault power (Err refused) = ShowsPower layout me state after false power
-
--- The bricks after one that is up was handed a message: it took it whole, or a call was befallen in the midst of that and it is down, or
--- memory was refused.
-pub record HandledWhole (layout : Layout) (w : World) (number : BrickId) (packet : Packet) (fault : Option Fault) (old new : List Brick) (outs : Sent) : Type 0 where
-  pub packets : packets_from number outs.messages ≡ (machine.received (coding layout) number (w.clocks number.0) (w.nodes number.0) packet).packets
-  pub told : outs.told ≡ (machine.received (coding layout) number (w.clocks number.0) (w.nodes number.0) packet).told
-  pub answers : outs.answers ≡ (machine.received (coding layout) number (w.clocks number.0) (w.nodes number.0) packet).answers
-  pub reports : outs.reports ≡ (machine.received (coding layout) number (w.clocks number.0) (w.nodes number.0) packet).reports
-  pub bricks : ShowsBricks layout new
-      (machine.put w.nodes number.0 (machine.received (coding layout) number (w.clocks number.0) (w.nodes number.0) packet).node) w.after w.up w.clocks
-  pub spared : (disk : MemDisk) → slice_get (disks_of old) number.0 ≡ Some disk
-      → IsReached layout number (w.nodes number.0) packet disk (plan_of fault) → ⊥
-  pub still : ((listed : ℕ) → packet_calls layout number (w.nodes number.0) packet listed ≡ 0) → AreUnwritten (disks_of old) (disks_of new)
-  pub lists : OfDisk number (ListsPacket layout number (w.nodes number.0) packet) (disks_of old) (disks_of new)
-
-pub record HandledPart (layout : Layout) (w : World) (number : BrickId) (packet : Packet) (fault : Option Fault) (old new : List Brick) : Type 0 where
-  pub disk : MemDisk
-  pub disk_is : slice_get (disks_of old) number.0 ≡ Some disk
-  pub reached : IsReached layout number (w.nodes number.0) packet disk (plan_of fault)
-  pub bricks : ShowsBricks layout new (machine.put w.nodes number.0 (machine.stopped (w.nodes number.0)))
-      (machine.put w.after number.0 (machine.stopped (machine.absorbed (coding layout) number (w.nodes number.0) packet)))
-      (machine.put w.up number.0 false) w.clocks
-  pub left : (one : MemDisk) → slice_get (disks_of new) number.0 ≡ Some one → IsLeft layout number (machine.stopped (w.nodes number.0))
-      (machine.stopped (machine.absorbed (coding layout) number (w.nodes number.0) packet))
-      (packet_calls layout number (w.nodes number.0) packet reached.listed) fault one
-
-abbrev pub HandledAs : Layout → World → BrickId → Packet → Option Fault → List Brick → List Brick → Result (Option Sent) NoMem → Type 0
-HandledAs layout w number packet fault old new (Ok (Some outs)) = HandledWhole layout w number packet fault old new outs
-HandledAs layout w number packet fault old new (Ok None) = HandledPart layout w number packet fault old new
-HandledAs layout w number packet fault old new (Err refused) = ShowsBricks layout new w.nodes w.after w.up w.clocks
-
--- so it did in each world that the bricks show
-abbrev pub HandsOver : List Brick → List Brick → BrickId → Packet → Option Fault → Result (Option Sent) NoMem → Type 0
-HandsOver old new number packet fault result = (layout : Layout) (w : World) → ShowsBricks layout old w.nodes w.after w.up w.clocks
-    → HandledAs layout w number packet fault old new result
-
--- a brick was asked, and refused it or not as the machine's does
-abbrev pub RefusesBrick : List Brick → BrickId → Ask → Result Begun NodeFault → Type 0
-RefusesBrick old number ask result = (layout : Layout) (w : World) → ShowsBricks layout old w.nodes w.after w.up w.clocks
-    → RefusesAs result (machine.refusal_of layout (w.nodes number.0) ask)
-
--- it began the operation as the machine's does
-abbrev pub BeginsBrick : List Brick → List Brick → BrickId → Ask → Begun → Type 0
-BeginsBrick old new number ask begun = (layout : Layout) (w : World) → ShowsBricks layout old w.nodes w.after w.up w.clocks
-    → (let step = machine.invoked (coding layout) number (w.clocks number.0) (w.nodes number.0) ask in
-    (packets_from number begun.messages.items ≡ step.packets) × (begun.seq ≡ step.node.seq)
-    × ShowsBricks layout new (machine.put w.nodes number.0 step.node) w.after w.up w.clocks)
-
--- a brick was asked to propose, and refused it or not as the machine's does
-abbrev pub RefusesProposal : List Brick → BrickId → GroupId → Result Sent NodeFault → Type 0
-RefusesProposal old number group result = (layout : Layout) (w : World) → ShowsBricks layout old w.nodes w.after w.up w.clocks
-    → RefusesAs result (machine.proposal_refusal layout (w.nodes number.0) group.0)
-
--- The bricks after one took a step that is the machine's: so is what it sends, tells, answers and reports.
-pub record SteppedAs (layout : Layout) (w : World) (number : BrickId) (step : machine.NodeStep) (new : List Brick) (outs : Sent) : Type 0 where
-  pub packets : packets_from number outs.messages ≡ step.packets
-  pub told : outs.told ≡ step.told
-  pub answers : outs.answers ≡ step.answers
-  pub reports : outs.reports ≡ step.reports
-  pub bricks : ShowsBricks layout new (machine.put w.nodes number.0 step.node) w.after w.up w.clocks
-
--- so it did in each world that the bricks show
-abbrev pub ProposesBrick : List Brick → List Brick → BrickId → GroupId → List BrickId → Sent → Type 0
-ProposesBrick old new number group members outs = (layout : Layout) (w : World) → ShowsBricks layout old w.nodes w.after w.up w.clocks
-    → SteppedAs layout w number (machine.proposed (coding layout) number (w.nodes number.0) group members) new outs
-
--- a brick was asked to synchronise, and refused it or not as the machine's does
-abbrev pub RefusesSync : List Brick → BrickId → GroupId → Result Sent NodeFault → Type 0
-RefusesSync old number group result = (layout : Layout) (w : World) → ShowsBricks layout old w.nodes w.after w.up w.clocks
-    → RefusesAs result (machine.sync_refusal layout (w.nodes number.0) group.0)
-
--- it began to synchronise as the machine's does
-abbrev pub SyncsBrick : List Brick → List Brick → BrickId → GroupId → Sent → Type 0
-SyncsBrick old new number group outs = (layout : Layout) (w : World) → ShowsBricks layout old w.nodes w.after w.up w.clocks
-    → SteppedAs layout w number (machine.synced_at (coding layout) number (w.clocks number.0) (w.nodes number.0) group) new outs
-
--- the bricks show what they showed
-abbrev pub BricksStay : Layout → List Brick → List Brick → Type 0
-BricksStay layout old new = (w : World) → ShowsBricks layout old w.nodes w.after w.up w.clocks
-    → ShowsBricks layout new w.nodes w.after w.up w.clocks
+TurnsOn layout me state after disk fault power (Err refused) =
+    ShowsPower layout me state after false power × (content_of (disk_in power) ≡ content_of disk)
 
 -- The history tells the machine's world, where each brick has made so many calls: every message, and which were delivered, every mark, every report, each
 -- operation, those that have marks by these, and the operations of the calls so far of each brick that is up.
@@ -443,12 +356,6 @@ abbrev pub calls_used : List Report → ℕ
 calls_used [] = 1
 calls_used (report ∷ reports) = 0
 
--- the numbers of the operations of each brick's calls, once a brick was asked to propose and reported this at once, or nothing: a call of no operation
--- is one more
-abbrev pub calls_aside : (ℕ → List ℕ) → ℕ → Option Report → ℕ → List ℕ
-calls_aside calls i None = machine.put calls i (calls i ++ 0 ∷ [])
-calls_aside calls i (Some report) = calls
-
 -- The step begins a proposal under the next call, which is that of no operation, or it reports that it begins none.
 pub record OpensAside (w : World) (brick : BrickId) (step : machine.NodeStep) : Type 0 where
   pub boot : step.node.boot ≡ (w.nodes brick.0).boot
@@ -461,32 +368,6 @@ pub record OpensAside (w : World) (brick : BrickId) (step : machine.NodeStep) : 
 pub record OpensNext (node : machine.Node) (step : machine.NodeStep) : Type 0 where
   pub boot : step.node.boot ≡ node.boot
   pub seq : step.node.seq ≡ node.seq + 1
-
--- a history tells what it told
-abbrev pub HistoryStays : History → History → Type 0
-HistoryStays old new = (w : World) → Tells old w → Tells new w
-
--- it tells what this makes of the world that it told
-abbrev pub HistoryBecomes : (World → World) → History → History → Type 0
-HistoryBecomes next old new = (w : World) → Tells old w → Tells new (next w)
-
--- so it does where the brick is up in that world, and this holds of its state
-abbrev pub HistoryNotes : BrickId → (machine.Node → Type 0) → (World → World) → History → History → Type 0
-HistoryNotes brick Holds next old new = (w : World) → Tells old w → w.up brick.0 ≡ true → Holds (w.nodes brick.0) → Tells new (next w)
-
--- so it does with what a brick tells, where that is up and is of its calls: each read that begins is one call more
-abbrev pub HistoryHears : BrickId → List Told → History → History → Type 0
-HistoryHears brick told old new = (setting : Setting) (nodes : ℕ → machine.Node) (w : World) (seqs : ℕ → ℕ) → TellsAt seqs old w → w.up brick.0 ≡ true
-    → AreTold (w.nodes brick.0).boot (seqs brick.0) told
-    → TellsAt (machine.put seqs brick.0 (seqs brick.0 + reads_begun told)) new (world_tells setting nodes w brick told)
-
--- so it does with one operation, where this holds of the number of its brick's calls
-abbrev pub HistoryChanges : BrickId → (ℕ → Type 0) → (World → World) → History → History → Type 0
-HistoryChanges brick Holds next old new = (w : World) (seqs : ℕ → ℕ) → TellsAt seqs old w → w.up brick.0 ≡ true → Holds (seqs brick.0) → TellsAt seqs new (next w)
-
--- so it does where the brick is up in that world, and its step opens there no call but one of no operation
-abbrev pub HistoryNotesAside : BrickId → machine.NodeStep → (World → World) → History → History → Type 0
-HistoryNotesAside brick step next old new = (w : World) → Tells old w → w.up brick.0 ≡ true → OpensAside w brick step → Tells new (next w)
 
 -- what events that are none or one come to
 abbrev pub came_to : Setting → World → List Event → Outcome
@@ -503,11 +384,6 @@ pub record StartsAs (layout : Layout) (w : World) (brick : BrickId) (fault : Opt
   pub comes : (if started then Marks else Idle) ≡ came_to (coding layout) w events
   pub tells : (history : History) → Tells history w → Tells history (run (coding layout) events w)
   pub kept : KeepsDisks (coding layout) w events (disks_of old) (disks_of new)
-
--- so it started, or not, in each world that the bricks show
-abbrev pub StartsBrick : Layout → List Brick → List Brick → BrickId → Option Fault → Bool → Type 0
-StartsBrick layout old new number fault started = (w : World) → ShowsBricks layout old w.nodes w.after w.up w.clocks
-    → (events : List Event) × StartsAs layout w number fault old new started events
 
 -- A line came to this outcome, and is these events: the state shows the world after them, and no disk has changed but theirs.
 pub record ComesTo (layout : Layout) (w : World) (disks : List MemDisk) (state : Simulation) (line : Line) (outcome : Outcome)

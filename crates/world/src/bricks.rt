@@ -10,8 +10,9 @@ ghost use Rattle.fab_disk.specs.MemDisk.{content_of, may_be_left, IsSound};
 ghost use Rattle.brick_store.specs.Images.{IsListed};
 ghost use Rattle.node.specs.Running.{shape_at, state_of};
 ghost use Rattle.world.specs.Faults.{LeftBy, plan_of};
-ghost use Rattle.world.specs.Disks.{ShowsDisk, AreFreshDisks, KeepsOthers};
-ghost use Rattle.world.specs.Shown.{Rests, IsRunning, IsFreshBrick, ShowsBricks, Takes, TurnsOn, FindsUp, IsUp, AreNodesOf, HandsOver, RefusesBrick, BeginsBrick, RefusesProposal, ProposesBrick, RefusesSync, SyncsBrick, BricksStay, StopsBrick, StartsBrick, most_sent, reads_begun, disk_in, disks_of, running_at, unopened};
+ghost use Rattle.world.specs.Disks.{ShowsDisk, AreFreshDisks};
+ghost use Rattle.world.specs.Shown.{Rests, Runs, IsFreshBrick, ShowsBricks, Takes, TurnsOn, FindsUp, IsUp, AreNodesOf, most_sent, reads_begun, disk_in, disks_of, running_at, unopened};
+ghost use Rattle.world.specs.BrickSteps.{ChangesBrick, RunsOn, DoesBegin, DoesPropose, DoesSync, DoesHandle, DoesStart, Stops};
 
 use brick_store::OpenFault;
 use fab_base::{Ask, BrickId, GroupId, IoFault, NoMem};
@@ -80,12 +81,10 @@ fn take_message(
     packet: &Packet,
     fault: Option<Fault>,
 ) -> (Power, Result<Option<Outs>, NoMem>)
-    requires { node.brick.halted ≡ false }
-    ensures takes { (layout : _) (me : _) (state : machine.Node) → IsRunning layout me state node
-        → Takes layout me state time packet.now node.brick.disk fault result.0 result.1 }
+    requires { Runs node }
+    ensures takes { Takes node.layout node.me (state_of node) time packet.now node.brick.disk fault result.0 result.1 }
     ensures few { IfOk result.1 (λ outs. IfSome outs (λ sent. length sent.messages ≤ most_sent)) }
     ensures reads { IfOk result.1 (λ outs. IfSome outs (λ sent. reads_begun sent.told ≤ 1)) }
-    ensures content { OnErr result.1 (content_of (disk_in result.0) ≡ content_of node.brick.disk) }
 {
     let mut node = node;
     node.arm(plan_of(fault));
@@ -132,9 +131,8 @@ fn start_over(
     fault: Option<Fault>,
 ) -> (Power, Result<bool, NoMem>)
     requires { (state : machine.Node) × (after : machine.Node) × Rests layout.now me state after disk }
-    ensures turns { (state after : machine.Node) → Rests layout.now me state after disk
+    ensures { (state after : machine.Node) → Rests layout.now me state after disk
         → TurnsOn layout.now me state after disk fault result.0 result.1 }
-    ensures content { OnErr result.1 (content_of (disk_in result.0) ≡ content_of disk) }
 {
     match layout.copy(alloc) {
         Ok(layout) => open_over(alloc, layout, me, disk, fault),
@@ -151,8 +149,7 @@ fn open_over(
     fault: Option<Fault>,
 ) -> (Power, Result<bool, NoMem>)
     requires { (state : machine.Node) × (after : machine.Node) × Rests layout me state after disk }
-    ensures turns { (state after : machine.Node) → Rests layout me state after disk → TurnsOn layout me state after disk fault result.0 result.1 }
-    ensures content { OnErr result.1 (content_of (disk_in result.0) ≡ content_of disk) }
+    ensures { (state after : machine.Node) → Rests layout me state after disk → TurnsOn layout me state after disk fault result.0 result.1 }
 {
     let mut disk = disk;
     disk.arm(plan_of(fault));
@@ -249,11 +246,8 @@ pub fn boot_of(bricks: &[Brick], number: BrickId) -> u32
 /// A brick that is up is asked for an operation. After a refusal of any kind no brick has changed.
 pub fn ask_brick(bricks: &mut Vec<Brick>, number: BrickId, ask: &Ask) -> Result<Begun, NodeFault>
     requires { IsUp bricks.old.items number }
-    ensures refused { RefusesBrick bricks.old.items number ask.now result }
-    ensures begun { IfOk result (BeginsBrick bricks.old.items bricks.new.items number ask.now) }
+    ensures asks { ChangesBrick bricks.old.items bricks.new.items number (RunsOn (DoesBegin ask.now result)) }
     ensures few { IfOk result (λ begun. vec_len begun.messages ≤ 32) }
-    ensures err { OnErr result ((layout : _) → BricksStay layout bricks.old.items bricks.new.items) }
-    ensures disks { disks_of bricks.new.items ≡ disks_of bricks.old.items }
     ensures not_halted { result ≢ Err NodeFault.Halted }
     ensures not_disk { result ≢ Err NodeFault.Disk }
 {
@@ -272,11 +266,8 @@ pub fn ask_to_propose(
     members: &[BrickId],
 ) -> Result<Outs, NodeFault>
     requires { IsUp bricks.old.items number }
-    ensures refused { RefusesProposal bricks.old.items number group result }
-    ensures proposed { IfOk result (ProposesBrick bricks.old.items bricks.new.items number group members.now) }
+    ensures asks { ChangesBrick bricks.old.items bricks.new.items number (RunsOn (DoesPropose group members.now result)) }
     ensures few { IfOk result (λ outs. length outs.messages ≤ most_sent) }
-    ensures err { OnErr result ((layout : _) → BricksStay layout bricks.old.items bricks.new.items) }
-    ensures disks { disks_of bricks.new.items ≡ disks_of bricks.old.items }
     ensures not_halted { result ≢ Err NodeFault.Halted }
     ensures not_disk { result ≢ Err NodeFault.Disk }
 {
@@ -294,12 +285,9 @@ pub fn ask_to_sync(
     group: GroupId,
 ) -> Result<Outs, NodeFault>
     requires { IsUp bricks.old.items number }
-    ensures refused { RefusesSync bricks.old.items number group result }
-    ensures synced { IfOk result (SyncsBrick bricks.old.items bricks.new.items number group) }
+    ensures asks { ChangesBrick bricks.old.items bricks.new.items number (RunsOn (DoesSync group result)) }
     ensures few { IfOk result (λ outs. length outs.messages ≤ most_sent) }
     ensures reads { IfOk result (λ outs. reads_begun outs.told ≤ 1) }
-    ensures err { OnErr result ((layout : _) → BricksStay layout bricks.old.items bricks.new.items) }
-    ensures disks { disks_of bricks.new.items ≡ disks_of bricks.old.items }
     ensures not_halted { result ≢ Err NodeFault.Halted }
     ensures not_disk { result ≢ Err NodeFault.Disk }
 {
@@ -320,11 +308,9 @@ pub fn hand_over(
     fault: Option<Fault>,
 ) -> Result<Option<Outs>, NoMem>
     requires { IsUp bricks.old.items number }
-    ensures handled { HandsOver bricks.old.items bricks.new.items number packet.now fault result }
+    ensures handles { ChangesBrick bricks.old.items bricks.new.items number (DoesHandle packet.now fault result) }
     ensures few { IfOk result (λ outs. IfSome outs (λ sent. length sent.messages ≤ most_sent)) }
     ensures reads { IfOk result (λ outs. IfSome outs (λ sent. reads_begun sent.told ≤ 1)) }
-    ensures others { KeepsOthers (Some number) (disks_of bricks.old.items) (disks_of bricks.new.items) }
-    ensures contents { OnErr result (map content_of (disks_of bricks.new.items) ≡ map content_of (disks_of bricks.old.items)) }
 {
     let brick = &mut bricks[number.0 as usize];
     let nothing = Power::Down(MemDisk::new(alloc, Vec::new(alloc)));
@@ -366,8 +352,7 @@ pub fn tick_brick(bricks: &[Brick], number: BrickId) -> Result<Messages, NoMem>
 /// A brick stops: its disk is all that is left of it.
 pub fn stop_brick(bricks: &mut Vec<Brick>, alloc: Global, number: BrickId)
     requires { number.0 < vec_len bricks.old }
-    ensures stops { StopsBrick bricks.old.items bricks.new.items number }
-    ensures disks { disks_of bricks.new.items ≡ disks_of bricks.old.items }
+    ensures { ChangesBrick bricks.old.items bricks.new.items number Stops }
 {
     let brick = &mut bricks[number.0 as usize];
     let nothing = Power::Down(MemDisk::new(alloc, Vec::new(alloc)));
@@ -386,10 +371,7 @@ pub fn start_brick(
 ) -> Result<bool, NoMem>
     requires nodes { AreNodesOf layout.now bricks.old.items }
     requires brick { number.0 < vec_len bricks.old }
-    ensures started { IfOk result (StartsBrick layout.now bricks.old.items bricks.new.items number fault) }
-    ensures err { OnErr result (BricksStay layout.now bricks.old.items bricks.new.items) }
-    ensures others { KeepsOthers (Some number) (disks_of bricks.old.items) (disks_of bricks.new.items) }
-    ensures contents { OnErr result (map content_of (disks_of bricks.new.items) ≡ map content_of (disks_of bricks.old.items)) }
+    ensures { ChangesBrick bricks.old.items bricks.new.items number (DoesStart layout.now number fault result) }
 {
     let brick = &mut bricks[number.0 as usize];
     let nothing = Power::Down(MemDisk::new(alloc, Vec::new(alloc)));

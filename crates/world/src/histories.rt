@@ -175,16 +175,13 @@ fn mark_of(operations: &[OperationRecord], number: u64) -> u64
 }
 
 impl History {
-    ghost use Rattle.std.specs.Prelude.{◌≡◌, ◌+◌, ◌<◌, ◌≤◌, ◌++◌, [], ◌∷◌, ℕ, true, None, length, option_to_list, OnOk, OnErr, vec_len, vec_capacity};
+    ghost use Rattle.std.specs.Prelude.{◌≡◌, ◌+◌, ◌<◌, ◌≤◌, ◌++◌, ℕ, true, false, not, is_some, if◌then◌else◌, nat_eq, get_or, length, option_to_list, OnOk, OnErr, vec_len, vec_capacity};
     ghost use Rattle.fab_base.specs.Layouts.{Layout};
     ghost use Rattle.coord_phase.specs.Messages.{packets_from};
-    ghost use Rattle.protocol.specs.Settings.{Setting};
-    ghost use Rattle.protocol.specs.Nodes.{NodeStep};
-    ghost use Rattle.protocol.specs.Nodes.{put as changed};
-    ghost use Rattle.protocol.specs.Worlds.{World, first_world, number_of, world_began, world_stepped, world_stopped, world_answers, with_made, with_seen, with_closed, reports_of};
+    ghost use Rattle.protocol.specs.Worlds.{first_world, reports_of};
     ghost use Rattle.world.specs.CallNumbers.{HasCallRoom, calls_in, call_at};
-    ghost use Rattle.world.specs.Shown.{Tells, HasStepRoom, HasReadRoom, IsOfCall, AreAnswered, OpensReads, OpensNext, HistoryStays, HistoryBecomes, HistoryNotes, HistoryHears, HistoryChanges, HistoryNotesAside, most_sent, calls_aside, reads_begun};
-    ghost use Rattle.protocol.specs.declared.tellings.Told.TheVariants.{Began, Closed};
+    ghost use Rattle.world.specs.Shown.{Tells, HasStepRoom, HasReadRoom, most_sent, reads_begun};
+    ghost use Rattle.world.specs.Noted.{IsSameHistory, NotesBegin, NotesRead, NotesCrash, ChangesCall, NotesTold, NotesEnds, NotesStep, NotesProposal, calls_aside};
 
     /// Nothing yet.
     pub fn new(alloc: Global) -> History
@@ -204,7 +201,7 @@ impl History {
     /// Makes room for what one step of a brick adds.
     pub fn make_room(&mut self) -> Result<(), NoMem>
         ensures room { OnOk result (HasStepRoom self.new) }
-        ensures same { HistoryStays self.old self.new }
+        ensures same { IsSameHistory self.old self.new }
     {
         self.sent.reserve(MOST_PACKETS)?;
         self.marks.reserve(1)?;
@@ -218,7 +215,7 @@ impl History {
     pub fn expect_call(&mut self, alloc: Global, brick: BrickId) -> Result<(), NoMem>
         ensures room { OnOk result (HasStepRoom self.new) }
         ensures call { OnOk result (HasCallRoom self.new.calls brick.0) }
-        ensures same { HistoryStays self.old self.new }
+        ensures same { IsSameHistory self.old self.new }
     {
         self.make_room()?;
         self.calls.reserve(alloc, brick)?;
@@ -230,7 +227,9 @@ impl History {
         requires some { 1 ≤ number }
         requires delivery { number ≤ vec_len self.old.delivered.reached }
         requires room { HasStepRoom self.old }
-        ensures delivered { HistoryBecomes (λ w. record w { reached = changed w.reached number true }) self.old self.new }
+        ensures delivered { (k : ℕ) → get_or self.new.delivered.reached.items k false
+            ≡ if nat_eq (k + 1) number then true else get_or self.old.delivered.reached.items k false }
+        ensures rest { self.new ≡ record self.old { delivered = self.new.delivered } }
         ensures room { HasStepRoom self.new }
         ensures calls { self.new.calls ≡ self.old.calls }
     {
@@ -261,7 +260,6 @@ impl History {
     fn send(&mut self, brick: BrickId, messages: Messages)
         requires { vec_len self.old.sent.packets + vec_len messages ≤ vec_capacity self.old.sent.packets }
         ensures items { self.new.sent.packets.items ≡ self.old.sent.packets.items ++ packets_from brick messages.items }
-        ensures sent { HistoryBecomes (λ w. record w { packets = w.packets ++ packets_from brick messages.items }) self.old self.new }
         ensures rest { self.new ≡ record self.old { sent = self.new.sent } }
     {
         put_packets(&mut self.sent, brick, messages);
@@ -269,8 +267,9 @@ impl History {
 
     /// Makes room for messages, and notes that a brick sends them.
     pub fn send_more(&mut self, brick: BrickId, messages: Messages) -> Result<(), NoMem>
-        ensures sent { OnOk result (HistoryBecomes (λ w. record w { packets = w.packets ++ packets_from brick messages.items }) self.old self.new) }
-        ensures err { OnErr result (HistoryStays self.old self.new) }
+        ensures items { OnOk result (self.new.sent.packets.items ≡ self.old.sent.packets.items ++ packets_from brick messages.items) }
+        ensures err { OnErr result (self.new.sent.packets.items ≡ self.old.sent.packets.items) }
+        ensures rest { self.new ≡ record self.old { sent = self.new.sent } }
     {
         self.sent.reserve(messages.len())?;
         self.send(brick, messages);
@@ -279,7 +278,7 @@ impl History {
 
     /// Chains what was sent, so that the messages of an operation are found among their own.
     pub fn chain_sent(&mut self)
-        ensures { HistoryStays self.old self.new }
+        ensures { IsSameHistory self.old self.new }
     {
         self.sent.catch_up();
     }
@@ -287,7 +286,7 @@ impl History {
     /// Notes that a brick stops.
     pub fn crash(&mut self, brick: BrickId)
         requires { HasStepRoom self.old }
-        ensures { (setting : Setting) → HistoryBecomes (λ w. world_stopped setting w brick None) self.old self.new }
+        ensures { NotesCrash self.old self.new brick }
     {
         let position = self.marks.len() as u64;
         self.marks.push_reserved(Mark::Crash { position, brick });
@@ -299,8 +298,7 @@ impl History {
         requires room { HasStepRoom self.old }
         requires call { HasCallRoom self.old.calls brick.0 }
         requires few { vec_len begun.messages ≤ most_sent }
-        ensures { (step : NodeStep) → packets_from brick begun.messages.items ≡ step.packets → boot ≡ step.node.boot → begun.seq ≡ step.node.seq
-            → HistoryNotes brick (λ node. OpensNext node step) (λ w. world_began w brick ask step) self.old self.new }
+        ensures { NotesBegin self.old self.new brick boot ask begun }
     {
         let Begun { seq, messages } = begun;
         let position = self.marks.len() as u64;
@@ -333,11 +331,7 @@ impl History {
 
     /// The operation of a brick's call made a version, on this base.
     fn made(&mut self, brick: BrickId, seq: u64, stamp: Stamp, base: Option<Stamp>)
-        ensures made { HistoryChanges brick (λ calls. IsOfCall calls seq) (λ w. let n = number_of w brick.0 seq in
-            record w { operations = changed w.operations n (with_made stamp base (w.operations n)) }) self.old self.new }
-        ensures rest { self.new ≡ record self.old { operations = self.new.operations } }
-        ensures count { vec_len self.new.operations ≡ vec_len self.old.operations }
-        ensures room { vec_capacity self.new.operations ≡ vec_capacity self.old.operations }
+        ensures { ChangesCall self.old self.new brick.0 seq (made_kept stamp base) }
     {
         if let Some(number) = self.number(brick, seq) {
             note_made(&mut self.operations, number, stamp, base);
@@ -346,11 +340,7 @@ impl History {
 
     /// The operation of a brick's call read a version at once.
     fn seen(&mut self, brick: BrickId, seq: u64, stamp: Stamp)
-        ensures seen { HistoryChanges brick (λ calls. IsOfCall calls seq) (λ w. let n = number_of w brick.0 seq in
-            record w { operations = changed w.operations n (with_seen stamp (w.operations n)) }) self.old self.new }
-        ensures rest { self.new ≡ record self.old { operations = self.new.operations } }
-        ensures count { vec_len self.new.operations ≡ vec_len self.old.operations }
-        ensures room { vec_capacity self.new.operations ≡ vec_capacity self.old.operations }
+        ensures { ChangesCall self.old self.new brick.0 seq (seen_kept stamp) }
     {
         if let Some(number) = self.number(brick, seq) {
             note_seen(&mut self.operations, number, stamp);
@@ -359,11 +349,7 @@ impl History {
 
     /// The operation of a brick's call, which has no marks, ended: aborted by this cause, or answered.
     fn closed(&mut self, brick: BrickId, seq: u64, cause: Option<Cause>)
-        ensures closed { HistoryChanges brick (λ calls. IsOfCall calls seq) (λ w. let n = number_of w brick.0 seq in
-            record w { operations = changed w.operations n (with_closed cause (w.operations n)) }) self.old self.new }
-        ensures rest { self.new ≡ record self.old { operations = self.new.operations } }
-        ensures count { vec_len self.new.operations ≡ vec_len self.old.operations }
-        ensures room { vec_capacity self.new.operations ≡ vec_capacity self.old.operations }
+        ensures { ChangesCall self.old self.new brick.0 seq (ended_kept (not (is_some cause))) }
     {
         if let Some(number) = self.number(brick, seq) {
             note_answer(&mut self.operations, number, cause.is_none());
@@ -373,8 +359,7 @@ impl History {
     /// Notes that a brick begins a read of a synchronisation under its next call: an operation without marks.
     fn open_read(&mut self, brick: BrickId, call: Call)
         requires { HasReadRoom self.old brick }
-        ensures opened { HistoryHears brick (Began call ∷ []) self.old self.new }
-        ensures rest { self.new ≡ record self.old { operations = self.new.operations; calls = self.new.calls } }
+        ensures { NotesRead self.old self.new brick call }
     {
         let begin = self.marks.len() as u64;
         let number = self.operations.len() as u64 + 1;
@@ -398,7 +383,7 @@ impl History {
     /// Notes what a step told, if anything. There is room for a read that it told to begin.
     fn tell(&mut self, brick: BrickId, told: Option<Told>)
         requires { 1 ≤ reads_begun (option_to_list told) → HasReadRoom self.old brick }
-        ensures told { HistoryHears brick (option_to_list told) self.old self.new }
+        ensures told { NotesTold brick (option_to_list told) self.old self.new }
         ensures rest { self.new ≡ record self.old { operations = self.new.operations; calls = self.new.calls } }
         ensures room { reads_begun (option_to_list told) ≡ 0 → HasReadRoom self.old brick → HasReadRoom self.new brick }
     {
@@ -414,8 +399,7 @@ impl History {
     /// Notes the answer that a step gave, if one.
     fn answer(&mut self, brick: BrickId, answer: Option<Answered>)
         requires { vec_len self.old.marks < vec_capacity self.old.marks }
-        ensures answered { HistoryChanges brick (λ calls. AreAnswered calls (option_to_list answer))
-            (λ w. world_answers w brick (option_to_list answer)) self.old self.new }
+        ensures ended { NotesEnds brick (option_to_list answer) self.old self.new }
         ensures rest { self.new ≡ record self.old { operations = self.new.operations; marks = self.new.marks } }
     {
         let Some(Answered { seq, answer }) = answer else {
@@ -451,9 +435,7 @@ impl History {
         requires call { HasCallRoom self.old.calls brick.0 }
         requires few { length outs.messages ≤ most_sent }
         requires one { reads_begun outs.told ≤ 1 }
-        ensures { (setting : Setting) (step : NodeStep) → packets_from brick outs.messages ≡ step.packets → outs.told ≡ step.told
-            → outs.answers ≡ step.answers → outs.reports ≡ step.reports
-            → HistoryNotes brick (λ node. OpensReads node step) (λ w. world_stepped setting w brick step) self.old self.new }
+        ensures { NotesStep self.old self.new brick outs }
     {
         let (messages, told, answer, report) = outs.into_parts();
         self.tell(brick, told.version);
@@ -467,7 +449,7 @@ impl History {
     /// Notes the call that a brick used up as it was asked to propose, which is of no operation: it used up none if it reported at once.
     fn count_call(&mut self, brick: BrickId, report: &Option<Report>)
         requires { HasCallRoom self.old.calls brick.0 }
-        ensures calls { (i : ℕ) → calls_in self.new.calls i ≡ calls_aside (calls_in self.old.calls) brick.0 report.now i }
+        ensures calls { (i : ℕ) → calls_in self.new.calls i ≡ calls_aside self.old.calls brick.0 (option_to_list report.now) i }
         ensures rest { self.new ≡ record self.old { calls = self.new.calls } }
     {
         if report.is_none() {
@@ -480,8 +462,7 @@ impl History {
         requires room { HasStepRoom self.old }
         requires call { HasCallRoom self.old.calls brick.0 }
         requires few { length outs.messages ≤ most_sent }
-        ensures { (setting : Setting) (step : NodeStep) → packets_from brick outs.messages ≡ step.packets → outs.reports ≡ step.reports
-            → HistoryNotesAside brick step (λ w. world_stepped setting w brick step) self.old self.new }
+        ensures { NotesProposal self.old self.new brick outs }
     {
         let (messages, _, _, report) = outs.into_parts();
         self.count_call(brick, &report);

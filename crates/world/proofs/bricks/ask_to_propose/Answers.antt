@@ -1,40 +1,23 @@
 -- The brick of the number proposes as the machine's does.
-use Rattle.std.proofs.Common.{◌≡◌, true, false, ap, ◌∙◌, sym}
-use Rattle.fab_disk.specs.declared.mem_disk.MemDisk.{MemDisk}
-use Rattle.brick_store.specs.Bricks.{Brick as Store}
-use Rattle.world.specs.Shown.{disk_in}
-use Rattle.world.proofs.DiskLemmas.{disks_same}
-use Rattle.world.proofs.BrickListLemmas.{on_at, proposing_refused, proposing_begun, asked_same}
+use Rattle.std.proofs.Common.{◌≡◌, true, false, sym, ◌∙◌}
+use Rattle.world.specs.BrickSteps.{DoesPropose}
+use Rattle.world.proofs.BrickListLemmas.{on_at, asked}
 use Rattle.world.proofs.bricks.ask_to_propose.Goals as goal
 
 pub unreachable-requires : goal.unreachable-requires
 unreachable-requires c =
     on_at c.args.bricks.now.items c.args.number c.index_mut-brick.result.now _ c.index_mut-brick.ensures.value c.in-Down.is c.requires
 
-pub returns-clause-refused : goal.returns-clause-refused
-returns-clause-refused c layout =
-    proposing_refused layout c.args.bricks.now.items c.args.number.0 c.index_mut-brick.result.now c.in-Up.node c.args.group c.propose.result
-    c.requires.within c.index_mut-brick.ensures.value c.in-Up.is c.propose.ensures.refused
-
-pub returns-clause-proposed : goal.returns-clause-proposed
-returns-clause-proposed c =
-    proposing_begun c.args.bricks.now.items c.args.number.0 c.index_mut-brick.result.now c.in-Up.node c.propose.new.self c.args.group c.args.members.now c.propose.result
-    c.requires.within c.index_mut-brick.ensures.value c.in-Up.is c.propose.ensures.same c.propose.ensures.brick c.propose.ensures.step
-
-pub returns-clause-err : goal.returns-clause-err
-returns-clause-err c =
-    asked_same c.args.bricks.now.items c.args.number.0 c.index_mut-brick.result.now c.in-Up.node c.propose.new.self c.propose.result
-    c.requires.within c.index_mut-brick.ensures.value c.in-Up.is c.propose.ensures.same c.propose.ensures.brick c.propose.ensures.err
-
-pub returns-clause-disks : goal.returns-clause-disks
-returns-clause-disks c =
-    disks_same c.args.bricks.now.items c.args.number.0 c.index_mut-brick.result.now _ c.index_mut-brick.ensures.value
-    (ap (λ (x : Store MemDisk). x.disk) c.propose.ensures.brick ∙ sym (ap disk_in c.in-Up.is))
+pub returns-clause-asks : goal.returns-clause-asks
+returns-clause-asks c =
+    asked c.args.bricks.now.items c.args.number c.index_mut-brick.result.now c.in-Up.node c.propose.new.self (DoesPropose c.args.group c.args.members.now c.propose.result)
+    c.requires.within c.index_mut-brick.ensures.value c.in-Up.is c.propose.ensures.same c.propose.ensures.brick
+    (record { refused = c.propose.ensures.refused; steps = c.propose.ensures.step; stays = c.propose.ensures.err })
 
 pub returns-clause-not_halted : goal.returns-clause-not_halted
 returns-clause-not_halted c = λ halted.
     let on =
     on_at c.args.bricks.now.items c.args.number c.index_mut-brick.result.now _ c.index_mut-brick.ensures.value c.in-Up.is c.requires
     in
-    let never : true ≡ false = sym (c.propose.ensures.only_halted halted) ∙ on.0 in
+    let never : true ≡ false = sym (c.propose.ensures.only_halted halted) ∙ on.runs in
     cc

@@ -3,11 +3,11 @@ use Rattle.std.proofs.Common.{inl, inr, refl, ◌∙◌, subst}
 use Rattle.brick_store.specs.declared.faults.OpenFault.{OpenFault}
 use Rattle.node.specs.Openings.{OpensBrick, stopped_by}
 use Rattle.world.specs.Faults.{in_memory, plan_of}
-use Rattle.world.proofs.DownLemmas.{IsArmed, started, cut_short, worn, rests_on}
+use Rattle.world.proofs.DownLemmas.{IsArmed, started, cut_short, worn, rests_still}
 use Rattle.world.proofs.bricks.open_over.Goals as goal
 
-pub returns-in-Ok-clause-turns : goal.returns-in-Ok-clause-turns
-returns-in-Ok-clause-turns c state after rests =
+pub returns-in-Ok : goal.returns-in-Ok
+returns-in-Ok c state after rests =
     let arms : IsArmed (plan_of c.args.fault) c.args.disk c.arm.new.self = record {
       content = c.arm.ensures.content;
       crash = c.arm.ensures.crash;
@@ -21,8 +21,8 @@ returns-in-Ok-clause-turns c state after rests =
     (c.in-Ok.ensures.listed tt) c.look.ensures.shape (c.look.ensures.listed (c.arm-in-Ok.ensures.halted ∙ c.in-Ok.ensures.runs))
     c.arm-in-Ok.ensures.room_left
 
-pub returns-in-Err-Disk-default-clause-turns : goal.returns-in-Err-Disk-default-clause-turns
-returns-in-Err-Disk-default-clause-turns c state after rests =
+pub returns-in-Err-Disk-default : goal.returns-in-Err-Disk-default
+returns-in-Err-Disk-default c state after rests =
     let arms : IsArmed (plan_of c.args.fault) c.args.disk c.arm.new.self = record {
       content = c.arm.ensures.content;
       crash = c.arm.ensures.crash;
@@ -34,8 +34,8 @@ returns-in-Err-Disk-default-clause-turns c state after rests =
     c.in-Err-Disk-default.ensures.opens)
     c.arm.ensures.certain c.left_by.ensures.left c.left_by.ensures.crash c.left_by.ensures.sound)
 
-pub returns-in-Err-Worn-default-clause-turns : goal.returns-in-Err-Worn-default-clause-turns
-returns-in-Err-Worn-default-clause-turns c state after rests =
+pub returns-in-Err-Worn-default : goal.returns-in-Err-Worn-default
+returns-in-Err-Worn-default c state after rests =
     let arms : IsArmed (plan_of c.args.fault) c.args.disk c.arm.new.self = record {
       content = c.arm.ensures.content;
       crash = c.arm.ensures.crash;
@@ -50,18 +50,17 @@ returns-in-Err-Worn-default-clause-turns c state after rests =
     (record { content = c.arm-in-Err-Worn-default.ensures.content; crash = c.arm-in-Err-Worn-default.ensures.crash })
     (c.arm-in-Err-Worn-default.ensures.again refl))
 
-pub returns-in-Err-NoMemory-default-clause-turns : goal.returns-in-Err-NoMemory-default-clause-turns
-returns-in-Err-NoMemory-default-clause-turns c state after rests =
+pub returns-in-Err-NoMemory-default : goal.returns-in-Err-NoMemory-default
+returns-in-Err-NoMemory-default c state after rests =
     let arms : IsArmed (plan_of c.args.fault) c.args.disk c.arm.new.self = record {
       content = c.arm.ensures.content;
       crash = c.arm.ensures.crash;
       planned = c.arm.ensures.planned ∙ c.plan_of.ensures;
       listed = c.arm.ensures.listed;
-    } in (
-      refl,
-      rests_on c.args.layout c.args.me state after c.args.fault c.args.disk c.arm.new.self rests arms c.in-Err-NoMemory-default.left
-          c.arm-in-Err-NoMemory-default.new.self
-          (subst (λ (fault : OpenFault). OpensBrick in_memory c.args.layout c.args.me c.arm.new.self c.in-Err-NoMemory-default.left (stopped_by fault)) c.in-Err-NoMemory-default.field-0-0-is
-          c.in-Err-NoMemory-default.ensures.opens)
-          c.arm-in-Err-NoMemory-default.ensures.crash (c.arm-in-Err-NoMemory-default.ensures.again refl),
-    )
+    } in
+    rests_still c.args.layout c.args.me state after c.args.fault c.args.disk c.arm.new.self rests arms c.in-Err-NoMemory-default.left
+    c.arm-in-Err-NoMemory-default.new.self
+    (subst (λ (fault : OpenFault). OpensBrick in_memory c.args.layout c.args.me c.arm.new.self c.in-Err-NoMemory-default.left (stopped_by fault)) c.in-Err-NoMemory-default.field-0-0-is
+    c.in-Err-NoMemory-default.ensures.opens)
+    (record { content = c.arm-in-Err-NoMemory-default.ensures.content; crash = c.arm-in-Err-NoMemory-default.ensures.crash })
+    (c.arm-in-Err-NoMemory-default.ensures.again refl)

@@ -11,10 +11,10 @@ open_over-requires c = (
   subst (λ (l : Layout). Rests l c.args.me c.requires.0 c.requires.1 c.args.disk) (sym c.in-Ok.ensures) c.requires.2,
 )
 
-pub returns-in-Ok-clause-turns : goal.returns-in-Ok-clause-turns
-returns-in-Ok-clause-turns c state after rests =
+pub returns-in-Ok : goal.returns-in-Ok
+returns-in-Ok c state after rests =
     subst (λ (l : Layout). TurnsOn l c.args.me state after c.args.disk c.args.fault c.open_over.result.0 c.open_over.result.1) c.in-Ok.ensures
-    (c.open_over.ensures.turns state after (subst (λ (l : Layout). Rests l c.args.me state after c.args.disk) (sym c.in-Ok.ensures) rests))
+    (c.open_over.ensures state after (subst (λ (l : Layout). Rests l c.args.me state after c.args.disk) (sym c.in-Ok.ensures) rests))
 
-pub returns-in-Err-clause-turns : goal.returns-in-Err-clause-turns
-returns-in-Err-clause-turns c state after rests = (refl, rests)
+pub returns-in-Err : goal.returns-in-Err
+returns-in-Err c state after rests = ((refl, rests), refl)

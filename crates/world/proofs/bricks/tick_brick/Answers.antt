@@ -19,8 +19,13 @@ memory_refused-requires c =
     (ap (λ (x : Brick). get_or c.args.bricks.now c.args.number.0 x) c.index-bricks-number.is)
     c.in-Up.is c.requires
     in
-    let runs = on.0 in
+    let runs = on.runs in
     grind (arith, common_steps)
+
+pub unreachable-requires : goal.unreachable-requires
+unreachable-requires c =
+    on_at c.args.bricks.now c.args.number (get_or c.args.bricks.now c.args.number.0 c.index-bricks-number.result) _
+    (ap (λ (x : Brick). get_or c.args.bricks.now c.args.number.0 x) c.index-bricks-number.is) c.in-Down.is c.requires
 
 pub returns-in-Ok : goal.returns-in-Ok
 returns-in-Ok c =

@@ -1,17 +1,13 @@
 -- The operation is that of the call.
-use Rattle.std.proofs.Common.{refl, ◌∙◌}
-use Rattle.std.proofs.lemmas.List.{with_items_is}
-use Rattle.world.proofs.HistoryLemmas.{number_is, has_number, tells_made}
+use Rattle.std.proofs.Common.{◌∙◌}
+use Rattle.world.specs.Shown.{made_kept}
+use Rattle.world.proofs.HistoryLemmas.{call_changes, call_stays}
 use Rattle.world.proofs.histories.History.made.Goals as goal
 
-pub returns-in-Some-clause-made : goal.returns-in-Some-clause-made
-returns-in-Some-clause-made c w seqs tells up of =
-    tells_made seqs c.args.self.now _ w c.args.brick.0 c.args.seq c.in-Some.number c.args.stamp c.args.base c.deref_mut.result.now c.note_made.new.operations tells
-    (number_is seqs c.args.self.now w c.args.brick.0 c.args.seq c.in-Some.number tells up of.0 of.1 c.in-Some.ensures)
-    c.deref_mut.ensures.value
-    (with_items_is c.args.self.now.operations c.note_made.new.operations (c.note_made.auto.operations ∙ c.deref_mut.ensures.len))
-    c.note_made.ensures c.note_made.auto.operations refl
+pub returns-in-Some : goal.returns-in-Some
+returns-in-Some c =
+    call_changes c.args.self.now c.args.brick.0 c.args.seq c.in-Some.number (made_kept c.args.stamp c.args.base) c.deref_mut.result.now _
+    c.in-Some.ensures c.deref_mut.ensures.value (c.note_made.auto.operations ∙ c.deref_mut.ensures.len) c.note_made.ensures
 
-pub returns-in_default-clause-made : goal.returns-in_default-clause-made
-returns-in_default-clause-made c w seqs tells up of =
-    absurd (has_number seqs c.args.self.now w c.args.brick.0 c.args.seq tells up of.0 of.1 c.in_default.ensures)
+pub returns-in_default : goal.returns-in_default
+returns-in_default c = call_stays c.args.self.now c.args.brick.0 c.args.seq (made_kept c.args.stamp c.args.base) c.in_default.ensures

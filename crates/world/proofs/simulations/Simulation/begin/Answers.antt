@@ -1,22 +1,23 @@
 -- The brick begins, or refuses, as the machine's does.
 use Rattle.std.proofs.Common.{◌≡◌, List, map, refl, sym, ap, ◌∙◌, subst}
-use Rattle.std.specs.Prelude.{Err, IfSome}
+use Rattle.std.specs.Prelude.{Ok, Err, IfSome}
 use Rattle.std.proofs.lemmas.Bool.{and_parts}
 use Rattle.stripe_code.specs.Codes.{coding}
-use Rattle.node.specs.Faults.{RefusesAs}
 use Rattle.node.specs.Running.{state_of}
 use Rattle.node.specs.declared.faults.NodeFault.{NodeFault}
-use Rattle.node.specs.declared.outs.Begun.{Begun}
+use Rattle.node.specs.declared.faults.NodeFault.TheVariants.{Refused}
 use Rattle.protocol.specs.Settings.{Setting}
-use Rattle.protocol.specs.Nodes.{Node, NodeStep, invoked, refusal_of}
+use Rattle.protocol.specs.Nodes.{Node, NodeStep, put, invoked}
 use Rattle.protocol.specs.Worlds.{is_brick}
-use Rattle.world.specs.Shown.{IsUp, running_at}
+use Rattle.world.specs.BrickSteps.{ChangesBrick, RunsOn, DoesBegin}
+use Rattle.world.specs.Shown.{IsUp, ShowsBricks, running_at, seqs_of}
 use Rattle.world.specs.declared.bricks.Brick.{Brick}
 use Rattle.world.specs.Texts.{refused_or_begun}
 use Rattle.world.proofs.MachineBegins.{refusal_here, invoked_boot, invoked_next, happens_refused}
 use Rattle.fab_disk.specs.MemDisk.{content_of}
 use Rattle.fab_disk.specs.declared.mem_disk.MemDisk.{MemDisk}
-use Rattle.world.proofs.BrickListLemmas.{boots_as, up_there}
+use Rattle.world.proofs.BrickListLemmas.{boots_as, disks_on, shows_on, shows_unput, up_there}
+use Rattle.world.proofs.HistoryLemmas.{tells_began, tells_same}
 use Rattle.world.proofs.SimulationLemmas.{on_err_always, shows_begun, shows_still}
 use Rattle.world.proofs.simulations.Simulation.begin.Goals as goal
 
@@ -26,58 +27,75 @@ ask_brick-requires c = c.requires
 pub boot_of-boot-requires : goal.boot_of-boot-requires
 boot_of-boot-requires c = subst (λ (bricks : List Brick). IsUp bricks c.args.brick) (sym c.deref.ensures.value) c.requires
 
+-- the room that was made tells nothing
 pub returns-in_err-expect_call-clause-err : goal.returns-in_err-expect_call-clause-err
 returns-in_err-expect_call-clause-err c =
     on_err_always c.from_residual.result
-    (record { shows = λ w shows. record { bricks = shows.bricks; history = c.expect_call.ensures.same w shows.history }; contents = refl })
+    (record {
+      shows = λ w shows. record { bricks = shows.bricks; history = tells_same (seqs_of w) _ _ w c.expect_call.ensures.same shows.history };
+      contents = refl;
+    })
 
 pub returns-in-Ok-clause-ok : goal.returns-in-Ok-clause-ok
-returns-in-Ok-clause-ok c = record {
-  shows = λ w reached shows.
-      (let setting : Setting = coding c.args.layout.now in
-      let node : Node = w.nodes c.args.brick.0 in
-      let step : NodeStep = invoked setting c.args.brick (w.clocks c.args.brick.0) node c.args.ask in
-      let none = c.in-Ok.ensures.refused c.args.layout.now w shows.bricks in
-      let begun = c.in-Ok.ensures.begun c.args.layout.now w shows.bricks in
-      let up = up_there c.args.layout.now _ w _ c.requires shows.bricks in
-      let boot : step.node.boot ≡ node.boot = invoked_boot setting c.args.brick (w.clocks c.args.brick.0) node c.args.ask in
-      let was : c.boot_of-boot.result ≡ node.boot =
-      boots_as c.args.layout.now c.args.self.now.bricks.items w c.args.brick c.boot_of-boot.result c.requires
-      (subst (λ (bricks : List Brick). IfSome (running_at bricks c.args.brick.0) (λ one. c.boot_of-boot.result ≡ (state_of one).boot))
-      c.deref.ensures.value c.boot_of-boot.ensures) shows.bricks in
-      shows_begun c.args.layout.now _ w c.args.brick c.args.ask up none begun.2
-      (c.begin.ensures step begun.0 (was ∙ sym boot) begun.1 w (c.expect_call.ensures.same w shows.history)
-      (and_parts (is_brick c.args.layout.now c.args.brick) (w.up c.args.brick.0) up).1
-      (record { boot = boot; seq = invoked_next setting c.args.brick (w.clocks c.args.brick.0) node c.args.ask none })));
-  outcome_is = λ w shows.
-      sym (ap refused_or_begun (refusal_here (coding c.args.layout.now) w c.args.brick c.args.ask (up_there c.args.layout.now _ w _ c.requires shows.bricks)
-      ∙ c.in-Ok.ensures.refused c.args.layout.now w shows.bricks));
-  disks = c.in-Ok.ensures.disks;
-}
+returns-in-Ok-clause-ok c =
+    let layout = c.args.layout.now in
+    let brick = c.args.brick in
+    let setting : Setting = coding layout in
+    record {
+      shows = λ w reached shows.
+          (let node : Node = w.nodes brick.0 in
+          let step : NodeStep = invoked setting brick (w.clocks brick.0) node c.args.ask in
+          let did = shows_on w (DoesBegin c.args.ask (Ok c.in-Ok.begun)) shows.bricks c.in-Ok.ensures.asks in
+          let begun = did.holds.begun in
+          let up = up_there layout _ w _ c.requires shows.bricks in
+          let boot : step.node.boot ≡ node.boot = invoked_boot setting brick (w.clocks brick.0) node c.args.ask in
+          let was : c.boot_of-boot.result ≡ node.boot =
+          boots_as layout c.args.self.now.bricks.items w brick c.boot_of-boot.result c.requires
+          (subst (λ (bricks : List Brick). IfSome (running_at bricks brick.0) (λ one. c.boot_of-boot.result ≡ (state_of one).boot))
+          c.deref.ensures.value c.boot_of-boot.ensures) shows.bricks in
+          shows_begun layout _ w brick c.args.ask up did.holds.refused
+          (subst (λ (n : Node). ShowsBricks layout c.ask_brick.new.bricks.items (put w.nodes brick.0 n) w.after w.up w.clocks) begun.state_is did.bricks)
+          (tells_began c.expect_call.new.self c.begin.new.self w brick c.boot_of-boot.result c.args.ask c.in-Ok.begun step
+          (tells_same (seqs_of w) _ _ w c.expect_call.ensures.same shows.history) (and_parts (is_brick layout brick) (w.up brick.0) up).1
+          begun.packets (was ∙ sym boot) begun.seq boot (invoked_next setting brick (w.clocks brick.0) node c.args.ask did.holds.refused) c.begin.ensures));
+      outcome_is = λ w shows.
+          sym (ap refused_or_begun (refusal_here setting w brick c.args.ask (up_there layout _ w _ c.requires shows.bricks)
+          ∙ (shows_on w (DoesBegin c.args.ask (Ok c.in-Ok.begun)) shows.bricks c.in-Ok.ensures.asks).holds.refused));
+      disks = disks_on (DoesBegin c.args.ask (Ok c.in-Ok.begun)) c.in-Ok.ensures.asks;
+    }
 
 pub returns-in-Err-Refused-clause-ok : goal.returns-in-Err-Refused-clause-ok
-returns-in-Err-Refused-clause-ok c = record {
-  shows = λ w reached shows.
-      shows_still c.args.layout.now _ w _ (happens_refused (coding c.args.layout.now) w c.args.brick c.args.ask c.in-Err-Refused.refusal
-      (subst (λ (fault : NodeFault). RefusesAs {T = Begun} (Err fault)
-      (refusal_of c.args.layout.now (w.nodes c.args.brick.0) c.args.ask)) c.in-Err-Refused.field-0-is
-      (c.in-Err-Refused.ensures.refused c.args.layout.now w shows.bricks)))
-      (record {
-        bricks = c.in-Err-Refused.ensures.err c.args.layout.now w shows.bricks;
-        history = c.expect_call.ensures.same w shows.history;
-      });
-  outcome_is = λ w shows.
-      rw c.in-Err-Refused.field-0-is
-      (sym (ap refused_or_begun (refusal_here (coding c.args.layout.now) w c.args.brick c.args.ask (up_there c.args.layout.now _ w _ c.requires shows.bricks)
-      ∙ subst (λ (fault : NodeFault). RefusesAs {T = Begun} (Err fault)
-      (refusal_of c.args.layout.now (w.nodes c.args.brick.0) c.args.ask)) c.in-Err-Refused.field-0-is
-      (c.in-Err-Refused.ensures.refused c.args.layout.now w shows.bricks))));
-  disks = c.in-Err-Refused.ensures.disks;
-}
+returns-in-Err-Refused-clause-ok c =
+    let layout = c.args.layout.now in
+    let brick = c.args.brick in
+    let asks = subst (λ (fault : NodeFault). ChangesBrick c.args.self.now.bricks.items c.ask_brick.new.bricks.items brick (RunsOn (DoesBegin c.args.ask (Err fault))))
+    c.in-Err-Refused.field-0-is c.in-Err-Refused.ensures.asks in
+    record {
+      shows = λ w reached shows.
+          (let did = shows_on w (DoesBegin c.args.ask (Err (Refused c.in-Err-Refused.refusal))) shows.bricks asks in
+          shows_still layout _ w _ (happens_refused (coding layout) w brick c.args.ask c.in-Err-Refused.refusal did.holds.refused)
+          (record {
+            bricks = shows_unput layout _ brick.0 w did.next did.holds.stays did.bricks;
+            history = tells_same (seqs_of w) _ _ w c.expect_call.ensures.same shows.history;
+          }));
+      outcome_is = λ w shows.
+          (let did = shows_on w (DoesBegin c.args.ask (Err (Refused c.in-Err-Refused.refusal))) shows.bricks asks in
+          rw c.in-Err-Refused.field-0-is (sym (ap refused_or_begun (refusal_here (coding layout) w brick c.args.ask (up_there layout _ w _ c.requires shows.bricks) ∙ did.holds.refused))));
+      disks = disks_on (DoesBegin c.args.ask (Err (Refused c.in-Err-Refused.refusal))) asks;
+    }
 
 pub returns-in-Err-NoMemory-clause-err : goal.returns-in-Err-NoMemory-clause-err
-returns-in-Err-NoMemory-clause-err c = record {
-  shows = λ w shows.
-      record { bricks = c.in-Err-NoMemory.ensures.err c.args.layout.now w shows.bricks; history = c.expect_call.ensures.same w shows.history };
-  contents = ap (λ (disks : List MemDisk). map content_of disks) c.in-Err-NoMemory.ensures.disks;
-}
+returns-in-Err-NoMemory-clause-err c =
+    let layout = c.args.layout.now in
+    let brick = c.args.brick in
+    record {
+      shows = λ w shows.
+          (let did = shows_on w (DoesBegin c.args.ask (Err c.in-Err-NoMemory.field-0)) shows.bricks
+          c.in-Err-NoMemory.ensures.asks in
+          record {
+            bricks = shows_unput layout _ brick.0 w did.next did.holds.stays did.bricks;
+            history = tells_same (seqs_of w) _ _ w c.expect_call.ensures.same shows.history;
+          });
+      contents = ap (λ (disks : List MemDisk). map content_of disks)
+          (disks_on (DoesBegin c.args.ask (Err c.in-Err-NoMemory.field-0)) c.in-Err-NoMemory.ensures.asks);
+    }

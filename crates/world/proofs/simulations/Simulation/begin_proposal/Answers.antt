@@ -1,18 +1,20 @@
 -- The brick proposes, or refuses, as the machine's does.
 use Rattle.std.proofs.Common.{List, map, refl, sym, ap, ◌∙◌, subst}
-use Rattle.std.specs.Prelude.{Err}
+use Rattle.std.specs.Prelude.{Ok, Err}
 use Rattle.std.proofs.lemmas.Bool.{and_parts}
 use Rattle.fab_disk.specs.MemDisk.{content_of}
 use Rattle.fab_disk.specs.declared.mem_disk.MemDisk.{MemDisk}
 use Rattle.stripe_code.specs.Codes.{coding}
-use Rattle.node.specs.Faults.{RefusesAs}
-use Rattle.node.specs.Outcomes.{Outcome as Sent}
 use Rattle.node.specs.declared.faults.NodeFault.{NodeFault}
+use Rattle.node.specs.declared.faults.NodeFault.TheVariants.{Refused}
 use Rattle.protocol.specs.Settings.{Setting}
-use Rattle.protocol.specs.Nodes.{NodeStep, proposal_refusal, proposed}
+use Rattle.protocol.specs.Nodes.{Node, NodeStep, put, proposed}
 use Rattle.protocol.specs.Worlds.{is_brick}
 use Rattle.world.specs.Texts.{refused_or_begun}
-use Rattle.world.proofs.BrickListLemmas.{up_there}
+use Rattle.world.specs.BrickSteps.{ChangesBrick, RunsOn, DoesPropose}
+use Rattle.world.specs.Shown.{ShowsBricks, seqs_of}
+use Rattle.world.proofs.BrickListLemmas.{disks_on, shows_on, shows_unput, up_there}
+use Rattle.world.proofs.HistoryLemmas.{tells_proposed, tells_same}
 use Rattle.world.proofs.MachineBegins.{proposed_aside, unproposed_here, happens_unproposed}
 use Rattle.world.proofs.RunLaws.{reached_next}
 use Rattle.world.proofs.SimulationLemmas.{on_err_always, shows_proposed, shows_still}
@@ -21,60 +23,77 @@ use Rattle.world.proofs.simulations.Simulation.begin_proposal.Goals as goal
 pub ask_to_propose-requires : goal.ask_to_propose-requires
 ask_to_propose-requires c = c.requires
 
+-- the room that was made tells nothing
 pub returns-in_err-expect_call-clause-err : goal.returns-in_err-expect_call-clause-err
 returns-in_err-expect_call-clause-err c =
     on_err_always c.from_residual.result
-    (record { shows = λ w shows. record { bricks = shows.bricks; history = c.expect_call.ensures.same w shows.history }; contents = refl })
+    (record {
+      shows = λ w shows. record { bricks = shows.bricks; history = tells_same (seqs_of w) _ _ w c.expect_call.ensures.same shows.history };
+      contents = refl;
+    })
 
 pub returns-in-Ok-clause-ok : goal.returns-in-Ok-clause-ok
-returns-in-Ok-clause-ok c = record {
-  shows = λ w reached shows.
-      (let setting : Setting = coding c.args._layout.now in
-      let step : NodeStep = proposed setting c.args.brick (w.nodes c.args.brick.0) c.args.group c.args.members.now in
-      let none = c.in-Ok.ensures.refused c.args._layout.now w shows.bricks in
-      let did = c.in-Ok.ensures.proposed c.args._layout.now w shows.bricks in
-      let up = up_there c.args._layout.now _ w _ c.requires shows.bricks in
-      let aside = proposed_aside setting c.args.brick (w.nodes c.args.brick.0) c.args.group c.args.members.now none in
-      shows_proposed c.args._layout.now _ w c.args.brick c.args.group c.args.members.now up none did.bricks
-      (c.propose.ensures setting step did.packets did.reports w (c.expect_call.ensures.same w shows.history)
-      (and_parts (is_brick c.args._layout.now c.args.brick) (w.up c.args.brick.0) up).1
-      (record {
-        boot = aside.boot;
-        told = aside.told;
-        answers = aside.answers;
-        seq = aside.seq;
-        unnumbered = reached_next c.args._layout.now w reached c.args.brick.0;
-      })));
-  outcome_is = λ w shows.
-      sym (ap refused_or_begun (unproposed_here (coding c.args._layout.now) w c.args.brick c.args.group
-      (up_there c.args._layout.now _ w _ c.requires shows.bricks) ∙ c.in-Ok.ensures.refused c.args._layout.now w shows.bricks));
-  disks = c.in-Ok.ensures.disks;
-}
+returns-in-Ok-clause-ok c =
+    let layout = c.args._layout.now in
+    let brick = c.args.brick in
+    let setting : Setting = coding layout in
+    record {
+      shows = λ w reached shows.
+          (let step : NodeStep = proposed setting brick (w.nodes brick.0) c.args.group c.args.members.now in
+          let did = shows_on w (DoesPropose c.args.group c.args.members.now (Ok c.in-Ok.outs)) shows.bricks
+          c.in-Ok.ensures.asks in
+          let steps = did.holds.steps in
+          let up = up_there layout _ w _ c.requires shows.bricks in
+          let aside = proposed_aside setting brick (w.nodes brick.0) c.args.group c.args.members.now did.holds.refused in
+          shows_proposed layout _ w brick c.args.group c.args.members.now up did.holds.refused
+          (subst (λ (n : Node). ShowsBricks layout c.ask_to_propose.new.bricks.items (put w.nodes brick.0 n) w.after w.up w.clocks) steps.state_is did.bricks)
+          (tells_proposed setting c.expect_call.new.self c.propose.new.self w brick c.in-Ok.outs step
+          (tells_same (seqs_of w) _ _ w c.expect_call.ensures.same shows.history) (and_parts (is_brick layout brick) (w.up brick.0) up).1
+          (record {
+            boot = aside.boot;
+            told = aside.told;
+            answers = aside.answers;
+            seq = aside.seq;
+            unnumbered = reached_next layout w reached brick.0;
+          }) steps.packets steps.reports c.propose.ensures));
+      outcome_is = λ w shows.
+          sym (ap refused_or_begun (unproposed_here setting w brick c.args.group (up_there layout _ w _ c.requires shows.bricks)
+          ∙ (shows_on w (DoesPropose c.args.group c.args.members.now (Ok c.in-Ok.outs)) shows.bricks c.in-Ok.ensures.asks).holds.refused));
+      disks = disks_on (DoesPropose c.args.group c.args.members.now (Ok c.in-Ok.outs)) c.in-Ok.ensures.asks;
+    }
 
 pub returns-in-Err-Refused-clause-ok : goal.returns-in-Err-Refused-clause-ok
-returns-in-Err-Refused-clause-ok c = record {
-  shows = λ w reached shows.
-      shows_still c.args._layout.now _ w _ (happens_unproposed (coding c.args._layout.now) w c.args.brick c.args.group c.args.members.now c.in-Err-Refused.refusal
-      (subst (λ (fault : NodeFault). RefusesAs {T = Sent} (Err fault)
-      (proposal_refusal c.args._layout.now (w.nodes c.args.brick.0) c.args.group.0)) c.in-Err-Refused.field-0-is
-      (c.in-Err-Refused.ensures.refused c.args._layout.now w shows.bricks)))
-      (record {
-        bricks = c.in-Err-Refused.ensures.err c.args._layout.now w shows.bricks;
-        history = c.expect_call.ensures.same w shows.history;
-      });
-  outcome_is = λ w shows.
-      rw c.in-Err-Refused.field-0-is
-      (sym (ap refused_or_begun (unproposed_here (coding c.args._layout.now) w c.args.brick c.args.group
-      (up_there c.args._layout.now _ w _ c.requires shows.bricks)
-      ∙ subst (λ (fault : NodeFault). RefusesAs {T = Sent} (Err fault)
-      (proposal_refusal c.args._layout.now (w.nodes c.args.brick.0) c.args.group.0)) c.in-Err-Refused.field-0-is
-      (c.in-Err-Refused.ensures.refused c.args._layout.now w shows.bricks))));
-  disks = c.in-Err-Refused.ensures.disks;
-}
+returns-in-Err-Refused-clause-ok c =
+    let layout = c.args._layout.now in
+    let brick = c.args.brick in
+    let asks = subst (λ (fault : NodeFault). ChangesBrick c.args.self.now.bricks.items c.ask_to_propose.new.bricks.items brick (RunsOn (DoesPropose c.args.group c.args.members.now (Err fault))))
+    c.in-Err-Refused.field-0-is c.in-Err-Refused.ensures.asks in
+    record {
+      shows = λ w reached shows.
+          (let did = shows_on w (DoesPropose c.args.group c.args.members.now (Err (Refused c.in-Err-Refused.refusal))) shows.bricks asks in
+          shows_still layout _ w _ (happens_unproposed (coding layout) w brick c.args.group c.args.members.now c.in-Err-Refused.refusal did.holds.refused)
+          (record {
+            bricks = shows_unput layout _ brick.0 w did.next did.holds.stays did.bricks;
+            history = tells_same (seqs_of w) _ _ w c.expect_call.ensures.same shows.history;
+          }));
+      outcome_is = λ w shows.
+          (let did = shows_on w (DoesPropose c.args.group c.args.members.now (Err (Refused c.in-Err-Refused.refusal))) shows.bricks asks in
+          rw c.in-Err-Refused.field-0-is (sym (ap refused_or_begun (unproposed_here (coding layout) w brick c.args.group (up_there layout _ w _ c.requires shows.bricks) ∙ did.holds.refused))));
+      disks = disks_on (DoesPropose c.args.group c.args.members.now (Err (Refused c.in-Err-Refused.refusal))) asks;
+    }
 
 pub returns-in-Err-NoMemory-clause-err : goal.returns-in-Err-NoMemory-clause-err
-returns-in-Err-NoMemory-clause-err c = record {
-  shows = λ w shows.
-      record { bricks = c.in-Err-NoMemory.ensures.err c.args._layout.now w shows.bricks; history = c.expect_call.ensures.same w shows.history };
-  contents = ap (λ (disks : List MemDisk). map content_of disks) c.in-Err-NoMemory.ensures.disks;
-}
+returns-in-Err-NoMemory-clause-err c =
+    let layout = c.args._layout.now in
+    let brick = c.args.brick in
+    record {
+      shows = λ w shows.
+          (let did = shows_on w (DoesPropose c.args.group c.args.members.now (Err c.in-Err-NoMemory.field-0)) shows.bricks
+          c.in-Err-NoMemory.ensures.asks in
+          record {
+            bricks = shows_unput layout _ brick.0 w did.next did.holds.stays did.bricks;
+            history = tells_same (seqs_of w) _ _ w c.expect_call.ensures.same shows.history;
+          });
+      contents = ap (λ (disks : List MemDisk). map content_of disks)
+          (disks_on (DoesPropose c.args.group c.args.members.now (Err c.in-Err-NoMemory.field-0)) c.in-Err-NoMemory.ensures.asks);
+    }

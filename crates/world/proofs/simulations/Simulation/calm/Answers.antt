@@ -3,9 +3,10 @@ use Rattle.std.proofs.Common.{◌≡◌, ℕ, Bool, true, false, map, sym, ◌�
 use Rattle.protocol.specs.Calms.{IsCalm, operation_marked}
 use Rattle.stripe_code.specs.Codes.{coding}
 use Rattle.world.specs.Runs.{brick_of}
-use Rattle.world.specs.Shown.{Shows, HasRun, HasBegun, HasMarks, disks_of}
+use Rattle.world.specs.Shown.{Shows, HasRun, HasBegun, HasMarks, disks_of, seqs_of}
 use Rattle.world.proofs.CalmEnds.{run_comes, begun_refused}
 use Rattle.world.proofs.HavingMarks.{marked_has}
+use Rattle.world.proofs.HistoryLemmas.{tells_same}
 use Rattle.world.proofs.KeptNumbers.{none_told}
 use Rattle.world.proofs.SimulationLemmas.{on_err_always}
 use Rattle.world.proofs.DeliveryLemmas.{idle_comes}
@@ -13,12 +14,12 @@ use Rattle.world.proofs.simulations.Simulation.calm.Goals as goal
 
 pub run_alone-requires : goal.run_alone-requires
 run_alone-requires c =
-    let (w, reached, shown) = c.requires in (w, reached, record { bricks = shown.bricks; history = c.chain_sent.ensures w shown.history })
+    let (w, reached, shown) = c.requires in (w, reached, record { bricks = shown.bricks; history = tells_same (seqs_of w) _ _ w c.chain_sent.ensures shown.history })
 
 pub returns-then-not-is_calm-clause-ok : goal.returns-then-not-is_calm-clause-ok
 returns-then-not-is_calm-clause-ok c w reached shown =
     let shows : Shows c.args.layout.now (record c.args.self.now { history = c.chain_sent.new.self }) w =
-    record { bricks = shown.bricks; history = c.chain_sent.ensures w shown.history } in
+    record { bricks = shown.bricks; history = tells_same (seqs_of w) _ _ w c.chain_sent.ensures shown.history } in
     let number : c.number_marked-operation.result ≡ operation_marked w c.args.mark = c.number_marked-operation.ensures ∙ shows.history.marked.each c.args.mark in
     idle_comes c.args.layout.now w (record c.args.self.now { history = c.chain_sent.new.self }) c.args.mark c.args.bricks.now
     (λ calm. absurd (let never : true ≡ false =
@@ -28,7 +29,7 @@ returns-then-not-is_calm-clause-ok c w reached shown =
 pub returns-then-branch-clause-ok : goal.returns-then-branch-clause-ok
 returns-then-branch-clause-ok c w reached shown =
     let shows : Shows c.args.layout.now (record c.args.self.now { history = c.chain_sent.new.self }) w =
-    record { bricks = shown.bricks; history = c.chain_sent.ensures w shown.history } in
+    record { bricks = shown.bricks; history = tells_same (seqs_of w) _ _ w c.chain_sent.ensures shown.history } in
     let number : c.number_marked-operation.result ≡ operation_marked w c.args.mark = c.number_marked-operation.ensures ∙ shows.history.marked.each c.args.mark in
     let calm = (c.is_calm.ensures w reached shows).0 c.if-not-is_calm.false in
     let marked = subst (HasMarks w) (sym number) (marked_has w c.args.mark (none_told _ w.operations shows.history.operations)) in
@@ -41,7 +42,7 @@ returns-then-branch-clause-ok c w reached shown =
 pub returns-else-branch-clause-ok : goal.returns-else-branch-clause-ok
 returns-else-branch-clause-ok c w reached shown =
     let shows : Shows c.args.layout.now (record c.args.self.now { history = c.chain_sent.new.self }) w =
-    record { bricks = shown.bricks; history = c.chain_sent.ensures w shown.history } in
+    record { bricks = shown.bricks; history = tells_same (seqs_of w) _ _ w c.chain_sent.ensures shown.history } in
     let number : c.number_marked-operation.result ≡ operation_marked w c.args.mark = c.number_marked-operation.ensures ∙ shows.history.marked.each c.args.mark in
     let calm = (c.is_calm.ensures w reached shows).0 c.if-not-is_calm.false in
     let marked = subst (HasMarks w) (sym number) (marked_has w c.args.mark (none_told _ w.operations shows.history.operations)) in
@@ -56,7 +57,7 @@ returns-in_err-run_alone-clause-err c =
     on_err_always c.from_residual.result
     (λ w reached shown.
     (let shows : Shows c.args.layout.now (record c.args.self.now { history = c.chain_sent.new.self }) w =
-    record { bricks = shown.bricks; history = c.chain_sent.ensures w shown.history } in
+    record { bricks = shown.bricks; history = tells_same (seqs_of w) _ _ w c.chain_sent.ensures shown.history } in
     let number : c.number_marked-operation.result ≡ operation_marked w c.args.mark = c.number_marked-operation.ensures ∙ shows.history.marked.each c.args.mark in
     let calm = (c.is_calm.ensures w reached shows).0 c.if-not-is_calm.false in
     let marked = subst (HasMarks w) (sym number) (marked_has w c.args.mark (none_told _ w.operations shows.history.operations)) in

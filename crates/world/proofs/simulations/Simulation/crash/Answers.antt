@@ -1,12 +1,15 @@
 -- A brick that is up stops as the machine's does, with its mark.
-use Rattle.std.proofs.Common.{◌≡◌, true, None, arith, refl, subst}
+use Rattle.std.proofs.Common.{◌≡◌, true, None, ap, arith, refl, subst}
 use Rattle.fab_base.specs.declared.identities.BrickId.{BrickId}
 use Rattle.stripe_code.specs.Codes.{coding}
-use Rattle.protocol.specs.Worlds.{Stops, is_up, happens}
+use Rattle.std.proofs.lemmas.Bool.{and_parts}
+use Rattle.protocol.specs.Worlds.{Stops, is_brick, is_up, happens}
 use Rattle.world.specs.Runs.{brick_of}
-use Rattle.world.specs.Shown.{Shows}
+use Rattle.world.specs.Shown.{Shows, disk_in, seqs_of}
 use Rattle.world.specs.declared.simulations.Simulation.{Simulation}
 use Rattle.world.proofs.BrickListLemmas.{down_at, up_at, up_there, shows_stopped}
+use Rattle.world.proofs.DiskLemmas.{disks_kept}
+use Rattle.world.proofs.HistoryLemmas.{tells_crashed, tells_same}
 use Rattle.world.proofs.MachineBegins.{happens_unstopped}
 use Rattle.world.proofs.SimulationLemmas.{on_err_always, shows_crashed, shows_still, done_here, done_nowhere}
 use Rattle.world.proofs.simulations.Simulation.crash.Goals as goal
@@ -14,7 +17,10 @@ use Rattle.world.proofs.simulations.Simulation.crash.Goals as goal
 pub returns-in_err-make_room-clause-err : goal.returns-in_err-make_room-clause-err
 returns-in_err-make_room-clause-err c =
     on_err_always c.from_residual.result
-    (record { shows = λ w shows. record { bricks = shows.bricks; history = c.make_room.ensures.same w shows.history }; contents = refl })
+    (record {
+      shows = λ w shows. record { bricks = shows.bricks; history = tells_same (seqs_of w) _ _ w c.make_room.ensures.same shows.history };
+      contents = refl;
+    })
 
 pub stop_brick-requires : goal.stop_brick-requires
 stop_brick-requires c =
@@ -36,20 +42,19 @@ returns-in-None-clause-ok c = record {
 }
 
 pub returns-clause-ok : goal.returns-clause-ok
-returns-clause-ok c = record {
-  shows = λ w reached shows.
-      (let found =
-      up_at _ _ c.args.brick (brick_of c.args.brick) c.in-Some.brick c.deref.ensures.value refl c.in-Some.ensures
-      in
-      let state : Simulation = record { bricks = c.stop_brick.new.bricks; history = c.crash.new.self } in
-      subst (λ (brick : BrickId). Shows c.args.layout.now state (happens (coding c.args.layout.now) w (Stops brick None))) found.0
-      (shows_crashed c.args.layout.now state w c.in-Some.brick (up_there c.args.layout.now _ w _ found.1 shows.bricks) (shows_stopped c.args.layout.now _ _ w c.in-Some.brick found.1 c.stop_brick.ensures.stops shows.bricks)
-      (c.crash.ensures (coding c.args.layout.now) w (c.make_room.ensures.same w shows.history))));
-  outcome_is = λ w shows.
-      (let found =
-      up_at _ _ c.args.brick (brick_of c.args.brick) c.in-Some.brick c.deref.ensures.value refl c.in-Some.ensures
-      in
-      done_here c.args.layout.now w (brick_of c.args.brick)
-      (subst (λ (brick : BrickId). is_up c.args.layout.now w brick ≡ true) found.0 (up_there c.args.layout.now _ w _ found.1 shows.bricks)));
-  disks = c.stop_brick.ensures.disks;
-}
+returns-clause-ok c =
+    let layout = c.args.layout.now in
+    let found = up_at _ _ c.args.brick (brick_of c.args.brick) c.in-Some.brick c.deref.ensures.value refl c.in-Some.ensures in
+    record {
+      shows = λ w reached shows.
+          (let state : Simulation = record { bricks = c.stop_brick.new.bricks; history = c.crash.new.self } in
+          let up = up_there layout _ w _ found.1 shows.bricks in
+          subst (λ (brick : BrickId). Shows layout state (happens (coding layout) w (Stops brick None))) found.0
+          (shows_crashed layout state w c.in-Some.brick up
+          (shows_stopped w (and_parts (is_brick layout c.in-Some.brick) (w.up c.in-Some.brick.0) up).1 shows.bricks c.stop_brick.ensures)
+          (tells_crashed (coding layout) _ _ w c.in-Some.brick (tells_same (seqs_of w) _ _ w c.make_room.ensures.same shows.history) c.crash.ensures)));
+      outcome_is = λ w shows.
+          done_here layout w (brick_of c.args.brick)
+          (subst (λ (brick : BrickId). is_up layout w brick ≡ true) found.0 (up_there layout _ w _ found.1 shows.bricks));
+      disks = disks_kept c.stop_brick.ensures (ap disk_in c.stop_brick.ensures.holds);
+    }

@@ -1,23 +1,26 @@
 -- The message is the machine's, and its brick handles it as the machine's does.
 use Rattle.std.proofs.Common.{◌≡◌, ◌≤◌, ℕ, zero, suc, true, false, get_or, List, Option, Some, None, Ok, refl, sym, ap, ◌∙◌, subst, arith}
 use Rattle.std.proofs.lemmas.Bool.{and_parts}
+use Rattle.fab_base.specs.declared.faults.NoMem.TheVariants.{NoMemory}
 use Rattle.fab_base.specs.declared.identities.BrickId.{BrickId}
 use Rattle.messages.specs.declared.packets.Packet.{Packet}
 use Rattle.node.specs.Outcomes.{Outcome as Sent}
 use Rattle.stripe_code.specs.Codes.{coding}
 use Rattle.protocol.specs.Nodes.{NodeStep, put, received}
-use Rattle.protocol.specs.Worlds.{World, is_brick, is_up, packet_of, world_stepped, world_stopped}
+use Rattle.protocol.specs.Worlds.{World, is_brick, is_up, packet_of}
 use Rattle.protocol.proofs.Events.{world_counting}
-use Rattle.world.specs.Disks.{KeepsOthers}
-use Rattle.world.specs.Shown.{HandledAs, HandledWhole, HandledPart, Tells, disks_of, seqs_of}
+use Rattle.world.specs.BrickSteps.{ChangesBrick, DoesHandle}
+use Rattle.world.specs.Noted.{IsSameHistory, NotesCrash, NotesStep}
+use Rattle.world.specs.Shown.{Tells, seqs_of}
+use Rattle.world.specs.declared.bricks.Brick.{Brick}
 use Rattle.world.specs.CallNumbers.{calls_in}
 use Rattle.world.specs.declared.call_numbers.CallNumbers.{CallNumbers}
 use Rattle.world.specs.declared.deliveries.Deliveries.{Deliveries}
 use Rattle.world.specs.declared.histories.History.{History}
-use Rattle.world.specs.declared.simulations.Simulation.{Simulation}
-use Rattle.world.proofs.BrickListLemmas.{down_at, up_at, up_there}
+use Rattle.world.proofs.BrickListLemmas.{down_at, handled_contents, handled_kept, takes_there, up_at, up_there}
 use Rattle.world.proofs.DeliveryLemmas.{unsent_comes, astray_comes, whole_comes, part_comes}
-use Rattle.world.proofs.HistoryLemmas.{tells_same}
+use Rattle.world.proofs.HistoryLemmas.{tells_same, tells_delivered, tells_crashed}
+use Rattle.world.proofs.HearingLemmas.{tells_step}
 use Rattle.world.proofs.MachineSteps.{received_opens_reads}
 use Rattle.world.proofs.RunLaws.{reached_numbered}
 use Rattle.world.proofs.SimulationLemmas.{on_err_always, tells_replies}
@@ -34,16 +37,25 @@ some_number packets zero packet is = absurd (let never : Some packet ≡ None = 
 some_number packets (suc k) packet is = omega arith
 
 -- the room that was made, and the notes that no message was delivered, tell nothing
-still : (old new : History) (w : World) → ((w : World) → Tells old w → Tells new w) → (d : Deliveries)
+still : (old new : History) (w : World) → IsSameHistory old new → (d : Deliveries)
     → ((k : ℕ) → get_or d.reached.items k false ≡ get_or new.delivered.reached.items k false) → (calls : CallNumbers)
     → ((i : ℕ) → calls_in calls i ≡ calls_in new.calls i) → Tells old w → Tells (record new { delivered = d; calls = calls }) w
 still old new w same d reached calls are tells =
-    tells_same (seqs_of w) new (record new { delivered = d; calls = calls }) w refl reached refl refl refl refl are (same w tells)
+    tells_same (seqs_of w) old (record new { delivered = d; calls = calls }) w
+    (record {
+      sent = same.sent;
+      reached = λ k. reached k ∙ same.reached k;
+      marks = same.marks;
+      reports = same.reports;
+      operations = same.operations;
+      marked = same.marked;
+      calls = λ i. are i ∙ same.calls i;
+    }) tells
 
 pub returns-in_err-make_room-clause-err : goal.returns-in_err-make_room-clause-err
 returns-in_err-make_room-clause-err c =
     on_err_always c.from_residual.result
-    (record { shows = λ w shows. record { bricks = shows.bricks; history = c.make_room.ensures.same w shows.history }; contents = refl })
+    (record { shows = λ w shows. record { bricks = shows.bricks; history = tells_same (seqs_of w) _ _ w c.make_room.ensures.same shows.history }; contents = refl })
 
 pub returns-in_err-expect-clause-err : goal.returns-in_err-expect-clause-err
 returns-in_err-expect-clause-err c =
@@ -69,28 +81,33 @@ returns-in_err-reserve-clause-err c =
 
 pub returns-in_err-outs-clause-err : goal.returns-in_err-outs-clause-err
 returns-in_err-outs-clause-err c =
+    let layout = c.args.layout.now in
+    let to : BrickId = c.in-Some-find_up.to in
+    let found = up_at _ _ c.from.result c.in-Some.packet.now.to to c.deref-2.ensures.value c.from.ensures c.in-Some-find_up.ensures in
+    let handles = c.in_err-outs.ensures.handles in
     on_err_always c.from_residual-in_err-outs.result
     (record {
       shows = λ w shows. record {
-        bricks = c.in_err-outs.ensures.handled c.args.layout.now w shows.bricks;
+        bricks = handled_kept c.in-Some.packet.now c.args.fault NoMemory w
+            (and_parts (is_brick layout to) (w.up to.0) (up_there layout _ w _ found.1 shows.bricks)).1 shows.bricks handles;
         history = still c.args.self.now.history c.make_room.new.self w c.make_room.ensures.same _ c.expect.ensures.same _ c.reserve.ensures.same shows.history;
       };
-      contents = c.in_err-outs.ensures.contents;
+      contents = handled_contents c.in-Some.packet.now c.args.fault NoMemory handles;
     })
 
 pub returns-in-None-clause-ok : goal.returns-in-None-clause-ok
 returns-in-None-clause-ok c w reached shows =
     unsent_comes c.args.layout.now w (record { bricks = c.args.self.now.bricks; history = c.make_room.new.self }) c.args.message c.args.fault
-    (the_packet _ _ _ c.args.message _ c.deref.ensures.value (c.make_room.ensures.same w shows.history).packets c.in-None.ensures)
-    (record { bricks = shows.bricks; history = c.make_room.ensures.same w shows.history })
+    (the_packet _ _ _ c.args.message _ c.deref.ensures.value (tells_same (seqs_of w) _ _ w c.make_room.ensures.same shows.history).packets c.in-None.ensures)
+    (record { bricks = shows.bricks; history = tells_same (seqs_of w) _ _ w c.make_room.ensures.same shows.history })
 
 pub returns-in-None-find_up-clause-ok : goal.returns-in-None-find_up-clause-ok
 returns-in-None-find_up-clause-ok c w reached shows =
     astray_comes c.args.layout.now w (record { bricks = c.args.self.now.bricks; history = c.make_room.new.self }) c.args.message c.args.fault
     c.in-Some.packet.now
-    (the_packet _ _ _ c.args.message _ c.deref.ensures.value (c.make_room.ensures.same w shows.history).packets c.in-Some.ensures)
+    (the_packet _ _ _ c.args.message _ c.deref.ensures.value (tells_same (seqs_of w) _ _ w c.make_room.ensures.same shows.history).packets c.in-Some.ensures)
     (down_at c.args.layout.now _ _ c.from.result c.in-Some.packet.now.to c.deref-2.ensures.value c.from.ensures c.in-None-find_up.ensures w shows.bricks)
-    (record { bricks = shows.bricks; history = c.make_room.ensures.same w shows.history })
+    (record { bricks = shows.bricks; history = tells_same (seqs_of w) _ _ w c.make_room.ensures.same shows.history })
 
 pub hand_over-requires : goal.hand_over-requires
 hand_over-requires c =
@@ -107,54 +124,53 @@ deliver-requires-in-None-2-clause-some c = some_number _ c.args.message c.in-Som
 
 pub returns-in-Some-2-clause-ok : goal.returns-in-Some-2-clause-ok
 returns-in-Some-2-clause-ok c w reached shows =
-    let to : BrickId = c.in-Some-find_up.to in
+    let layout = c.args.layout.now in
     let packet : Packet = c.in-Some.packet.now in
-    let new : Simulation = record { bricks = c.hand_over.new.bricks; history = c.step.new.self } in
-    let found =
-    up_at _ _ c.from.result c.in-Some.packet.now.to c.in-Some-find_up.to c.deref-2.ensures.value c.from.ensures c.in-Some-find_up.ensures
-    in
-    let v : World = world_counting (coding c.args.layout.now) w c.args.message packet in
-    let step : NodeStep = received (coding c.args.layout.now) to (w.clocks to.0) (w.nodes to.0) packet in
-    let did : HandledWhole c.args.layout.now w to packet c.args.fault c.args.self.now.bricks.items c.hand_over.new.bricks.items c.in-Some-2.outs =
-    subst (λ (outs : Option Sent). HandledAs c.args.layout.now w to packet c.args.fault c.args.self.now.bricks.items c.hand_over.new.bricks.items (Ok outs))
-    c.in-Some-2.is (c.in_ok-outs.ensures.handled c.args.layout.now w shows.bricks)
-    in
-    let opens = received_opens_reads (coding c.args.layout.now) to (w.clocks to.0) (w.nodes to.0) packet
-    (λ k call open_at. reached_numbered c.args.layout.now w reached to.0 k call open_at) in
-    let told = c.make_room.ensures.same w shows.history in
-    let up = up_there c.args.layout.now _ w _ found.1 shows.bricks in
-    whole_comes c.args.layout.now w c.args.self.now new c.args.message c.args.fault packet
-    (the_packet _ _ _ c.args.message _ c.deref.ensures.value told.packets c.in-Some.ensures)
-    (subst (λ (b : BrickId). is_up c.args.layout.now w b ≡ true) found.0 up)
-    (subst (λ (b : BrickId). KeepsOthers (Some b) (disks_of c.args.self.now.bricks.items) (disks_of c.hand_over.new.bricks.items)) found.0 c.hand_over.ensures.others)
-    c.in-Some-2.outs
-    (subst (λ (b : BrickId). HandledWhole c.args.layout.now w b packet c.args.fault c.args.self.now.bricks.items c.hand_over.new.bricks.items c.in-Some-2.outs) found.0 did)
-    (subst (λ (b : BrickId). Tells c.step.new.self (world_stepped (coding c.args.layout.now) v b
-    (received (coding c.args.layout.now) b (w.clocks b.0) (w.nodes b.0) packet))) found.0
-    (c.step.ensures (coding c.args.layout.now) step did.packets did.told did.answers did.reports v
-    (tells_replies c.args.layout.now _ w c.args.message packet
-    (c.deliver.ensures.delivered w (still c.args.self.now.history c.make_room.new.self w c.make_room.ensures.same _ c.expect.ensures.same _ c.reserve.ensures.same shows.history)))
-    (and_parts (is_brick c.args.layout.now to) (w.up to.0) up).1 opens))
+    let to : BrickId = packet.to in
+    let old : List Brick = c.args.self.now.bricks.items in
+    let bricks : List Brick = c.hand_over.new.bricks.items in
+    let outs : Sent = c.in-Some-2.outs in
+    let found = up_at _ _ c.from.result to c.in-Some-find_up.to c.deref-2.ensures.value c.from.ensures c.in-Some-find_up.ensures in
+    let handles : ChangesBrick old bricks to (DoesHandle packet c.args.fault (Ok (Some outs))) =
+    subst (λ (b : BrickId). ChangesBrick old bricks b (DoesHandle packet c.args.fault (Ok (Some outs)))) found.0
+    (subst (λ (o : Option Sent). ChangesBrick old bricks c.in-Some-find_up.to (DoesHandle packet c.args.fault (Ok o))) c.in-Some-2.is
+    c.in_ok-outs.ensures.handles) in
+    let notes = subst (λ (b : BrickId). NotesStep c.deliver.new.self c.step.new.self b outs) found.0 c.step.ensures in
+    let took = takes_there packet c.args.fault (Ok (Some outs)) w shows.bricks handles in
+    let step : NodeStep = received (coding layout) to (w.clocks to.0) (w.nodes to.0) packet in
+    let told = tells_same (seqs_of w) _ _ w c.make_room.ensures.same shows.history in
+    let up = subst (λ (b : BrickId). is_up layout w b ≡ true) found.0 (up_there layout _ w _ found.1 shows.bricks) in
+    whole_comes layout w c.args.self.now (record { bricks = c.hand_over.new.bricks; history = c.step.new.self }) c.args.message c.args.fault packet
+    (the_packet _ _ _ c.args.message _ c.deref.ensures.value told.packets c.in-Some.ensures) up shows.bricks handles outs took
+    (tells_step (coding layout) c.deliver.new.self c.step.new.self (world_counting (coding layout) w c.args.message packet) to outs step.node step
+    (tells_replies layout _ w c.args.message packet
+    (tells_delivered (seqs_of w) (record c.make_room.new.self { delivered = c.expect.new.self; calls = c.reserve.new.self }) c.deliver.new.self w
+    c.args.message c.deliver.ensures.rest c.deliver.ensures.delivered
+    (still c.args.self.now.history c.make_room.new.self w c.make_room.ensures.same _ c.expect.ensures.same _ c.reserve.ensures.same shows.history)))
+    (and_parts (is_brick layout to) (w.up to.0) up).1
+    (received_opens_reads (coding layout) to (w.clocks to.0) (w.nodes to.0) packet
+    (λ k call open_at. reached_numbered layout w reached to.0 k call open_at))
+    (record { packets = took.packets; told = took.told; answers = took.answers; reports = took.reports; state_is = refl }) notes)
 
 pub returns-in-None-2-clause-ok : goal.returns-in-None-2-clause-ok
 returns-in-None-2-clause-ok c w reached shows =
-    let to : BrickId = c.in-Some-find_up.to in
+    let layout = c.args.layout.now in
     let packet : Packet = c.in-Some.packet.now in
-    let new : Simulation = record { bricks = c.hand_over.new.bricks; history = c.crash.new.self } in
-    let found =
-    up_at _ _ c.from.result c.in-Some.packet.now.to c.in-Some-find_up.to c.deref-2.ensures.value c.from.ensures c.in-Some-find_up.ensures
-    in
-    let did : HandledPart c.args.layout.now w to packet c.args.fault c.args.self.now.bricks.items c.hand_over.new.bricks.items =
-    subst (λ (outs : Option Sent). HandledAs c.args.layout.now w to packet c.args.fault c.args.self.now.bricks.items c.hand_over.new.bricks.items (Ok outs))
-    c.in-None-2.is (c.in_ok-outs.ensures.handled c.args.layout.now w shows.bricks)
-    in
-    let told = c.make_room.ensures.same w shows.history in
-    part_comes c.args.layout.now w c.args.self.now new c.args.message c.args.fault packet
+    let to : BrickId = packet.to in
+    let old : List Brick = c.args.self.now.bricks.items in
+    let bricks : List Brick = c.hand_over.new.bricks.items in
+    let found = up_at _ _ c.from.result to c.in-Some-find_up.to c.deref-2.ensures.value c.from.ensures c.in-Some-find_up.ensures in
+    let handles : ChangesBrick old bricks to (DoesHandle packet c.args.fault (Ok None)) =
+    subst (λ (b : BrickId). ChangesBrick old bricks b (DoesHandle packet c.args.fault (Ok None))) found.0
+    (subst (λ (o : Option Sent). ChangesBrick old bricks c.in-Some-find_up.to (DoesHandle packet c.args.fault (Ok o))) c.in-None-2.is
+    c.in_ok-outs.ensures.handles) in
+    let told = tells_same (seqs_of w) _ _ w c.make_room.ensures.same shows.history in
+    part_comes layout w c.args.self.now (record { bricks = c.hand_over.new.bricks; history = c.crash.new.self }) c.args.message c.args.fault packet
     (the_packet _ _ _ c.args.message _ c.deref.ensures.value told.packets c.in-Some.ensures)
-    (subst (λ (b : BrickId). is_up c.args.layout.now w b ≡ true) found.0 (up_there c.args.layout.now _ w _ found.1 shows.bricks))
-    (subst (λ (b : BrickId). KeepsOthers (Some b) (disks_of c.args.self.now.bricks.items) (disks_of c.hand_over.new.bricks.items)) found.0 c.hand_over.ensures.others)
-    (subst (λ (b : BrickId). HandledPart c.args.layout.now w b packet c.args.fault c.args.self.now.bricks.items c.hand_over.new.bricks.items) found.0 did)
-    (subst (λ (b : BrickId). Tells c.crash.new.self (world_stopped (coding c.args.layout.now)
-    (record w { reached = put w.reached c.args.message true }) b None)) found.0
-    (c.crash.ensures (coding c.args.layout.now) (record w { reached = put w.reached c.args.message true })
-    (c.deliver-in-None-2.ensures.delivered w (still c.args.self.now.history c.make_room.new.self w c.make_room.ensures.same _ c.expect.ensures.same _ c.reserve.ensures.same shows.history))))
+    (subst (λ (b : BrickId). is_up layout w b ≡ true) found.0 (up_there layout _ w _ found.1 shows.bricks)) shows.bricks handles
+    (takes_there packet c.args.fault (Ok None) w shows.bricks handles)
+    (tells_crashed (coding layout) c.deliver-in-None-2.new.self c.crash.new.self (record w { reached = put w.reached c.args.message true }) to
+    (tells_delivered (seqs_of w) (record c.make_room.new.self { delivered = c.expect.new.self; calls = c.reserve.new.self }) c.deliver-in-None-2.new.self w
+    c.args.message c.deliver-in-None-2.ensures.rest c.deliver-in-None-2.ensures.delivered
+    (still c.args.self.now.history c.make_room.new.self w c.make_room.ensures.same _ c.expect.ensures.same _ c.reserve.ensures.same shows.history))
+    (subst (λ (b : BrickId). NotesCrash c.deliver-in-None-2.new.self c.crash.new.self b) found.0 c.crash.ensures))

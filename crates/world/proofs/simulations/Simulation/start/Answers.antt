@@ -1,13 +1,11 @@
 -- The brick of the number starts where the machine's may.
-use Rattle.std.proofs.Common.{Bool, true, false, List, Result, Ok, Err, arith, refl, subst}
+use Rattle.std.proofs.Common.{Bool, true, false, Result, Ok, Err, arith, refl, subst}
 use Rattle.std.specs.Result.{OnErr}
 use Rattle.fab_base.specs.declared.faults.NoMem.{NoMem}
-use Rattle.protocol.specs.Worlds.{Event}
 use Rattle.world.specs.Runs.{brick_of}
-use Rattle.world.specs.Shown.{StartsAs}
 use Rattle.world.specs.declared.simulations.Outcome.{Outcome}
 use Rattle.world.proofs.DeliveryLemmas.{start_comes}
-use Rattle.world.proofs.StartLemmas.{starts_nowhere}
+use Rattle.world.proofs.StartLemmas.{StartedAs, refused_contents, started_as, starts_nowhere}
 use Rattle.world.proofs.simulations.Simulation.start.Goals as goal
 
 pub returns-then-brick-from-clause-ok : goal.returns-then-brick-from-clause-ok
@@ -19,15 +17,15 @@ pub returns-then-branch-clause-ok : goal.returns-then-branch-clause-ok
 returns-then-branch-clause-ok c w reached shows =
     start_comes c.args.layout.now w c.args.self.now (record { bricks = c.start_brick.new.bricks; history = c.args.self.now.history })
     (brick_of c.args.brick) c.args.fault true refl shows
-    (subst (λ (b : Bool). (events : List Event) × StartsAs c.args.layout.now w (brick_of c.args.brick) c.args.fault c.args.self.now.bricks.items
-    c.start_brick.new.bricks.items b events) c.if-branch.true (c.in_ok-start_brick.ensures.started w shows.bricks))
+    (subst (λ (b : Bool). StartedAs c.args.layout.now w (brick_of c.args.brick) c.args.fault c.args.self.now.bricks.items c.start_brick.new.bricks.items (Ok b))
+    c.if-branch.true (started_as c.args.fault _ w shows.bricks c.in_ok-start_brick.ensures))
 
 pub returns-else-branch-clause-ok : goal.returns-else-branch-clause-ok
 returns-else-branch-clause-ok c w reached shows =
     start_comes c.args.layout.now w c.args.self.now (record { bricks = c.start_brick.new.bricks; history = c.args.self.now.history })
     (brick_of c.args.brick) c.args.fault false refl shows
-    (subst (λ (b : Bool). (events : List Event) × StartsAs c.args.layout.now w (brick_of c.args.brick) c.args.fault c.args.self.now.bricks.items
-    c.start_brick.new.bricks.items b events) c.if-branch.false (c.in_ok-start_brick.ensures.started w shows.bricks))
+    (subst (λ (b : Bool). StartedAs c.args.layout.now w (brick_of c.args.brick) c.args.fault c.args.self.now.bricks.items c.start_brick.new.bricks.items (Ok b))
+    c.if-branch.false (started_as c.args.fault _ w shows.bricks c.in_ok-start_brick.ensures))
 
 -- what holds, holds of an error
 of_err : (result : Result Outcome NoMem) (P : Type 0) → P → OnErr result P
@@ -38,6 +36,9 @@ pub returns-in_err-start_brick-clause-err : goal.returns-in_err-start_brick-clau
 returns-in_err-start_brick-clause-err c =
     of_err c.from_residual.result _
     (record {
-      shows = λ w shows. record { bricks = c.in_err-start_brick.ensures.err w shows.bricks; history = shows.history };
-      contents = c.in_err-start_brick.ensures.contents;
+      shows = λ w shows. record {
+        bricks = started_as c.args.fault _ w shows.bricks c.in_err-start_brick.ensures;
+        history = shows.history;
+      };
+      contents = refused_contents c.args.fault _ c.requires.nodes c.in_err-start_brick.ensures;
     })

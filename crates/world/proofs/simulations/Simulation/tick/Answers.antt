@@ -9,10 +9,11 @@ use Rattle.stripe_code.specs.Codes.{coding}
 use Rattle.protocol.specs.Nodes.{ticked}
 use Rattle.protocol.specs.Worlds.{Ticks, is_up, happens}
 use Rattle.world.specs.Runs.{brick_of}
-use Rattle.world.specs.Shown.{IsUp, Shows, Tells, running_at}
+use Rattle.world.specs.Shown.{IsUp, Shows, Tells, running_at, seqs_of}
 use Rattle.world.specs.declared.bricks.Brick.{Brick}
 use Rattle.world.specs.declared.simulations.Simulation.{Simulation}
 use Rattle.world.proofs.BrickListLemmas.{down_at, up_at, up_there, ticks_as}
+use Rattle.world.proofs.HistoryLemmas.{same_sent, tells_same, tells_sent}
 use Rattle.world.proofs.MachineBegins.{happens_unticked}
 use Rattle.world.proofs.SimulationLemmas.{on_err_always, shows_ticked, shows_still, done_here, done_nowhere}
 use Rattle.world.proofs.simulations.Simulation.tick.Goals as goal
@@ -27,7 +28,13 @@ tick_brick-requires c =
 pub returns-in_err-send_more-clause-err : goal.returns-in_err-send_more-clause-err
 returns-in_err-send_more-clause-err c =
     on_err_always c.from_residual-in_err-send_more.result
-    (record { shows = λ w shows. record { bricks = shows.bricks; history = c.in_err-send_more.ensures.err w shows.history }; contents = refl })
+    (record {
+      shows = λ w shows. record {
+        bricks = shows.bricks;
+        history = tells_same (seqs_of w) _ _ w (same_sent _ _ c.in_err-send_more.ensures.rest c.in_err-send_more.ensures.err) shows.history;
+      };
+      contents = refl;
+    })
 
 pub returns-in-None-clause-ok : goal.returns-in-None-clause-ok
 returns-in-None-clause-ok c = record {
@@ -54,7 +61,8 @@ returns-clause-ok c = record {
       (subst (λ (bricks : List Brick). IfSome (running_at bricks c.in-Some.brick.0) (λ node.
       packets_from node.me c.in_ok-messages.messages.items ≡ ticked (coding node.layout) node.me (state_of node))) c.deref-2.ensures.value c.in_ok-messages.ensures)
       shows.bricks)
-      (c.in_ok-send_more.ensures.sent w shows.history))));
+      (tells_sent (seqs_of w) _ _ w (packets_from c.in-Some.brick c.in_ok-messages.messages.items) c.in_ok-send_more.ensures.rest c.in_ok-send_more.ensures.items
+      shows.history))));
   outcome_is = λ w shows.
       (let found =
       up_at _ _ c.args.brick (brick_of c.args.brick) c.in-Some.brick c.deref.ensures.value refl c.in-Some.ensures
