@@ -1,6 +1,6 @@
 // The forms of a line.
 ghost use Rattle.std.specs.Prelude.{◌≡◌, map, IfOk};
-ghost use Rattle.lines.specs.Grammar.{line_of, line_of_tokens, form, write_all, read_all, write_block, read_block, invoke, call_number, fail, cut, fault, deliver, start, clock, one_brick, numbers, brick_list, calm, propose, sync};
+ghost use Rattle.lines.specs.Grammar.{line_of, line_of_tokens, form, write_all, read_all, write_block, read_block, invoke, call_number, fail, cut, fault, deliver, start, clock, one_brick, numbers, brick_list, calm, propose, sync, scrub};
 
 use crate::brick_lists::BrickList;
 use crate::tokens::{parse_hex, parse_number, split};
@@ -108,6 +108,17 @@ pub enum Line {
         /// The group.
         group: u64,
     },
+    /// A brick is to scrub a stripe, so that some members keep one version: `scrub B G S M ..`, with 1 to 64 members.
+    Scrub {
+        /// The brick that is asked.
+        brick: u64,
+        /// The group.
+        group: u64,
+        /// The stripe within the group.
+        stripe: u64,
+        /// The members.
+        members: BrickList,
+    },
     /// An operation is to run alone among some bricks, until it ends: `calm N B ..`, with 1 to 64 bricks.
     Calm {
         /// The number of the operation, in the order of beginning.
@@ -173,6 +184,8 @@ fn parse_form(alloc: Global, word: &[u8], arguments: &[&[u8]]) -> Result<Option<
         parse_propose(alloc, arguments)
     } else if word == b"sync".as_slice() {
         Ok(parse_sync(arguments))
+    } else if word == b"scrub".as_slice() {
+        parse_scrub(alloc, arguments)
     } else if word == b"calm".as_slice() {
         parse_calm(alloc, arguments)
     } else {
@@ -415,6 +428,33 @@ fn parse_sync(arguments: &[&[u8]]) -> Option<Line>
         brick: parse_number(arguments[0])?,
         group: parse_number(arguments[1])?,
     })
+}
+
+/// `scrub B G S M ..`, behind its first word: 1 to 64 members.
+fn parse_scrub(alloc: Global, arguments: &[&[u8]]) -> Result<Option<Line>, NoMem>
+    ensures { IfOk result (λ line. line ≡ scrub (map (λ token. token.now) arguments.now)) }
+{
+    let [brick, group, stripe, behind @ ..] = arguments else {
+        return Ok(None);
+    };
+    let Some(brick) = parse_number(brick) else {
+        return Ok(None);
+    };
+    let Some(group) = parse_number(group) else {
+        return Ok(None);
+    };
+    let Some(stripe) = parse_number(stripe) else {
+        return Ok(None);
+    };
+    let Some(members) = parse_bricks(alloc, behind)? else {
+        return Ok(None);
+    };
+    Ok(Some(Line::Scrub {
+        brick,
+        group,
+        stripe,
+        members,
+    }))
 }
 
 /// The numbers of 1 to 64 bricks. None where there are fewer or more tokens, or one spells no number.

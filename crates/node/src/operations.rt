@@ -4,6 +4,7 @@ ghost use Rattle.std.specs.Prelude.{◌≡◌, [], ◌∷◌, ◌++◌, Some};
 ghost use Rattle.protocol.specs.declared.phases.Counted.{Counted};
 ghost use Rattle.protocol.specs.Coordinators.{mover_of, lowest_mover};
 ghost use Rattle.node.specs.Kinds.{shown_in};
+ghost use Rattle.node.specs.Operations.{EndsOrWaits};
 
 use crate::outs::{Outs, Tellings};
 use crate::sending::{messages_in, put_collects};
@@ -14,7 +15,7 @@ use coord_recover::Recovery;
 use coord_stripe::StripeOp;
 use fab_base::{Answer, Ask, BrickId, CallId, Cause, Members, NoMem, Op, Stamp, View, ViewNo};
 use layout::{Group, Layout};
-use messages::{Call, Message, Messages, Next, Reply};
+use messages::{Call, Message, Messages, Next, Reply, Turn};
 use protocol::{Answered, Counted, Mover, Told};
 use stamp_store::StampSource;
 use std::alloc::Global;
@@ -47,6 +48,27 @@ fn lowest_mover(counted: &[Counted], last: Mover) -> Mover
     }
 }
 
+/// How an operation ends on a member's reply that counts and tells this later view: it is aborted by the mover of the lowest seat. None where it waits for more
+/// replies.
+pub(crate) fn moved_end(op: &coord_phase::Operation, from: BrickId, view: ViewNo) -> Option<Answer>
+    ensures { EndsOrWaits op.now.state from view result }
+{
+    let Some(seat) = op.asked().seat_of(from) else {
+        return None;
+    };
+    let counted = op.counted();
+    if counted.len() + 1 < op.needed() {
+        return None;
+    }
+    let last = Mover {
+        seat,
+        brick: from,
+        view,
+    };
+    let Mover { brick, view, .. } = lowest_mover(counted, last);
+    Some(Answer::Aborted(Cause::Moved { brick, view }))
+}
+
 /// An operation at the coordinator of its kind.
 #[derive(Drop)]
 pub enum Kind {
@@ -68,7 +90,7 @@ pub struct Operation {
 }
 
 impl Operation {
-    ghost use Rattle.std.specs.Prelude.{◌≡◌, ◌≤◌, true, false, Option, None, IfOk, IfSome, OnOk, OnErr, [], ◌∷◌, length, vec_len, vec_capacity};
+    ghost use Rattle.std.specs.Prelude.{◌≡◌, ◌≤◌, ◌<◌, ◌-◌, ◌^◌, true, false, Option, None, IfOk, IfSome, OnOk, OnErr, [], ◌∷◌, length, vec_len, vec_capacity};
     ghost use Rattle.fab_base.specs.declared.stamps.Stamp as machine_stamp;
     ghost use Rattle.quorum.specs.Quorums.{IsWithinLimits};
     ghost use Rattle.fab_base.specs.Layouts.{Layout};
@@ -81,6 +103,7 @@ impl Operation {
     ghost use Rattle.protocol.specs.Nodes.{view_in};
     ghost use Rattle.protocol.specs.Coordinators as machine;
     ghost use Rattle.coord_phase.specs.Operations.{counts, heard, with_state, without_last};
+    ghost use Rattle.coord_recover.specs.Recoveries.{entered};
     ghost use Rattle.node.specs.declared.operations.Kind.TheVariants as kind;
     ghost use Rattle.node.specs.Operations.{shown_of, coordinator_of, EndsOrWaits, IsOperationOf};
     ghost use Rattle.node.specs.Teaching.{teaching};
@@ -88,7 +111,7 @@ impl Operation {
     ghost use Rattle.node.specs.Sending.{collect_messages};
 
     /// The operation, as the coordinators of all kinds share it.
-    fn shown(&self) -> &coord_phase::Operation
+    pub(crate) fn shown(&self) -> &coord_phase::Operation
         ensures { result.now ≡ shown_of self.now }
     {
         match &*self.kind {
@@ -189,6 +212,30 @@ impl Operation {
         ensures few { IfOk result (λ begun. vec_len begun.1 ≤ 32) }
     {
         let (op, next) = Operation::start(alloc, layout, view, call, ask.copy(alloc)?, stamp)?;
+        // There is a message for each member that is asked, and these are few.
+        let _ = op.asked_count();
+        Ok((op, messages_in(alloc, next)))
+    }
+
+    /// The recovery of a stripe, which goes on from this operation in the next phase of its call: it, and the messages of that phase.
+    ///
+    /// # Errors
+    ///
+    /// `NoMemory` where no memory was left.
+    pub(crate) fn recovering(
+        alloc: Global,
+        op: &coord_phase::Operation,
+    ) -> Result<(Operation, Messages), NoMem>
+        requires phase { op.now.state.call.phase < 2 ^ 32 - 1 }
+        ensures operation { IfOk result (λ begun. shown_of begun.0 ≡ entered op.now Turn.Order) }
+        ensures sends { IfOk result (λ begun. (layout : Layout) → op.now.block ≡ layout.block → SendsPhase layout begun.0 begun.1.items) }
+        ensures few { IfOk result (λ begun. vec_len begun.1 ≤ 32) }
+    {
+        let (recovery, next) = coord_recover::follow(alloc, op, Turn::Order)?;
+        let op = Operation {
+            prior: op.view().prior.copy(),
+            kind: Kind::Recovery(recovery),
+        };
         // There is a message for each member that is asked, and these are few.
         let _ = op.asked_count();
         Ok((op, messages_in(alloc, next)))
@@ -423,8 +470,7 @@ impl Operation {
     pub(crate) fn may_end(&self, from: BrickId, message: &Message) -> bool
         ensures { result ≡ false → (fresh : Option machine_stamp.Stamp) → NeverEnds (decided_on fresh (shown_of self.now) from message.now) }
     {
-        self.counts(from, message)
-            && self.shown().counted().len() + 1 >= usize::from(self.shown().asked().quorum())
+        self.counts(from, message) && self.shown().counted().len() + 1 >= self.shown().needed()
     }
 
     /// Counts a reply on which the operation waits for more.
@@ -450,20 +496,6 @@ impl Operation {
     pub(crate) fn ended_by(&self, from: BrickId, view: ViewNo) -> Option<Answer>
         ensures { EndsOrWaits (coordinator_of self.now) from view result }
     {
-        let asked = self.shown().asked();
-        let Some(seat) = asked.seat_of(from) else {
-            return None;
-        };
-        let counted = self.shown().counted();
-        if counted.len() + 1 < usize::from(asked.quorum()) {
-            return None;
-        }
-        let last = Mover {
-            seat,
-            brick: from,
-            view,
-        };
-        let Mover { brick, view, .. } = lowest_mover(counted, last);
-        Some(Answer::Aborted(Cause::Moved { brick, view }))
+        moved_end(self.shown(), from, view)
     }
 }

@@ -111,6 +111,16 @@ fn fault_outcome(fault: Fault, is_up: bool) -> FaultOutcome {
     }
 }
 
+/// The bricks that a line names, if it is to begin a scrub.
+fn scrubbed_by(alloc: Global, line: &Option<Line>) -> Result<Option<Vec<u64>>, NoMem> {
+    match line {
+        Some(Line::Scrub { members, .. }) => {
+            Ok(Some(Vec::from_slice(alloc, members.as_slice())?))
+        }
+        _ => Ok(None),
+    }
+}
+
 impl LineEffects {
     /// What a line did that was run, before which there was so much; and whether `replay` prints `idle` for it. The journal notes it too.
     pub(crate) fn of(
@@ -121,8 +131,8 @@ impl LineEffects {
         content: &[u8],
         is_idle: bool,
     ) -> Result<LineEffects, NoMem> {
-        journal.note_line(world, before)?;
         let line = parse(alloc, content)?;
+        journal.note_line(world, before, scrubbed_by(alloc, &line)?)?;
         let mut effects = LineEffects {
             is_event: true,
             deliveries: Vec::new(alloc),

@@ -14,7 +14,7 @@ use Rattle.node.specs.Calls.{packet_append}
 use Rattle.node.specs.Running.{shape_at, ImageShows}
 use Rattle.protocol.specs.Nodes.{Node}
 use Rattle.protocol.specs.Settings.{Setting}
-use Rattle.protocol.specs.Worlds.{World, Event, Invokes, Proposes, Syncs, Delivers, Sets, Ticks, Stops, Starts, is_up, may_start, packet_of, happens}
+use Rattle.protocol.specs.Worlds.{World, Event, Invokes, Proposes, Syncs, Scrubs, Delivers, Sets, Ticks, Stops, Starts, is_up, may_start, packet_of, happens}
 use Rattle.world.specs.Runs.{Run, world_of, brick_of}
 use Rattle.world.specs.EventCalls.{MakesNoCall, is_down}
 use Rattle.world.specs.Faults.{in_memory, HoldsOne, found_of}
@@ -57,6 +57,7 @@ abbrev pub changes_disk_of : Layout → World → Event → Option BrickId
 changes_disk_of layout w (Invokes brick ask) = None
 changes_disk_of layout w (Proposes brick group members) = None
 changes_disk_of layout w (Syncs brick group) = None
+changes_disk_of layout w (Scrubs brick group stripe members) = None
 changes_disk_of layout w (Delivers number) = receiver_of layout w (packet_of w.packets number)
 changes_disk_of layout w (Sets brick time) = None
 changes_disk_of layout w (Ticks brick) = None
@@ -107,6 +108,7 @@ abbrev pub ListsEvent : Layout → World → Event → List MemDisk → List Mem
 ListsEvent layout w (Invokes brick ask) old new = Unit {0}
 ListsEvent layout w (Proposes brick group members) old new = Unit {0}
 ListsEvent layout w (Syncs brick group) old new = Unit {0}
+ListsEvent layout w (Scrubs brick group stripe members) old new = Unit {0}
 ListsEvent layout w (Delivers number) old new = ListsHandled layout w (packet_of w.packets number) old new
 ListsEvent layout w (Sets brick time) old new = Unit {0}
 ListsEvent layout w (Ticks brick) old new = Unit {0}

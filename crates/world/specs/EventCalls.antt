@@ -5,7 +5,7 @@ use Rattle.fab_base.specs.Layouts.{Layout}
 use Rattle.messages.specs.declared.packets.Packet.{Packet}
 use Rattle.brick_store.specs.Calls.{opening_calls}
 use Rattle.node.specs.Calls.{packet_calls}
-use Rattle.protocol.specs.Worlds.{World, Event, Invokes, Proposes, Syncs, Delivers, Sets, Ticks, Stops, Starts, is_brick, is_up, may_start, packet_of}
+use Rattle.protocol.specs.Worlds.{World, Event, Invokes, Proposes, Syncs, Scrubs, Delivers, Sets, Ticks, Stops, Starts, is_brick, is_up, may_start, packet_of}
 
 -- so many calls keep what a packet makes its receiver change, where it was sent, and that one is up
 abbrev pub handled_calls : Layout → World → ℕ → Option Packet → ℕ
@@ -23,6 +23,7 @@ abbrev pub event_calls : Layout → World → ℕ → Bool → Event → ℕ
 event_calls layout w listed appendable (Invokes brick ask) = 0
 event_calls layout w listed appendable (Proposes brick group members) = 0
 event_calls layout w listed appendable (Syncs brick group) = 0
+event_calls layout w listed appendable (Scrubs brick group stripe members) = 0
 event_calls layout w listed appendable (Delivers number) = handled_calls layout w listed (packet_of w.packets number)
 event_calls layout w listed appendable (Sets brick time) = 0
 event_calls layout w listed appendable (Ticks brick) = 0

@@ -298,6 +298,31 @@ pub fn ask_to_sync(
     }
 }
 
+/// A brick that is up is asked to scrub a stripe, so that these members keep one version. After a refusal of any kind no brick has changed.
+pub fn ask_to_scrub(
+    bricks: &mut Vec<Brick>,
+    number: BrickId,
+    group: GroupId,
+    stripe: StripeNo,
+    members: &[BrickId],
+) -> Result<Outs, NodeFault>
+    requires { IsUp bricks.old.items number }
+    ensures refused { RefusesScrub bricks.old.items number group stripe members.now result }
+    ensures scrubs { IfOk result (ScrubsBrick bricks.old.items bricks.new.items number group stripe members.now) }
+    ensures few { IfOk result (λ outs. length outs.messages ≤ most_sent) }
+    ensures reads { IfOk result (λ outs. reads_begun outs.told ≤ 1) }
+    ensures err { OnErr result ((layout : _) → BricksStay layout bricks.old.items bricks.new.items) }
+    ensures disks { disks_of bricks.new.items ≡ disks_of bricks.old.items }
+    ensures not_halted { result ≢ Err NodeFault.Halted }
+    ensures not_disk { result ≢ Err NodeFault.Disk }
+{
+    let brick = &mut bricks[number.0 as usize];
+    match &mut brick.power {
+        Power::Up(node) => node.scrub(brick.clock, group, stripe, members),
+        Power::Down(_) => unreachable!(),
+    }
+}
+
 /// A brick that is up is handed a message, and this is to befall a call of its disk in the midst of that. None where it did: the brick is down.
 /// After a refusal for want of memory no brick has changed.
 pub fn hand_over(

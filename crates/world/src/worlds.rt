@@ -213,7 +213,7 @@ impl World {
         self.simulation.history.marks.as_slice()
     }
 
-    /// What bricks reported of their proposals and synchronisations, in order, each with its brick.
+    /// What bricks reported of their proposals, synchronisations and scrubs, in order, each with its brick.
     pub fn reports(&self) -> &[(BrickId, Report)]
         ensures { result.now ≡ (world_of self.now).choices.reports }
     {
