@@ -137,7 +137,6 @@ impl Operation {
     }
 
     /// Whether a member's reply may count in the present phase: where some members alone count, it is one of them, or the phase looks back.
-    #[tactic(auto, using(crate::proofs::Asked::stands_as_seat))]
     fn may_count(&self, brick: BrickId) -> bool
         ensures { result ≡ may_count self.now.state brick.0 }
     {

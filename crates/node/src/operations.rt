@@ -234,7 +234,7 @@ impl Operation {
         let (recovery, next) = coord_recover::follow(alloc, op, Turn::Order)?;
         let op = Operation {
             prior: op.view().prior.copy(),
-            kind: Kind::Recovery(recovery),
+            kind: Box::new(alloc, Kind::Recovery(recovery))?,
         };
         // There is a message for each member that is asked, and these are few.
         let _ = op.asked_count();
