@@ -1,5 +1,5 @@
 -- An operation in a phase, at its coordinator.
-use Rattle.std.specs.Prelude.{◌≡◌, ℕ, ◌-◌, ◌*◌, ◌<◌, ◌≤◌, Bool, true, false, not, ◌&&◌, nat_lt, List, [], ◌∷◌, length, take, Option, Some, None, is_some}
+use Rattle.std.specs.Prelude.{◌≡◌, ℕ, ◌-◌, ◌*◌, ◌<◌, Bool, true, false, not, ◌&&◌, nat_lt, List, [], ◌∷◌, length, take, Option, Some, None, is_some}
 use Rattle.std.specs.List.{list_all, list_any}
 use Rattle.fab_base.specs.declared.identities.BrickId.{BrickId}
 use Rattle.fab_base.specs.declared.identities.CallId.{CallId}
@@ -17,7 +17,7 @@ use Rattle.coord_phase.specs.declared.operations.Stage.{Stage}
 use Rattle.coord_phase.specs.declared.operations.OnBase.{OnBase}
 use Rattle.coord_phase.specs.declared.operations.News.{News}
 use Rattle.fab_base.specs.Layouts.{Layout, Group}
-use Rattle.quorum.specs.Quorums.{IsWithinLimits, quorum_of}
+use Rattle.quorum.specs.Quorums.{IsWithinLimits}
 use Rattle.protocol.specs.Views.{group_kept}
 use Rattle.protocol.specs.declared.phases.Phase.{Phase}
 use Rattle.protocol.specs.declared.phases.Phase.TheVariants.{Looks, LooksAt, Orders, OrdersAt, Recovers, Descends, LooksBack, Modifies, Bases, Stores}

@@ -1,11 +1,12 @@
 -- What a scrub does with a message, as the machine says it.
-use Rattle.std.specs.Prelude.{◌≡◌, ◌-◌, ◌<◌, ◌^◌, true, false, Option, Some, None}
+use Rattle.std.specs.Prelude.{◌≡◌, ◌-◌, ◌<◌, ◌^◌, true, false, Option, None}
 use Rattle.fab_base.specs.declared.answers.Answer.{Answer}
 use Rattle.fab_base.specs.declared.identities.BrickId.{BrickId}
 use Rattle.fab_base.specs.declared.stamps.Stamp.{Stamp}
 use Rattle.messages.specs.declared.packets.Message.{Message}
 use Rattle.protocol.specs.Coordinators as machine
-use Rattle.protocol.specs.Coordinators.{Coordinator, Recovers, in_phase}
+use Rattle.protocol.specs.Coordinators.{in_phase}
+use Rattle.protocol.specs.declared.phases.Phase.TheVariants.{Recovers}
 use Rattle.protocol.specs.Jobs.{abort_cause}
 use Rattle.protocol.specs.Scrubs.{lagging_of, scrub_answer}
 use Rattle.coord_phase.specs.Operations.{counts, heard}
@@ -41,8 +42,14 @@ abbrev pub WaitsOn : Scrubbing → ScrubNext → Scrubbing → Type 0
 WaitsOn before next.Wait after = after ≡ before
 WaitsOn before other after = ⊥
 
+-- who lags is found only where its stripe is to be recovered
+abbrev pub KeepsLagging : Scrubbing → ScrubNext → Scrubbing → Type 0
+KeepsLagging before next.Recover after = Unit {0}
+KeepsLagging before other after = after.lagging ≡ before.lagging
+
 -- A scrub that heard a message does as the machine decides upon it; after one that does not count it waits, as it was.
 pub record Hears (before : Scrubbing) (from : BrickId) (message : Message) (done : ScrubNext) (after : Scrubbing) : Type 0 where
   pub ignored : counts before.look from message ≡ false → WaitsOn before done after
   pub heard : after.look ≡ heard before.look from message
   pub stands : (fresh : Option Stamp) → counts before.look from message ≡ true → StandsFor after done (decided_on fresh before.look from message)
+  pub kept : KeepsLagging before done after

@@ -1,5 +1,5 @@
 -- A scrub, as its brick keeps it while it looks.
-use Rattle.std.specs.Prelude.{ℕ, List, [], Option, Some, None}
+use Rattle.std.specs.Prelude.{List, [], Option, Some, None}
 use Rattle.fab_base.specs.declared.identities.BrickId.{BrickId}
 use Rattle.fab_base.specs.declared.identities.CallId.{CallId}
 use Rattle.fab_base.specs.declared.identities.GroupId.{GroupId}

@@ -1,6 +1,8 @@
 //! A scrub of some members of a stripe.
 
-ghost use Rattle.std.specs.Prelude.{◌≡◌, ◌≤◌, length, filter};
+ghost use Rattle.std.specs.Prelude.{◌≡◌, ◌≤◌, ◌&&◌, nat_eq, length, filter};
+ghost use Rattle.std.specs.List.{list_any};
+ghost use Rattle.protocol.specs.Coordinators.{told_stamp};
 ghost use Rattle.protocol.specs.Scrubs.{is_behind_version, lags, lagging_of};
 
 use crate::answers::{ScrubAnswer, ScrubNext};
@@ -25,14 +27,21 @@ fn is_behind_version(newest: Stamp, told: Option<Stamp>) -> bool
     }
 }
 
+/// Whether a brick's reply is among these, and what it tells is behind this version.
+fn is_behind_among(newest: Stamp, counted: &[Counted], brick: BrickId) -> bool
+    ensures { result ≡ list_any (λ c. nat_eq c.brick.0 brick.0 && is_behind_version newest (told_stamp c.reply)) counted.now }
+{
+    counted.iter().any(|c| c.brick.0 == brick.0 && is_behind_version(newest, told_stamp(&c.reply)))
+}
+
 /// Whether a brick's reply is among these, and what it tells is behind the newest version of all, if one is told.
 fn lags(newest: Option<Stamp>, counted: &[Counted], brick: BrickId) -> bool
     ensures { result ≡ lags newest counted.now brick }
 {
-    let Some(newest) = newest else {
-        return false;
-    };
-    counted.iter().any(|c| c.brick.0 == brick.0 && is_behind_version(newest, told_stamp(&c.reply)))
+    match newest {
+        None => false,
+        Some(newest) => is_behind_among(newest, counted, brick),
+    }
 }
 
 /// Those of a view's members that lag by these replies, by seat, the newest version that one tells being this.

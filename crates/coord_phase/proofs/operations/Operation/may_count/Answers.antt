@@ -1,5 +1,5 @@
 -- A brick may count if it is one of those that alone count, where the phase does not look back.
-use Rattle.std.proofs.Common.{◌≡◌, ◌||◌, false, Bool, List, Option, Some, nat_eq, is_some, sym, ◌∙◌, ap}
+use Rattle.std.proofs.Common.{◌≡◌, ◌||◌, false, Bool, List, Option, nat_eq, is_some, sym, ◌∙◌, ap}
 use Rattle.std.specs.List.{list_any}
 use Rattle.fab_base.specs.declared.identities.BrickId.{BrickId}
 use Rattle.fab_base.specs.Layouts.{seat_in}
