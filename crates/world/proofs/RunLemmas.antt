@@ -1,11 +1,10 @@
 -- The world that a run leaves, and what its disks keep.
-use Rattle.std.proofs.Common.{◌≡◌, ℕ, ◌+◌, ◌≤◌, ◌-◌, ◌⊎◌, inl, inr, ⊎_elim, Bool, List, [], ◌∷◌, ◌++◌, length, length-append, take, drop, map, take_all, length-drop, append-nil, append_assoc, Option, Some, None, refl, sym, ap, ◌∙◌, subst, arith}
+use Rattle.std.proofs.Common.{◌≡◌, ℕ, ◌+◌, ◌≤◌, ◌-◌, ◌⊎◌, inr, ⊎_elim, Bool, List, [], ◌∷◌, ◌++◌, length, length-append, take, drop, take_all, length-drop, append-nil, append_assoc, Option, Some, None, refl, sym, ap, ◌∙◌, subst, arith}
 use Rattle.std.specs.Prelude.{slice_get}
 use Rattle.std.specs.Option.{option_map}
 use Rattle.std.proofs.lemmas.List.{drop_all, length-map}
 use Rattle.std.proofs.lemmas.Option.{slice_get-map}
 use Rattle.fab_base.specs.declared.identities.BrickId.{BrickId}
-use Rattle.fab_disk.specs.MemDisk.{content_of}
 use Rattle.fab_disk.specs.declared.mem_disk.MemDisk.{MemDisk}
 use Rattle.reg_model.specs.declared.marks.Mark.{Mark}
 use Rattle.reg_model.specs.declared.marks.Mark.TheVariants as mark
@@ -18,10 +17,10 @@ use Rattle.protocol.specs.Settings.{Setting}
 use Rattle.protocol.specs.declared.tellings.Report.{Report}
 use Rattle.protocol.specs.Worlds.{World, Event, Stops, Starts, Before, first_world, number_of, reports_of, world_stepped, run}
 use Rattle.protocol_laws.proofs.Books.{Books}
-use Rattle.world.specs.Runs.{Run, Step, world_of, all_events, brick_of}
+use Rattle.world.specs.Runs.{Course, Run, Step, world_of, all_events, brick_of, with_events, world_at}
 use Rattle.world.specs.Faults.{IsEventsOf, IsStartOf, StaysDown, IsStarted, IsNoStart}
 use Rattle.world.specs.Disks.{ShowsDiskOf, ShowsDisks, KeepsDisks, LeavesContents}
-use Rattle.world.specs.Shown.{IsNumbered, Shows, ShowsBricks, ShowsPower, ComesTo, Leaves, disk_in, disks_of, came_to}
+use Rattle.world.specs.Shown.{IsNumbered, Shows, ShowsBricks, ShowsPower, ComesTo, StopsAt, disk_in, disks_of, came_to}
 use Rattle.protocol.proofs.Events.{run-append, EventCases, step_on, world_counting, stepped_each, started_each, run_each}
 use Rattle.world.specs.Steps.{Runs, RunsTo, LeavesSome, with_step}
 use Rattle.world.specs.Texts.{text_of, event_text, marks_text, reports_text, outcome_text, new_marks, new_reports, line_text, step_text}
@@ -242,52 +241,54 @@ pub stands_run : (layout : Layout) (old new : List Step) (before disks : List Me
 stands_run layout old new before disks state line outcome (events, comes, grown) =
     stands_step (Shows layout state) layout old new (record { line = line; events = events }) before disks grown comes.shows
 
--- what a line leaves for which no memory was left
-pub leaves_some : (layout : Layout) (old new : List Step) (before disks : List MemDisk) (state : Simulation) (line : Line)
-    → disks ≡ disks_of state.bricks.items
-    → (steps : List Step) × Leaves layout (world_of (record { layout = layout; steps = old; disks = before })) before state line steps
-    × (new ≡ old ++ steps)
+-- what a line leaves that has an operation run alone, and for which no memory was left
+pub leaves_part : (layout : Layout) (old new : List Step) (before disks : List MemDisk) (state : Simulation) (line : Line) (events : List Event)
+    → disks ≡ disks_of state.bricks.items → StopsAt layout (world_of (record { layout = layout; steps = old; disks = before })) before state line events
+    → new ≡ old ++ record { line = line; events = events } ∷ []
     → LeavesSome (record { layout = layout; steps = old; disks = before }) (record { layout = layout; steps = new; disks = disks }) line
-leaves_some layout old new before disks state line same (steps, leaves, grown) = left leaves
-  where
-    r : Run
-    r = record { layout = layout; steps = old; disks = before }
+leaves_part layout old new before disks state line events same stops grown =
+    inr (
+      record { line = line; events = events },
+      record {
+        line_is = refl;
+        events_are = stops.are;
+        run = ap (λ (steps : List Step). record { layout = layout; steps = steps; disks = disks }) grown;
+        disks = subst (λ (d : List MemDisk). LeavesContents (coding layout) (world_of (record { layout = layout; steps = old; disks = before })) events before d)
+            (sym same) stops.kept;
+      },
+    )
 
-    s : Run
-    s = record { layout = layout; steps = new; disks = disks }
+-- a course in whose midst no line is being run
+pub at_rest : (layout : Layout) (course : Course) → course.events ≡ [] → world_at layout course ≡ run (coding layout) (all_events course.steps) (first_world layout)
+at_rest layout course none =
+    ap (λ (l : List Event). run (coding layout) l (first_world layout))
+    (ap (λ (l : List Event). all_events course.steps ++ l) none ∙ append-nil (all_events course.steps))
 
-    left : Leaves layout (world_of r) before state line steps → LeavesSome r s line
-    left (inl (stays, none)) =
-        inl (record {
-          layout = refl;
-          steps = grown ∙ ap (λ (more : List Step). old ++ more) none ∙ append-nil old;
-          contents = ap (λ (d : List MemDisk). map content_of d) same ∙ stays.contents;
-        })
-    left (inr (events, stops, one)) =
-        inr (
-          record { line = line; events = events },
-          record {
-            line_is = refl;
-            events_are = stops.are;
-            run = ap (λ (steps : List Step). record { layout = layout; steps = steps; disks = disks })
-                (grown ∙ ap (λ (more : List Step). old ++ more) one);
-            disks = subst (λ (d : List MemDisk). LeavesContents (coding layout) (world_of r) events before d) (sym same) stops.kept;
-          },
-        )
+-- a line that was run is a step more
+pub one_step : (old mid new : Course) (line : Line) (events : List Event) → old.events ≡ [] → mid ≡ with_events old events
+    → new ≡ record { steps = mid.steps ++ record { line = line; events = mid.events } ∷ []; events = [] }
+    → new.steps ≡ old.steps ++ record { line = line; events = events } ∷ []
+one_step old mid new line events none goes ended =
+    ap (λ (c : Course). c.steps) ended
+    ∙ ap (λ (c : Course). c.steps ++ record { line = line; events = c.events } ∷ []) goes
+    ∙ ap (λ (l : List Event). old.steps ++ record { line = line; events = l ++ events } ∷ []) none
 
--- and the state shows the world behind it
-pub stands_left : (layout : Layout) (old new : List Step) (before disks : List MemDisk) (state : Simulation) (line : Line)
-    → (steps : List Step) × Leaves layout (world_of (record { layout = layout; steps = old; disks = before })) before state line steps
-    × (new ≡ old ++ steps)
-    → Shows layout state (world_of (record { layout = layout; steps = new; disks = disks }))
-stands_left layout old new before disks state line (steps, leaves, grown) = left leaves
-  where
-    v : List Step → World
-    v steps = world_of (record { layout = layout; steps = steps; disks = disks })
+-- what a line came to that was run, as of the steps before and behind it
+pub line_ran : (layout : Layout) (old mid : Simulation) (new : Course) (line : Line) (outcome : Outcome) → old.trail.course.events ≡ []
+    → GoesOn layout old mid line outcome
+    → new ≡ record { steps = mid.trail.course.steps ++ record { line = line; events = mid.trail.course.events } ∷ []; events = [] }
+    → (events : List Event)
+    × ComesTo layout (run (coding layout) (all_events old.trail.course.steps) (first_world layout)) (disks_of old.bricks.items) mid line outcome events
+    × (new.steps ≡ old.trail.course.steps ++ record { line = line; events = events } ∷ [])
+line_ran layout old mid new line outcome none (events, comes, goes) ended = (
+  events,
+  subst (λ (w : World). ComesTo layout w (disks_of old.bricks.items) mid line outcome events) (at_rest layout old.trail.course none) comes,
+  one_step old.trail.course mid.trail.course new line events none goes ended,
+)
 
-    left : Leaves layout (v old) before state line steps → Shows layout state (v new)
-    left (inl (stays, none)) =
-        subst (λ (x : List Step). Shows layout state (v x)) (sym (grown ∙ ap (λ (more : List Step). old ++ more) none ∙ append-nil old)) stays.shows
-    left (inr (events, stops, one)) =
-        stands_step (Shows layout state) layout old new (record { line = line; events = events }) before disks
-        (grown ∙ ap (λ (more : List Step). old ++ more) one) stops.shows
+-- a state with another course shows what it showed
+pub shows_course : (layout : Layout) (old new : Simulation) (w : World) → new.bricks ≡ old.bricks → new.history ≡ old.history → Shows layout old w → Shows layout new w
+shows_course layout old new w bricks history shows = record {
+  bricks = subst (λ (b : _). ShowsBricks layout b.items w.nodes w.after w.up w.clocks) (sym bricks) shows.bricks;
+  history = subst (λ (h : _). Tells h w) (sym history) shows.history;
+}

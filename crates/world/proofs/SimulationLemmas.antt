@@ -1,5 +1,5 @@
 -- What a state shows, line by line.
-use Rattle.std.proofs.Common.{◌≡◌, ℕ, ◌<◌, ◌≤◌, Bool, true, false, cond, nat_lt, List, ◌++◌, Option, Some, None, refl, sym, ap, ◌∙◌, subst, arith}
+use Rattle.std.proofs.Common.{◌≡◌, ℕ, ◌<◌, ◌≤◌, Bool, true, false, cond, nat_lt, List, [], ◌++◌, append-nil, append_assoc, Option, Some, None, refl, sym, ap, ◌∙◌, subst, arith}
 use Rattle.std.specs.Prelude.{Result, Ok, Err, IfNone, OnErr}
 use Rattle.std.proofs.lemmas.Bool.Decides.{nat_tests}
 use Rattle.fab_base.specs.declared.asks.Ask.{Ask}
@@ -10,9 +10,10 @@ use Rattle.messages.specs.declared.packets.Packet.{Packet}
 use Rattle.stripe_code.specs.Codes.{coding}
 use Rattle.fab_base.specs.Layouts.{Layout}
 use Rattle.protocol.specs.Nodes.{Node, NodeStep, put, refusal_of, proposal_refusal, sync_refusal, invoked, proposed, synced_at, received, ticked, stopped}
-use Rattle.protocol.specs.Worlds.{World, Invokes, Proposes, Syncs, Delivers, Sets, Ticks, Stops, is_brick, is_up, packet_of, world_began, world_stepped, world_stopped, happens}
-use Rattle.world.specs.Runs.{ask_of}
-use Rattle.world.specs.Shown.{Shows, ShowsBricks, Tells, seqs_of}
+use Rattle.protocol.specs.Worlds.{World, Event, first_world, run, Invokes, Proposes, Syncs, Delivers, Sets, Ticks, Stops, is_brick, is_up, packet_of, world_began, world_stepped, world_stopped, happens}
+use Rattle.world.specs.Runs.{Course, all_events, ask_of, with_events, world_at}
+use Rattle.protocol.proofs.Events.{run-append}
+use Rattle.world.specs.Shown.{IsReachedBy, Shows, Stands, ShowsBricks, Tells, seqs_of, world_in}
 use Rattle.world.specs.Texts.{marks_if, is_deliverable}
 use Rattle.world.specs.declared.simulations.Outcome.TheVariants.{Marks, Idle}
 use Rattle.world.specs.declared.bricks.Brick.{Brick}
@@ -21,6 +22,31 @@ use Rattle.world.specs.declared.simulations.Simulation.{Simulation}
 use Rattle.world.proofs.MachineBegins.{happens_begun, happens_proposed, happens_synced, happens_handled, happens_set, happens_ticked, happens_stopped}
 use Rattle.world.proofs.HistoryLemmas.{tells_other, heard_keeps}
 use Rattle.protocol.proofs.Events.{world_counting, world_handled}
+
+-- a schedule reaches the world that a state has come to
+pub come_to : (layout : Layout) (state : Simulation) → IsReachedBy layout (world_in layout state)
+come_to layout state = (all_events state.trail.course.steps ++ state.trail.course.events, refl)
+
+-- a course with no events more, and with some and then others
+pub with_more : (course : Course) → with_events course [] ≡ course
+with_more course = ap (λ (l : List Event). record course { events = l }) (append-nil course.events)
+
+pub with_both : (course : Course) (events more : List Event) → with_events (with_events course events) more ≡ with_events course (events ++ more)
+with_both course events more = ap (λ (l : List Event). record course { events = l }) (append_assoc course.events events more)
+
+-- the world that a course with some events more comes to
+pub course_on : (layout : Layout) (course : Course) (events : List Event)
+    → world_at layout (with_events course events) ≡ run (coding layout) events (world_at layout course)
+course_on layout course events =
+    ap (λ (l : List Event). run (coding layout) l (first_world layout)) (sym (append_assoc (all_events course.steps) course.events events))
+    ∙ run-append (coding layout) (first_world layout) (all_events course.steps ++ course.events) events
+
+-- a state stands that shows it
+pub stands_on : (layout : Layout) (old new : Simulation) (events : List Event) → new.trail.course ≡ with_events old.trail.course events
+    → Shows layout new (run (coding layout) events (world_in layout old)) → Stands layout new
+stands_on layout old new events course shows =
+    subst (λ (v : World). Shows layout new v)
+    (sym (ap (λ (c : Course). world_at layout c) course ∙ course_on layout old.trail.course events)) shows
 
 -- what holds anyway holds where there is an error
 pub on_err_always : {T E P : Type 0} (r : Result T E) → P → OnErr r P

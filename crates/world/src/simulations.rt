@@ -10,6 +10,7 @@ use crate::bricks::{
     start_brick, stop_brick, tick_brick,
 };
 use crate::histories::{History, packet_at};
+use crate::trails::{Shelf, Trail};
 use fab_base::{Ask, BrickId, GroupId, NoMem, Op, Refusal, StripeNo};
 use layout::Layout;
 use lines::{Access, Fault, Line};
@@ -21,6 +22,7 @@ use std::alloc::Global;
 pub struct Simulation {
     pub bricks: Vec<Brick>,
     pub history: History,
+    pub trail: Trail,
 }
 
 /// What a line comes to.
@@ -108,22 +110,23 @@ fn op_of(alloc: Global, access: &Access) -> Result<Op, NoMem>
 }
 
 impl Simulation {
-    ghost use Rattle.std.specs.Prelude.{◌≡◌, None, map, vec_len, IfOk, OnErr};
-    ghost use Rattle.protocol.specs.Worlds.{first_world};
+    ghost use Rattle.std.specs.Prelude.{◌≡◌, [], None, map, vec_len, IfOk, OnOk, OnErr};
     ghost use Rattle.protocol.specs.Worlds.Event.{Invokes, Proposes, Syncs, Sets, Ticks, Stops};
     ghost use Rattle.lines.specs.declared.forms.Line.TheVariants.{Deliver, Start, Calm};
     ghost use Rattle.world.specs.Runs.{brick_of, ask_of, group_no, member_no, op_of};
     ghost use Rattle.world.specs.Disks.{AreFreshDisks};
-    ghost use Rattle.world.specs.Shown.{AreNodesOf, Shows, IsUp, IsReachable, RunsAloneTo, BeginsAloneTo, RunsLine, RefusesLine, TakesEvent, StaysAs, disks_of};
+    ghost use Rattle.world.specs.Shown.{AreNodesOf, Stands, IsUp, IsOther, MayRun, RunsAloneTo, BeginsAloneTo, GoesOn, DeliversAlone, StopsShort, RunsLine, RefusesLine, TakesEvent, StaysAs, disks_of};
 
     /// All bricks up, their stores fresh, their clocks at 0, and nothing sent.
     pub fn new(alloc: Global, layout: &Layout) -> Result<Simulation, NoMem>
-        ensures shows { IfOk result (λ state. Shows layout.now state (first_world layout.now)) }
+        ensures stands { IfOk result (Stands layout.now) }
+        ensures first { IfOk result (λ state. state.trail.course ≡ record { steps = []; events = [] }) }
         ensures listed { IfOk result (λ state. AreFreshDisks layout.now (disks_of state.bricks.items)) }
     {
         Ok(Simulation {
             bricks: fresh_bricks(alloc, layout)?,
             history: History::new(alloc),
+            trail: Trail::new(),
         })
     }
 
@@ -132,9 +135,41 @@ impl Simulation {
     pub fn run(&mut self, alloc: Global, layout: &Layout, line: &Line) -> Result<Outcome, NoMem>
         requires nodes { AreNodesOf layout.now self.old.bricks.items }
         requires bricks { vec_len self.old.bricks ≡ layout.now.bricks }
-        requires shows { IsReachable layout.now self.old }
-        ensures ok { IfOk result (RunsLine layout.now self.old self.new line.now) }
+        requires stands { Stands layout.now self.old }
+        ensures ok { IfOk result (GoesOn layout.now self.old self.new line.now) }
         ensures err { OnErr result (RefusesLine layout.now self.old self.new line.now) }
+    {
+        match line {
+            Line::Calm { operation, bricks } => {
+                self.calm(alloc, layout, *operation, bricks.as_slice())
+            }
+            _ => self.take(alloc, layout, line),
+        }
+    }
+
+    /// Runs a line that has no operation run alone.
+    fn take(&mut self, alloc: Global, layout: &Layout, line: &Line) -> Result<Outcome, NoMem>
+        requires nodes { AreNodesOf layout.now self.old.bricks.items }
+        requires bricks { vec_len self.old.bricks ≡ layout.now.bricks }
+        requires stands { Stands layout.now self.old }
+        requires line { IsOther line.now }
+        ensures ok { IfOk result (GoesOn layout.now self.old self.new line.now) }
+        ensures err { OnErr result (StaysAs layout.now self.old self.new) }
+    {
+        let shelf = Shelf::of(self);
+        let outcome = self.happen(alloc, layout, line)?;
+        self.trail = Trail::with(&self.trail, &shelf, layout, line, &outcome, self);
+        Ok(outcome)
+    }
+
+    /// What happens at such a line.
+    fn happen(&mut self, alloc: Global, layout: &Layout, line: &Line) -> Result<Outcome, NoMem>
+        requires nodes { AreNodesOf layout.now self.old.bricks.items }
+        requires bricks { vec_len self.old.bricks ≡ layout.now.bricks }
+        requires stands { Stands layout.now self.old }
+        requires line { IsOther line.now }
+        ensures ok { IfOk result (RunsLine layout.now self.old self.new line.now) }
+        ensures err { OnErr result (StaysAs layout.now self.old self.new) }
     {
         match line {
             Line::Nothing => Ok(Outcome::Marks),
@@ -155,9 +190,7 @@ impl Simulation {
                 members,
             } => self.propose(alloc, layout, *brick, *group, members.as_slice()),
             Line::Sync { brick, group } => self.sync(alloc, layout, *brick, *group),
-            Line::Calm { operation, bricks } => {
-                self.calm(alloc, layout, *operation, bricks.as_slice())
-            }
+            Line::Calm { .. } => unreachable!(),
         }
     }
 
@@ -173,6 +206,7 @@ impl Simulation {
     ) -> Result<Outcome, NoMem>
         requires nodes { AreNodesOf layout.now self.old.bricks.items }
         requires bricks { vec_len self.old.bricks ≡ layout.now.bricks }
+        requires stands { Stands layout.now self.old }
         ensures ok { IfOk result (TakesEvent layout.now self.old self.new (Invokes (brick_of brick) (ask_of group stripe (op_of access.now)))) }
         ensures err { OnErr result (StaysAs layout.now self.old self.new) }
     {
@@ -196,7 +230,8 @@ impl Simulation {
         brick: BrickId,
         ask: Ask,
     ) -> Result<Outcome, NoMem>
-        requires { IsUp self.old.bricks.items brick }
+        requires up { IsUp self.old.bricks.items brick }
+        requires stands { Stands layout.now self.old }
         ensures ok { IfOk result (TakesEvent layout.now self.old self.new (Invokes brick ask)) }
         ensures err { OnErr result (StaysAs layout.now self.old self.new) }
     {
@@ -224,6 +259,7 @@ impl Simulation {
     ) -> Result<Outcome, NoMem>
         requires nodes { AreNodesOf layout.now self.old.bricks.items }
         requires bricks { vec_len self.old.bricks ≡ layout.now.bricks }
+        requires stands { Stands layout.now self.old }
         ensures ok { IfOk result (TakesEvent layout.now self.old self.new (Proposes (brick_of brick) (group_no group) (map member_no members.now))) }
         ensures err { OnErr result (StaysAs layout.now self.old self.new) }
     {
@@ -248,7 +284,8 @@ impl Simulation {
         group: GroupId,
         members: &[BrickId],
     ) -> Result<Outcome, NoMem>
-        requires { IsUp self.old.bricks.items brick }
+        requires up { IsUp self.old.bricks.items brick }
+        requires stands { Stands _layout.now self.old }
         ensures ok { IfOk result (TakesEvent _layout.now self.old self.new (Proposes brick group members.now)) }
         ensures err { OnErr result (StaysAs _layout.now self.old self.new) }
     {
@@ -274,6 +311,7 @@ impl Simulation {
     ) -> Result<Outcome, NoMem>
         requires nodes { AreNodesOf layout.now self.old.bricks.items }
         requires bricks { vec_len self.old.bricks ≡ layout.now.bricks }
+        requires stands { Stands layout.now self.old }
         ensures ok { IfOk result (TakesEvent layout.now self.old self.new (Syncs (brick_of brick) (group_no group))) }
         ensures err { OnErr result (StaysAs layout.now self.old self.new) }
     {
@@ -296,7 +334,8 @@ impl Simulation {
         brick: BrickId,
         group: GroupId,
     ) -> Result<Outcome, NoMem>
-        requires { IsUp self.old.bricks.items brick }
+        requires up { IsUp self.old.bricks.items brick }
+        requires stands { Stands _layout.now self.old }
         ensures ok { IfOk result (TakesEvent _layout.now self.old self.new (Syncs brick group)) }
         ensures err { OnErr result (StaysAs _layout.now self.old self.new) }
     {
@@ -322,6 +361,7 @@ impl Simulation {
     ) -> Result<Outcome, NoMem>
         requires nodes { AreNodesOf layout.now self.old.bricks.items }
         requires bricks { vec_len self.old.bricks ≡ layout.now.bricks }
+        requires stands { Stands layout.now self.old }
         ensures ok { IfOk result (RunsLine layout.now self.old self.new (Deliver message fault)) }
         ensures err { OnErr result (StaysAs layout.now self.old self.new) }
     {
@@ -353,7 +393,8 @@ impl Simulation {
 
     /// Sets a brick's clock.
     fn set_clock(&mut self, layout: &Layout, brick: u64, time: u64) -> Outcome
-        requires { vec_len self.old.bricks ≡ layout.now.bricks }
+        requires bricks { vec_len self.old.bricks ≡ layout.now.bricks }
+        requires stands { Stands layout.now self.old }
         ensures { TakesEvent layout.now self.old self.new (Sets (brick_of brick) time) result }
     {
         if brick >= u64::from(layout.bricks()) {
@@ -368,6 +409,7 @@ impl Simulation {
     fn tick(&mut self, layout: &Layout, brick: u64) -> Result<Outcome, NoMem>
         requires nodes { AreNodesOf layout.now self.old.bricks.items }
         requires bricks { vec_len self.old.bricks ≡ layout.now.bricks }
+        requires stands { Stands layout.now self.old }
         ensures ok { IfOk result (TakesEvent layout.now self.old self.new (Ticks (brick_of brick))) }
         ensures err { OnErr result (StaysAs layout.now self.old self.new) }
     {
@@ -384,6 +426,7 @@ impl Simulation {
     fn crash(&mut self, alloc: Global, layout: &Layout, brick: u64) -> Result<Outcome, NoMem>
         requires nodes { AreNodesOf layout.now self.old.bricks.items }
         requires bricks { vec_len self.old.bricks ≡ layout.now.bricks }
+        requires stands { Stands layout.now self.old }
         ensures ok { IfOk result (TakesEvent layout.now self.old self.new (Stops (brick_of brick) None)) }
         ensures err { OnErr result (StaysAs layout.now self.old self.new) }
     {
@@ -407,6 +450,7 @@ impl Simulation {
     ) -> Result<Outcome, NoMem>
         requires nodes { AreNodesOf layout.now self.old.bricks.items }
         requires bricks { vec_len self.old.bricks ≡ layout.now.bricks }
+        requires stands { Stands layout.now self.old }
         ensures ok { IfOk result (RunsLine layout.now self.old self.new (Start brick fault)) }
         ensures err { OnErr result (StaysAs layout.now self.old self.new) }
     {
@@ -434,9 +478,9 @@ impl Simulation {
         mark: u64,
         bricks: &[u64],
     ) -> Result<Outcome, NoMem>
-        requires { IsReachable layout.now self.old }
-        ensures ok { IfOk result (RunsLine layout.now self.old self.new (Calm mark bricks.now)) }
-        ensures err { OnErr result (RefusesLine layout.now self.old self.new (Calm mark bricks.now)) }
+        requires { Stands layout.now self.old }
+        ensures ok { IfOk result (GoesOn layout.now self.old self.new (Calm mark bricks.now)) }
+        ensures err { OnErr result (StopsShort layout.now self.old self.new (Calm mark bricks.now)) }
     {
         self.history.chain_sent();
         let operation = self.history.number_marked(mark);
@@ -460,7 +504,8 @@ impl Simulation {
         operation: u64,
         bricks: &[u64],
     ) -> Result<bool, NoMem>
-        requires { IsReachable layout.now self.old }
+        requires stands { Stands layout.now self.old }
+        requires may { MayRun layout.now self.old operation bricks.now }
         ensures run { IfOk result (RunsAloneTo layout.now self.old self.new operation bricks.now) }
         ensures cut { OnErr result (BeginsAloneTo layout.now self.old self.new operation bricks.now) }
     {
@@ -487,14 +532,17 @@ impl Simulation {
         alloc: Global,
         layout: &Layout,
         message: u64,
-    ) -> Result<Outcome, NoMem>
-        requires nodes { AreNodesOf layout.now self.old.bricks.items }
-        requires bricks { vec_len self.old.bricks ≡ layout.now.bricks }
-        ensures ok { IfOk result (RunsLine layout.now self.old self.new (Deliver message None)) }
+    ) -> Result<(), NoMem>
+        requires { Stands layout.now self.old }
+        ensures ok { OnOk result (DeliversAlone layout.now self.old self.new message) }
         ensures err { OnErr result (StaysAs layout.now self.old self.new) }
     {
-        let outcome = self.deliver(alloc, layout, message, None)?;
+        let line = Line::Deliver {
+            message,
+            fault: None,
+        };
+        self.take(alloc, layout, &line)?;
         self.history.chain_sent();
-        Ok(outcome)
+        Ok(())
     }
 }

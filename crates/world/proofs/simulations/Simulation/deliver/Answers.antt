@@ -11,7 +11,7 @@ use Rattle.protocol.specs.Worlds.{World, is_brick, is_up, packet_of}
 use Rattle.protocol.proofs.Events.{world_counting}
 use Rattle.world.specs.BrickSteps.{ChangesBrick, DoesHandle}
 use Rattle.world.specs.Noted.{IsSameHistory, NotesCrash, NotesStep}
-use Rattle.world.specs.Shown.{Tells, seqs_of}
+use Rattle.world.specs.Shown.{Tells, seqs_of, world_in}
 use Rattle.world.specs.declared.bricks.Brick.{Brick}
 use Rattle.world.specs.CallNumbers.{calls_in}
 use Rattle.world.specs.declared.call_numbers.CallNumbers.{CallNumbers}
@@ -23,7 +23,7 @@ use Rattle.world.proofs.HistoryLemmas.{tells_same, tells_delivered, tells_crashe
 use Rattle.world.proofs.HearingLemmas.{tells_step}
 use Rattle.world.proofs.MachineSteps.{received_opens_reads}
 use Rattle.world.proofs.RunLaws.{reached_numbered}
-use Rattle.world.proofs.SimulationLemmas.{on_err_always, tells_replies}
+use Rattle.world.proofs.SimulationLemmas.{come_to, on_err_always, tells_replies}
 use Rattle.world.proofs.simulations.Simulation.deliver.Goals as goal
 
 -- what was found of the messages behind a slice is what the machine finds
@@ -54,14 +54,19 @@ still old new w same d reached calls are tells =
 
 pub returns-in_err-make_room-clause-err : goal.returns-in_err-make_room-clause-err
 returns-in_err-make_room-clause-err c =
+    let w : World = world_in c.args.layout.now c.args.self.now in
+    let shows = c.requires.stands in
     on_err_always c.from_residual.result
-    (record { shows = λ w shows. record { bricks = shows.bricks; history = tells_same (seqs_of w) _ _ w c.make_room.ensures.same shows.history }; contents = refl })
+    (record { trail = refl; shows = record { bricks = shows.bricks; history = tells_same (seqs_of w) _ _ w c.make_room.ensures.same shows.history }; contents = refl })
 
 pub returns-in_err-expect-clause-err : goal.returns-in_err-expect-clause-err
 returns-in_err-expect-clause-err c =
+    let w : World = world_in c.args.layout.now c.args.self.now in
+    let shows = c.requires.stands in
     on_err_always c.from_residual-in_err-expect.result
     (record {
-      shows = λ w shows. record {
+      trail = refl;
+      shows = record {
         bricks = shows.bricks;
         history = still c.args.self.now.history c.make_room.new.self w c.make_room.ensures.same _ c.in_err-expect.ensures.same _ (λ i. refl) shows.history;
       };
@@ -70,9 +75,12 @@ returns-in_err-expect-clause-err c =
 
 pub returns-in_err-reserve-clause-err : goal.returns-in_err-reserve-clause-err
 returns-in_err-reserve-clause-err c =
+    let w : World = world_in c.args.layout.now c.args.self.now in
+    let shows = c.requires.stands in
     on_err_always c.from_residual-in_err-reserve.result
     (record {
-      shows = λ w shows. record {
+      trail = refl;
+      shows = record {
         bricks = shows.bricks;
         history = still c.args.self.now.history c.make_room.new.self w c.make_room.ensures.same _ c.expect.ensures.same _ c.in_err-reserve.ensures.same shows.history;
       };
@@ -87,7 +95,8 @@ returns-in_err-outs-clause-err c =
     let handles = c.in_err-outs.ensures.handles in
     on_err_always c.from_residual-in_err-outs.result
     (record {
-      shows = λ w shows. record {
+      trail = refl;
+      shows = record {
         bricks = handled_kept c.in-Some.packet.now c.args.fault NoMemory w
             (and_parts (is_brick layout to) (w.up to.0) (up_there layout _ w _ found.1 shows.bricks)).1 shows.bricks handles;
         history = still c.args.self.now.history c.make_room.new.self w c.make_room.ensures.same _ c.expect.ensures.same _ c.reserve.ensures.same shows.history;
@@ -96,18 +105,24 @@ returns-in_err-outs-clause-err c =
     })
 
 pub returns-in-None-clause-ok : goal.returns-in-None-clause-ok
-returns-in-None-clause-ok c w reached shows =
-    unsent_comes c.args.layout.now w (record { bricks = c.args.self.now.bricks; history = c.make_room.new.self }) c.args.message c.args.fault
+returns-in-None-clause-ok c =
+    let w : World = world_in c.args.layout.now c.args.self.now in
+    let shows = c.requires.stands in
+    record { trail = refl; comes =
+    unsent_comes c.args.layout.now w (record c.args.self.now { history = c.make_room.new.self }) c.args.message c.args.fault
     (the_packet _ _ _ c.args.message _ c.deref.ensures.value (tells_same (seqs_of w) _ _ w c.make_room.ensures.same shows.history).packets c.in-None.ensures)
-    (record { bricks = shows.bricks; history = tells_same (seqs_of w) _ _ w c.make_room.ensures.same shows.history })
+    (record { bricks = shows.bricks; history = tells_same (seqs_of w) _ _ w c.make_room.ensures.same shows.history }); }
 
 pub returns-in-None-find_up-clause-ok : goal.returns-in-None-find_up-clause-ok
-returns-in-None-find_up-clause-ok c w reached shows =
-    astray_comes c.args.layout.now w (record { bricks = c.args.self.now.bricks; history = c.make_room.new.self }) c.args.message c.args.fault
+returns-in-None-find_up-clause-ok c =
+    let w : World = world_in c.args.layout.now c.args.self.now in
+    let shows = c.requires.stands in
+    record { trail = refl; comes =
+    astray_comes c.args.layout.now w (record c.args.self.now { history = c.make_room.new.self }) c.args.message c.args.fault
     c.in-Some.packet.now
     (the_packet _ _ _ c.args.message _ c.deref.ensures.value (tells_same (seqs_of w) _ _ w c.make_room.ensures.same shows.history).packets c.in-Some.ensures)
     (down_at c.args.layout.now _ _ c.from.result c.in-Some.packet.now.to c.deref-2.ensures.value c.from.ensures c.in-None-find_up.ensures w shows.bricks)
-    (record { bricks = shows.bricks; history = tells_same (seqs_of w) _ _ w c.make_room.ensures.same shows.history })
+    (record { bricks = shows.bricks; history = tells_same (seqs_of w) _ _ w c.make_room.ensures.same shows.history }); }
 
 pub hand_over-requires : goal.hand_over-requires
 hand_over-requires c =
@@ -123,7 +138,10 @@ pub deliver-requires-in-None-2-clause-some : goal.deliver-requires-in-None-2-cla
 deliver-requires-in-None-2-clause-some c = some_number _ c.args.message c.in-Some.packet.now c.in-Some.ensures
 
 pub returns-in-Some-2-clause-ok : goal.returns-in-Some-2-clause-ok
-returns-in-Some-2-clause-ok c w reached shows =
+returns-in-Some-2-clause-ok c =
+    let w : World = world_in c.args.layout.now c.args.self.now in
+    let shows = c.requires.stands in
+    record { trail = refl; comes =
     let layout = c.args.layout.now in
     let packet : Packet = c.in-Some.packet.now in
     let to : BrickId = packet.to in
@@ -140,7 +158,7 @@ returns-in-Some-2-clause-ok c w reached shows =
     let step : NodeStep = received (coding layout) to (w.clocks to.0) (w.nodes to.0) packet in
     let told = tells_same (seqs_of w) _ _ w c.make_room.ensures.same shows.history in
     let up = subst (λ (b : BrickId). is_up layout w b ≡ true) found.0 (up_there layout _ w _ found.1 shows.bricks) in
-    whole_comes layout w c.args.self.now (record { bricks = c.hand_over.new.bricks; history = c.step.new.self }) c.args.message c.args.fault packet
+    whole_comes layout w c.args.self.now (record c.args.self.now { bricks = c.hand_over.new.bricks; history = c.step.new.self }) c.args.message c.args.fault packet
     (the_packet _ _ _ c.args.message _ c.deref.ensures.value told.packets c.in-Some.ensures) up shows.bricks handles outs took
     (tells_step (coding layout) c.deliver.new.self c.step.new.self (world_counting (coding layout) w c.args.message packet) to outs step.node step
     (tells_replies layout _ w c.args.message packet
@@ -149,11 +167,14 @@ returns-in-Some-2-clause-ok c w reached shows =
     (still c.args.self.now.history c.make_room.new.self w c.make_room.ensures.same _ c.expect.ensures.same _ c.reserve.ensures.same shows.history)))
     (and_parts (is_brick layout to) (w.up to.0) up).1
     (received_opens_reads (coding layout) to (w.clocks to.0) (w.nodes to.0) packet
-    (λ k call open_at. reached_numbered layout w reached to.0 k call open_at))
-    (record { packets = took.packets; told = took.told; answers = took.answers; reports = took.reports; state_is = refl }) notes)
+    (λ k call open_at. reached_numbered layout w (come_to layout c.args.self.now) to.0 k call open_at))
+    (record { packets = took.packets; told = took.told; answers = took.answers; reports = took.reports; state_is = refl }) notes); }
 
 pub returns-in-None-2-clause-ok : goal.returns-in-None-2-clause-ok
-returns-in-None-2-clause-ok c w reached shows =
+returns-in-None-2-clause-ok c =
+    let w : World = world_in c.args.layout.now c.args.self.now in
+    let shows = c.requires.stands in
+    record { trail = refl; comes =
     let layout = c.args.layout.now in
     let packet : Packet = c.in-Some.packet.now in
     let to : BrickId = packet.to in
@@ -165,7 +186,7 @@ returns-in-None-2-clause-ok c w reached shows =
     (subst (λ (o : Option Sent). ChangesBrick old bricks c.in-Some-find_up.to (DoesHandle packet c.args.fault (Ok o))) c.in-None-2.is
     c.in_ok-outs.ensures.handles) in
     let told = tells_same (seqs_of w) _ _ w c.make_room.ensures.same shows.history in
-    part_comes layout w c.args.self.now (record { bricks = c.hand_over.new.bricks; history = c.crash.new.self }) c.args.message c.args.fault packet
+    part_comes layout w c.args.self.now (record c.args.self.now { bricks = c.hand_over.new.bricks; history = c.crash.new.self }) c.args.message c.args.fault packet
     (the_packet _ _ _ c.args.message _ c.deref.ensures.value told.packets c.in-Some.ensures)
     (subst (λ (b : BrickId). is_up layout w b ≡ true) found.0 (up_there layout _ w _ found.1 shows.bricks)) shows.bricks handles
     (takes_there packet c.args.fault (Ok None) w shows.bricks handles)
@@ -173,4 +194,4 @@ returns-in-None-2-clause-ok c w reached shows =
     (tells_delivered (seqs_of w) (record c.make_room.new.self { delivered = c.expect.new.self; calls = c.reserve.new.self }) c.deliver-in-None-2.new.self w
     c.args.message c.deliver-in-None-2.ensures.rest c.deliver-in-None-2.ensures.delivered
     (still c.args.self.now.history c.make_room.new.self w c.make_room.ensures.same _ c.expect.ensures.same _ c.reserve.ensures.same shows.history))
-    (subst (λ (b : BrickId). NotesCrash c.deliver-in-None-2.new.self c.crash.new.self b) found.0 c.crash.ensures))
+    (subst (λ (b : BrickId). NotesCrash c.deliver-in-None-2.new.self c.crash.new.self b) found.0 c.crash.ensures)); }

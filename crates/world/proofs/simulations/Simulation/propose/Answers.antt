@@ -4,9 +4,9 @@ use Rattle.std.specs.Prelude.{IfOk}
 use Rattle.fab_base.specs.declared.identities.BrickId.{BrickId}
 use Rattle.fab_base.specs.declared.identities.GroupId.{GroupId}
 use Rattle.stripe_code.specs.Codes.{coding}
-use Rattle.protocol.specs.Worlds.{Proposes, is_up}
+use Rattle.protocol.specs.Worlds.{World, Proposes, is_up}
 use Rattle.world.specs.Runs.{brick_of, group_no}
-use Rattle.world.specs.Shown.{TakesEvent}
+use Rattle.world.specs.Shown.{TakesEvent, world_in}
 use Rattle.world.specs.Texts.{refused_or_begun}
 use Rattle.world.proofs.MachineBegins.{unproposed_down, unproposed_here, happens_unproposed, happens_unproposed_down}
 use Rattle.world.proofs.BrickListLemmas.{down_at, up_at, up_there}
@@ -14,20 +14,28 @@ use Rattle.world.proofs.SimulationLemmas.{shows_still}
 use Rattle.world.proofs.simulations.Simulation.propose.Goals as goal
 
 pub returns-in-None-clause-ok : goal.returns-in-None-clause-ok
-returns-in-None-clause-ok c = record {
-  shows = λ w reached shows. shows_still c.args.layout.now c.args.self.now w _ (happens_unproposed_down (coding c.args.layout.now) w _ _ _
+returns-in-None-clause-ok c =
+    let w : World = world_in c.args.layout.now c.args.self.now in
+    let shows = c.requires.stands in
+    record {
+  trail = refl;
+  shows = shows_still c.args.layout.now c.args.self.now w _ (happens_unproposed_down (coding c.args.layout.now) w _ _ _
       (down_at c.args.layout.now _ _ c.args.brick (brick_of c.args.brick) c.deref.ensures.value refl c.in-None.ensures w shows.bricks)) shows;
-  outcome_is = λ w shows.
+  outcome_is =
       sym (ap refused_or_begun (unproposed_down (coding c.args.layout.now) w (brick_of c.args.brick) (group_no c.args.group)
       (down_at c.args.layout.now _ _ c.args.brick (brick_of c.args.brick) c.deref.ensures.value refl c.in-None.ensures w shows.bricks)));
   disks = refl;
 }
 
 pub returns-in-None-group_of-clause-ok : goal.returns-in-None-group_of-clause-ok
-returns-in-None-group_of-clause-ok c = record {
-  shows = λ w reached shows.
+returns-in-None-group_of-clause-ok c =
+    let w : World = world_in c.args.layout.now c.args.self.now in
+    let shows = c.requires.stands in
+    record {
+  trail = refl;
+  shows =
       shows_still c.args.layout.now c.args.self.now w _ (happens_unproposed (coding c.args.layout.now) w _ _ _ _ (c.in-None-group_of.ensures.none _)) shows;
-  outcome_is = λ w shows.
+  outcome_is =
       (let found =
       up_at _ _ c.args.brick (brick_of c.args.brick) c.in-Some.brick c.deref.ensures.value refl c.in-Some.ensures
       in

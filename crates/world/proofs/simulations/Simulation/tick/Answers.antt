@@ -7,9 +7,9 @@ use Rattle.messages.specs.declared.packets.Packet.{Packet}
 use Rattle.node.specs.Running.{state_of}
 use Rattle.stripe_code.specs.Codes.{coding}
 use Rattle.protocol.specs.Nodes.{ticked}
-use Rattle.protocol.specs.Worlds.{Ticks, is_up, happens}
+use Rattle.protocol.specs.Worlds.{World, Ticks, is_up, happens}
 use Rattle.world.specs.Runs.{brick_of}
-use Rattle.world.specs.Shown.{IsUp, Shows, Tells, running_at, seqs_of}
+use Rattle.world.specs.Shown.{IsUp, Shows, Tells, running_at, seqs_of, world_in}
 use Rattle.world.specs.declared.bricks.Brick.{Brick}
 use Rattle.world.specs.declared.simulations.Simulation.{Simulation}
 use Rattle.world.proofs.BrickListLemmas.{down_at, up_at, up_there, ticks_as}
@@ -27,9 +27,12 @@ tick_brick-requires c =
 
 pub returns-in_err-send_more-clause-err : goal.returns-in_err-send_more-clause-err
 returns-in_err-send_more-clause-err c =
+    let w : World = world_in c.args.layout.now c.args.self.now in
+    let shows = c.requires.stands in
     on_err_always c.from_residual-in_err-send_more.result
     (record {
-      shows = λ w shows. record {
+      trail = refl;
+      shows = record {
         bricks = shows.bricks;
         history = tells_same (seqs_of w) _ _ w (same_sent _ _ c.in_err-send_more.ensures.rest c.in_err-send_more.ensures.err) shows.history;
       };
@@ -37,23 +40,31 @@ returns-in_err-send_more-clause-err c =
     })
 
 pub returns-in-None-clause-ok : goal.returns-in-None-clause-ok
-returns-in-None-clause-ok c = record {
-  shows = λ w reached shows.
+returns-in-None-clause-ok c =
+    let w : World = world_in c.args.layout.now c.args.self.now in
+    let shows = c.requires.stands in
+    record {
+  trail = refl;
+  shows =
       (shows_still c.args.layout.now c.args.self.now w _ (happens_unticked (coding c.args.layout.now) w (brick_of c.args.brick)
       (down_at c.args.layout.now _ _ c.args.brick (brick_of c.args.brick) c.deref.ensures.value refl c.in-None.ensures w shows.bricks)) shows);
-  outcome_is = λ w shows.
+  outcome_is =
       (done_nowhere c.args.layout.now w (brick_of c.args.brick)
       (down_at c.args.layout.now _ _ c.args.brick (brick_of c.args.brick) c.deref.ensures.value refl c.in-None.ensures w shows.bricks));
   disks = refl;
 }
 
 pub returns-clause-ok : goal.returns-clause-ok
-returns-clause-ok c = record {
-  shows = λ w reached shows.
+returns-clause-ok c =
+    let w : World = world_in c.args.layout.now c.args.self.now in
+    let shows = c.requires.stands in
+    record {
+  trail = refl;
+  shows =
       (let found =
       up_at _ _ c.args.brick (brick_of c.args.brick) c.in-Some.brick c.deref.ensures.value refl c.in-Some.ensures
       in
-      let state : Simulation = record { bricks = c.args.self.now.bricks; history = c.send_more.new.self } in
+      let state : Simulation = record c.args.self.now { bricks = c.args.self.now.bricks; history = c.send_more.new.self } in
       subst (λ (brick : BrickId). Shows c.args.layout.now state (happens (coding c.args.layout.now) w (Ticks brick))) found.0
       (shows_ticked c.args.layout.now state w c.in-Some.brick (up_there c.args.layout.now _ w _ found.1 shows.bricks) shows.bricks
       (subst (λ (sent : List Packet). Tells c.send_more.new.self (record w { packets = w.packets ++ sent }))
@@ -63,7 +74,7 @@ returns-clause-ok c = record {
       shows.bricks)
       (tells_sent (seqs_of w) _ _ w (packets_from c.in-Some.brick c.in_ok-messages.messages.items) c.in_ok-send_more.ensures.rest c.in_ok-send_more.ensures.items
       shows.history))));
-  outcome_is = λ w shows.
+  outcome_is =
       (let found =
       up_at _ _ c.args.brick (brick_of c.args.brick) c.in-Some.brick c.deref.ensures.value refl c.in-Some.ensures
       in
