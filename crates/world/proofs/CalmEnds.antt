@@ -72,21 +72,21 @@ run_comes layout is w mark numbers disks state some reached may events has =
     let n : ℕ = operation_marked w mark in
     let after : has.last ≡ run (coding layout) events w = runs_run (coding layout) n (map brick_of numbers) w has.last events has.runs in
     let runs = subst (λ (v : World). RunsAlone (coding layout) n (map brick_of numbers) w events v) after has.runs in
-      record {
-        are = inl (record {
-          may = may;
-          runs = runs;
-          over = over_alone layout is mark (map brick_of numbers) w (run (coding layout) events w) events reached may runs;
-          leaves = leaves_own layout is mark (map brick_of numbers) w (run (coding layout) events w) events reached may runs;
-        });
-        shows = subst (λ (v : World). Shows layout state v) after has.shows;
-        prints =
-            prints_marks (coding layout) w (run (coding layout) events w) mark numbers events some has.some_is
-            (subst (λ (v : World). text_of (coding layout) w events ≡ marks_text (new_marks w v)) after has.prints)
-            (subst (λ (v : World). new_reports w v ≡ []) after
-            (ap (drop (length w.choices.reports)) has.reports ∙ drop_all (length w.choices.reports) w.choices.reports (omega arith)));
-        kept = has.kept;
-      }
+    record {
+      are = inl (record {
+        may = may;
+        runs = runs;
+        over = over_alone layout is mark (map brick_of numbers) w (run (coding layout) events w) events reached may runs;
+        leaves = leaves_own layout is mark (map brick_of numbers) w (run (coding layout) events w) events reached may runs;
+      });
+      shows = subst (λ (v : World). Shows layout state v) after has.shows;
+      prints =
+          prints_marks (coding layout) w (run (coding layout) events w) mark numbers events some has.some_is
+          (subst (λ (v : World). text_of (coding layout) w events ≡ marks_text (new_marks w v)) after has.prints)
+          (subst (λ (v : World). new_reports w v ≡ []) after
+          (ap (drop (length w.choices.reports)) has.reports ∙ drop_all (length w.choices.reports) w.choices.reports (omega arith)));
+      kept = has.kept;
+    }
 
 -- no memory was left for an operation to run alone to its end
 pub begun_refused : (layout : Layout) (w : World) (disks : List MemDisk) (new : Simulation) (mark : ℕ) (numbers : List ℕ)

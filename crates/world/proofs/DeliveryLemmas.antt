@@ -25,7 +25,7 @@ use Rattle.world.specs.Noted.{IsSameHistory}
 use Rattle.world.specs.Disks.{KeepsDisks, KeepsOthers, LeavesDisks, ListsEvent, ListsHandled, ListsPacket, receiver_of, changes_disk_of}
 use Rattle.world.specs.EventCalls.{handled_calls}
 use Rattle.world.specs.declared.bricks.Power.{Power}
-use Rattle.world.specs.Shown.{IsRunning, IsUpWith, Shows, ShowsBricks, ShowsPower, TookPart, TookWhole, disk_in, seqs_of, StartsAs, Tells, Comes, ComesTo, TakesEvent, StaysAs, RunsLine, RefusesLine, IsOther, disks_of, world_in}
+use Rattle.world.specs.Shown.{IsRunning, IsUpWith, Shows, ShowsBricks, ShowsPower, TookPart, TookWhole, disk_in, StartsAs, Tells, Comes, ComesTo, TakesEvent, StaysAs, StopsShort, RunsLine, RefusesLine, IsOther, disks_of, world_in}
 use Rattle.world.specs.Texts.{marks_if, is_deliverable, outcome_of, outcome_text, new_marks, new_reports, event_text, text_of, line_text}
 use Rattle.world.specs.declared.simulations.Outcome.{Outcome}
 use Rattle.world.specs.declared.simulations.Outcome.TheVariants.{Marks, Idle}
@@ -35,10 +35,10 @@ use Rattle.world.specs.declared.histories.History.{History}
 use Rattle.world.proofs.BrickLemmas.{up_power}
 use Rattle.world.proofs.BrickListLemmas.{shows_down, shows_step}
 use Rattle.world.proofs.DiskLemmas.{disk_was, of_disk, of_now, one_kept, others_changed, same_kept, unwritten_changed}
-use Rattle.world.proofs.HistoryLemmas.{tells_during, tells_same}
+use Rattle.world.proofs.HistoryLemmas.{tells_during}
 use Rattle.world.proofs.MachineBegins.{happens_stopped_during, happens_unsent, happens_astray}
 use Rattle.world.proofs.RunLemmas.{nothing_text, came_text, start_few}
-use Rattle.world.proofs.SimulationLemmas.{shows_still, shows_handled, handled_here, handled_astray}
+use Rattle.world.proofs.SimulationLemmas.{shows_alike, shows_still, shows_handled, handled_here, handled_astray}
 use Rattle.protocol.proofs.Events.{world_handled}
 
 -- what follows of each value follows of a result
@@ -230,14 +230,6 @@ pub idle_comes : (layout : Layout) (w : World) (state : Simulation) (n : ℕ) (b
     → ComesTo layout w (disks_of state.bricks.items) state (Calm n bricks) Idle []
 idle_comes layout w state n bricks not shows = record { are = inr (not, refl); shows = shows; prints = refl; kept = refl }
 
--- a state of the same bricks, whose history tells what the other's told, shows what that shows
-pub shows_alike : (layout : Layout) (old new : Simulation) (w : World) → new.bricks.items ≡ old.bricks.items → IsSameHistory old.history new.history
-    → Shows layout old w → Shows layout new w
-shows_alike layout old new w same stays shows = record {
-  bricks = subst (λ (bricks : List Brick). ShowsBricks layout bricks w.nodes w.after w.up w.clocks) (sym same) shows.bricks;
-  history = tells_same (seqs_of w) old.history new.history w stays shows.history;
-}
-
 -- what a line came to is so of a state of the same bricks, whose history tells what the other's told
 pub came_alike : (layout : Layout) (w : World) (disks : List MemDisk) (old new : Simulation) (line : Line) (outcome : Outcome) (events : List Event)
     → new.bricks.items ≡ old.bricks.items → IsSameHistory old.history new.history → ComesTo layout w disks old line outcome events
@@ -275,3 +267,9 @@ pub other_stays : (layout : Layout) (old new : Simulation) (line : Line) → ((n
     → RefusesLine layout old new line → StaysAs layout old new
 other_stays layout old new (Calm n bricks) never refuses = absurd (never n bricks refl)
 other_stays layout old new line never refuses = refuses
+
+-- and such a line was not run to its end
+pub calm_stops : (layout : Layout) (old new : Simulation) (line : Line) (n : ℕ) (bricks : List ℕ) → line ≡ Calm n bricks → RefusesLine layout old new line
+    → StopsShort layout old new line
+calm_stops layout old new line n bricks is =
+    subst (λ (l : Line). RefusesLine layout old new l → StopsShort layout old new l) (sym is) (λ refuses. refuses)

@@ -180,6 +180,11 @@ pub record IsNodeOf (layout : Layout) (i : ℕ) (power : Power) : Type 0 where
 abbrev pub AreNodesOf : Layout → List Brick → Type 0
 AreNodesOf layout bricks = (i : ℕ) (brick : Brick) → slice_get bricks i ≡ Some brick → IsNodeOf layout i brick.power
 
+-- there is one for each number of the layout
+pub record AreBricksOf (layout : Layout) (bricks : List Brick) : Type 0 where
+  pub count : length bricks ≡ layout.bricks
+  pub each : AreNodesOf layout bricks
+
 -- a brick is up, and this holds of what runs
 abbrev pub IsUpWith : Power → (Running MemDisk → Type 0) → Type 0
 IsUpWith (Up node) Holds = Holds node
@@ -372,11 +377,6 @@ pub record OpensAside (w : World) (brick : BrickId) (step : machine.NodeStep) : 
   pub seq : step.node.seq ≡ (w.nodes brick.0).seq + calls_used step.reports
   pub unnumbered : number_of w brick.0 ((w.nodes brick.0).seq + 1) ≡ 0
 
--- the step opens the next call
-pub record OpensNext (node : machine.Node) (step : machine.NodeStep) : Type 0 where
-  pub boot : step.node.boot ≡ node.boot
-  pub seq : step.node.seq ≡ node.seq + 1
-
 -- what events that are none or one come to
 abbrev pub came_to : Setting → World → List Event → Outcome
 came_to setting w [] = Marks
@@ -561,9 +561,11 @@ DecidesCalm layout state n bricks may = Decides may (IsCalm (coding layout) (wor
 abbrev pub HasMarks : World → ℕ → Type 0
 HasMarks w n = (o : Operation) → w.operations n ≡ Some o → is_marked o ≡ true
 
--- it may run alone among these bricks, and has marks
-abbrev pub MayRun : Layout → Simulation → ℕ → List ℕ → Type 0
-MayRun layout state n bricks = IsCalm (coding layout) (world_in layout state) n (map brick_of bricks) × HasMarks (world_in layout state) n
+-- it may run alone among these bricks, and has marks, in the world that the state shows
+pub record MayRun (layout : Layout) (state : Simulation) (n : ℕ) (bricks : List ℕ) : Type 0 where
+  pub stands : Stands layout state
+  pub calm : IsCalm (coding layout) (world_in layout state) n (map brick_of bricks)
+  pub marked : HasMarks (world_in layout state) n
 
 -- one that may did, from one state to another; or it began to
 abbrev pub RunsAloneTo : Layout → Simulation → Simulation → ℕ → List ℕ → Bool → Type 0

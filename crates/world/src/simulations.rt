@@ -55,8 +55,8 @@ fn place_of(layout: &Layout, group: u64, stripe: u64) -> Option<(GroupId, Stripe
 
 /// The group of a number. None exactly where there is none.
 fn group_of(layout: &Layout, group: u64) -> Option<GroupId>
-    ensures none { IfNone result ((node : machine.Node) → proposal_refusal layout.now node group ≡ Some Refusal.NoStripe) }
-    ensures unsynced { IfNone result ((node : machine.Node) → sync_refusal layout.now node group ≡ Some Refusal.NoStripe) }
+    ensures none { IfNone result ((node : machine.Node)
+        → (proposal_refusal layout.now node group ≡ Some Refusal.NoStripe) × (sync_refusal layout.now node group ≡ Some Refusal.NoStripe)) }
     ensures some { IfSome result (λ found. found ≡ group_no group) }
 {
     if group < layout.group_count() as u64 {
@@ -110,16 +110,17 @@ fn op_of(alloc: Global, access: &Access) -> Result<Op, NoMem>
 }
 
 impl Simulation {
-    ghost use Rattle.std.specs.Prelude.{◌≡◌, [], None, map, vec_len, IfOk, OnOk, OnErr};
+    ghost use Rattle.std.specs.Prelude.{◌≡◌, [], None, map, IfOk, OnOk, OnErr};
+    ghost use Rattle.protocol.specs.Worlds.{first_world};
     ghost use Rattle.protocol.specs.Worlds.Event.{Invokes, Proposes, Syncs, Sets, Ticks, Stops};
     ghost use Rattle.lines.specs.declared.forms.Line.TheVariants.{Deliver, Start, Calm};
     ghost use Rattle.world.specs.Runs.{brick_of, ask_of, group_no, member_no, op_of};
     ghost use Rattle.world.specs.Disks.{AreFreshDisks};
-    ghost use Rattle.world.specs.Shown.{AreNodesOf, Stands, IsUp, IsOther, MayRun, RunsAloneTo, BeginsAloneTo, GoesOn, DeliversAlone, StopsShort, RunsLine, RefusesLine, TakesEvent, StaysAs, disks_of};
+    ghost use Rattle.world.specs.Shown.{FindsUp, Shows, Stands, IsUp, IsOther, MayRun, RunsAloneTo, BeginsAloneTo, GoesOn, DeliversAlone, StopsShort, RunsLine, RefusesLine, TakesEvent, StaysAs, disks_of};
 
     /// All bricks up, their stores fresh, their clocks at 0, and nothing sent.
     pub fn new(alloc: Global, layout: &Layout) -> Result<Simulation, NoMem>
-        ensures stands { IfOk result (Stands layout.now) }
+        ensures shows { IfOk result (λ state. Shows layout.now state (first_world layout.now)) }
         ensures first { IfOk result (λ state. state.trail.course ≡ record { steps = []; events = [] }) }
         ensures listed { IfOk result (λ state. AreFreshDisks layout.now (disks_of state.bricks.items)) }
     {
@@ -133,9 +134,7 @@ impl Simulation {
     /// Runs a line. After a refusal for want of memory the state shows what it showed, or what the first deliveries of an operation that runs alone
     /// leave.
     pub fn run(&mut self, alloc: Global, layout: &Layout, line: &Line) -> Result<Outcome, NoMem>
-        requires nodes { AreNodesOf layout.now self.old.bricks.items }
-        requires bricks { vec_len self.old.bricks ≡ layout.now.bricks }
-        requires stands { Stands layout.now self.old }
+        requires { Stands layout.now self.old }
         ensures ok { IfOk result (GoesOn layout.now self.old self.new line.now) }
         ensures err { OnErr result (RefusesLine layout.now self.old self.new line.now) }
     {
@@ -149,8 +148,6 @@ impl Simulation {
 
     /// Runs a line that has no operation run alone.
     fn take(&mut self, alloc: Global, layout: &Layout, line: &Line) -> Result<Outcome, NoMem>
-        requires nodes { AreNodesOf layout.now self.old.bricks.items }
-        requires bricks { vec_len self.old.bricks ≡ layout.now.bricks }
         requires stands { Stands layout.now self.old }
         requires line { IsOther line.now }
         ensures ok { IfOk result (GoesOn layout.now self.old self.new line.now) }
@@ -164,8 +161,6 @@ impl Simulation {
 
     /// What happens at such a line.
     fn happen(&mut self, alloc: Global, layout: &Layout, line: &Line) -> Result<Outcome, NoMem>
-        requires nodes { AreNodesOf layout.now self.old.bricks.items }
-        requires bricks { vec_len self.old.bricks ≡ layout.now.bricks }
         requires stands { Stands layout.now self.old }
         requires line { IsOther line.now }
         ensures ok { IfOk result (RunsLine layout.now self.old self.new line.now) }
@@ -194,6 +189,14 @@ impl Simulation {
         }
     }
 
+    /// The brick of a number, where there is one and it is up.
+    fn find_up(&self, layout: &Layout, number: u64) -> Option<BrickId>
+        requires { Stands layout.now self.now }
+        ensures { FindsUp self.now.bricks.items number result }
+    {
+        find_up(&self.bricks, layout, number)
+    }
+
     /// Asks a brick for an operation.
     fn invoke(
         &mut self,
@@ -204,13 +207,11 @@ impl Simulation {
         stripe: u64,
         access: &Access,
     ) -> Result<Outcome, NoMem>
-        requires nodes { AreNodesOf layout.now self.old.bricks.items }
-        requires bricks { vec_len self.old.bricks ≡ layout.now.bricks }
-        requires stands { Stands layout.now self.old }
+        requires { Stands layout.now self.old }
         ensures ok { IfOk result (TakesEvent layout.now self.old self.new (Invokes (brick_of brick) (ask_of group stripe (op_of access.now)))) }
         ensures err { OnErr result (StaysAs layout.now self.old self.new) }
     {
-        let brick = match find_up(&self.bricks, layout, brick) {
+        let brick = match self.find_up(layout, brick) {
             Some(brick) => brick,
             None => return Ok(Outcome::Refused(Refusal::Down)),
         };
@@ -257,13 +258,11 @@ impl Simulation {
         group: u64,
         members: &[u64],
     ) -> Result<Outcome, NoMem>
-        requires nodes { AreNodesOf layout.now self.old.bricks.items }
-        requires bricks { vec_len self.old.bricks ≡ layout.now.bricks }
-        requires stands { Stands layout.now self.old }
+        requires { Stands layout.now self.old }
         ensures ok { IfOk result (TakesEvent layout.now self.old self.new (Proposes (brick_of brick) (group_no group) (map member_no members.now))) }
         ensures err { OnErr result (StaysAs layout.now self.old self.new) }
     {
-        let brick = match find_up(&self.bricks, layout, brick) {
+        let brick = match self.find_up(layout, brick) {
             Some(brick) => brick,
             None => return Ok(Outcome::Refused(Refusal::Down)),
         };
@@ -309,13 +308,11 @@ impl Simulation {
         brick: u64,
         group: u64,
     ) -> Result<Outcome, NoMem>
-        requires nodes { AreNodesOf layout.now self.old.bricks.items }
-        requires bricks { vec_len self.old.bricks ≡ layout.now.bricks }
-        requires stands { Stands layout.now self.old }
+        requires { Stands layout.now self.old }
         ensures ok { IfOk result (TakesEvent layout.now self.old self.new (Syncs (brick_of brick) (group_no group))) }
         ensures err { OnErr result (StaysAs layout.now self.old self.new) }
     {
-        let brick = match find_up(&self.bricks, layout, brick) {
+        let brick = match self.find_up(layout, brick) {
             Some(brick) => brick,
             None => return Ok(Outcome::Refused(Refusal::Down)),
         };
@@ -359,9 +356,7 @@ impl Simulation {
         message: u64,
         fault: Option<Fault>,
     ) -> Result<Outcome, NoMem>
-        requires nodes { AreNodesOf layout.now self.old.bricks.items }
-        requires bricks { vec_len self.old.bricks ≡ layout.now.bricks }
-        requires stands { Stands layout.now self.old }
+        requires { Stands layout.now self.old }
         ensures ok { IfOk result (RunsLine layout.now self.old self.new (Deliver message fault)) }
         ensures err { OnErr result (StaysAs layout.now self.old self.new) }
     {
@@ -393,8 +388,7 @@ impl Simulation {
 
     /// Sets a brick's clock.
     fn set_clock(&mut self, layout: &Layout, brick: u64, time: u64) -> Outcome
-        requires bricks { vec_len self.old.bricks ≡ layout.now.bricks }
-        requires stands { Stands layout.now self.old }
+        requires { Stands layout.now self.old }
         ensures { TakesEvent layout.now self.old self.new (Sets (brick_of brick) time) result }
     {
         if brick >= u64::from(layout.bricks()) {
@@ -407,13 +401,11 @@ impl Simulation {
 
     /// A brick's clock ticks: it sends again what its open operations, its proposal and its synchronisation wait for.
     fn tick(&mut self, layout: &Layout, brick: u64) -> Result<Outcome, NoMem>
-        requires nodes { AreNodesOf layout.now self.old.bricks.items }
-        requires bricks { vec_len self.old.bricks ≡ layout.now.bricks }
-        requires stands { Stands layout.now self.old }
+        requires { Stands layout.now self.old }
         ensures ok { IfOk result (TakesEvent layout.now self.old self.new (Ticks (brick_of brick))) }
         ensures err { OnErr result (StaysAs layout.now self.old self.new) }
     {
-        let brick = match find_up(&self.bricks, layout, brick) {
+        let brick = match self.find_up(layout, brick) {
             Some(brick) => brick,
             None => return Ok(Outcome::Idle),
         };
@@ -424,13 +416,11 @@ impl Simulation {
 
     /// A brick stops: its open operations, its proposal and its synchronisation are gone, and what it keeps of stripes, views and ballots stays.
     fn crash(&mut self, alloc: Global, layout: &Layout, brick: u64) -> Result<Outcome, NoMem>
-        requires nodes { AreNodesOf layout.now self.old.bricks.items }
-        requires bricks { vec_len self.old.bricks ≡ layout.now.bricks }
-        requires stands { Stands layout.now self.old }
+        requires { Stands layout.now self.old }
         ensures ok { IfOk result (TakesEvent layout.now self.old self.new (Stops (brick_of brick) None)) }
         ensures err { OnErr result (StaysAs layout.now self.old self.new) }
     {
-        let brick = match find_up(&self.bricks, layout, brick) {
+        let brick = match self.find_up(layout, brick) {
             Some(brick) => brick,
             None => return Ok(Outcome::Idle),
         };
@@ -448,9 +438,7 @@ impl Simulation {
         brick: u64,
         fault: Option<Fault>,
     ) -> Result<Outcome, NoMem>
-        requires nodes { AreNodesOf layout.now self.old.bricks.items }
-        requires bricks { vec_len self.old.bricks ≡ layout.now.bricks }
-        requires stands { Stands layout.now self.old }
+        requires { Stands layout.now self.old }
         ensures ok { IfOk result (RunsLine layout.now self.old self.new (Start brick fault)) }
         ensures err { OnErr result (StaysAs layout.now self.old self.new) }
     {
@@ -504,8 +492,7 @@ impl Simulation {
         operation: u64,
         bricks: &[u64],
     ) -> Result<bool, NoMem>
-        requires stands { Stands layout.now self.old }
-        requires may { MayRun layout.now self.old operation bricks.now }
+        requires { MayRun layout.now self.old operation bricks.now }
         ensures run { IfOk result (RunsAloneTo layout.now self.old self.new operation bricks.now) }
         ensures cut { OnErr result (BeginsAloneTo layout.now self.old self.new operation bricks.now) }
     {
@@ -527,12 +514,7 @@ impl Simulation {
     }
 
     /// Delivers the message of a number to an operation that runs alone, and chains what its receiver sends.
-    fn deliver_alone(
-        &mut self,
-        alloc: Global,
-        layout: &Layout,
-        message: u64,
-    ) -> Result<(), NoMem>
+    fn deliver_alone(&mut self, alloc: Global, layout: &Layout, message: u64) -> Result<(), NoMem>
         requires { Stands layout.now self.old }
         ensures ok { OnOk result (DeliversAlone layout.now self.old self.new message) }
         ensures err { OnErr result (StaysAs layout.now self.old self.new) }

@@ -1,5 +1,5 @@
 -- The operation whose marks have the number runs alone where it may, and else nothing happens. Chaining what was sent leaves what the history tells.
-use Rattle.std.proofs.Common.{◌≡◌, ℕ, Bool, true, false, [], map, sym, ◌∙◌, subst}
+use Rattle.std.proofs.Common.{◌≡◌, ℕ, Bool, true, false, [], map, refl, sym, ◌∙◌, subst}
 use Rattle.protocol.specs.Calms.{IsCalm, operation_marked}
 use Rattle.protocol.specs.Worlds.{World}
 use Rattle.stripe_code.specs.Codes.{coding}
@@ -10,13 +10,11 @@ use Rattle.world.proofs.DeliveryLemmas.{idle_comes}
 use Rattle.world.proofs.HavingMarks.{marked_has}
 use Rattle.world.proofs.HistoryLemmas.{tells_same}
 use Rattle.world.proofs.KeptNumbers.{none_told}
-use Rattle.world.proofs.SimulationLemmas.{come_to, on_err_always, with_more}
+use Rattle.world.proofs.SimulationLemmas.{come_to, on_err_always, shows_alike, with_more}
 use Rattle.world.proofs.simulations.Simulation.calm.Goals as goal
 
 pub is_calm-requires : goal.is_calm-requires
-is_calm-requires c =
-    let w : World = world_in c.args.layout.now c.args.self.now in
-    record { bricks = c.requires.bricks; history = tells_same (seqs_of w) _ _ w c.chain_sent.ensures c.requires.history }
+is_calm-requires c = shows_alike _ _ _ _ refl c.chain_sent.ensures c.requires
 
 pub returns-then-not-is_calm-clause-ok : goal.returns-then-not-is_calm-clause-ok
 returns-then-not-is_calm-clause-ok c =
@@ -31,19 +29,16 @@ returns-then-not-is_calm-clause-ok c =
       sym (with_more c.args.self.now.trail.course),
     )
 
-pub run_alone-requires-clause-stands : goal.run_alone-requires-clause-stands
-run_alone-requires-clause-stands c =
-    let w : World = world_in c.args.layout.now c.args.self.now in
-    record { bricks = c.requires.bricks; history = tells_same (seqs_of w) _ _ w c.chain_sent.ensures c.requires.history }
-
-pub run_alone-requires-clause-may : goal.run_alone-requires-clause-may
-run_alone-requires-clause-may c =
+pub run_alone-requires : goal.run_alone-requires
+run_alone-requires c =
     let w : World = world_in c.args.layout.now c.args.self.now in
     let told = tells_same (seqs_of w) _ _ w c.chain_sent.ensures c.requires.history in
-    let number : c.number_marked-operation.result ≡ operation_marked w c.args.mark = c.number_marked-operation.ensures ∙ told.marked.each c.args.mark in (
-      c.is_calm.ensures.0 c.if-not-is_calm.false,
-      subst (HasMarks w) (sym number) (marked_has w c.args.mark (none_told _ w.operations told.operations)),
-    )
+    let number : c.number_marked-operation.result ≡ operation_marked w c.args.mark = c.number_marked-operation.ensures ∙ told.marked.each c.args.mark in
+    record {
+      stands = shows_alike _ _ _ _ refl c.chain_sent.ensures c.requires;
+      calm = c.is_calm.ensures.0 c.if-not-is_calm.false;
+      marked = subst (HasMarks w) (sym number) (marked_has w c.args.mark (none_told _ w.operations told.operations));
+    }
 
 pub returns-then-branch-clause-ok : goal.returns-then-branch-clause-ok
 returns-then-branch-clause-ok c =

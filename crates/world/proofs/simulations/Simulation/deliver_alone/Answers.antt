@@ -2,12 +2,8 @@
 use Rattle.std.proofs.Common.{None, refl}
 use Rattle.lines.specs.declared.forms.Line.TheVariants.{Deliver}
 use Rattle.world.specs.Shown.{disks_of, world_in}
-use Rattle.world.proofs.BrickListLemmas.{nodes_of}
 use Rattle.world.proofs.DeliveryLemmas.{came_alike}
 use Rattle.world.proofs.simulations.Simulation.deliver_alone.Goals as goal
-
-pub take-requires-clause-nodes : goal.take-requires-clause-nodes
-take-requires-clause-nodes c = nodes_of _ _ _ _ _ _ c.requires.bricks
 
 pub returns-clause-ok : goal.returns-clause-ok
 returns-clause-ok c =

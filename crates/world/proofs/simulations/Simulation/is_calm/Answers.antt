@@ -67,9 +67,9 @@ returns-in_default c =
     let w : World = world_in c.args.layout.now c.args.self.now in
     let reached = come_to c.args.layout.now c.args.self.now in
     let shows = c.requires in (
-  λ on. absurd (let never : false ≡ true = on in cc),
-  λ calm. absurd (let never : None ≡ Some calm.coordinator = sym (opens_as c.args.layout.now w c.args.self.now c.args.operation _ c.in_default.ensures reached shows) ∙ calm.open_is in cc),
-)
+      λ on. absurd (let never : false ≡ true = on in cc),
+      λ calm. absurd (let never : None ≡ Some calm.coordinator = sym (opens_as c.args.layout.now w c.args.self.now c.args.operation _ c.in_default.ensures reached shows) ∙ calm.open_is in cc),
+    )
 
 -- it has a view
 pub returns-in_default-open_view : goal.returns-in_default-open_view

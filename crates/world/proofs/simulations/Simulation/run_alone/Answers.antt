@@ -17,7 +17,7 @@ loop-record-init c =
     let layout = c.args.layout.now in (
       [],
       none_yet layout (world_in layout c.args.self.now) c.args.operation c.args.bricks.now c.args.self.now (come_to layout c.args.self.now) c.requires.stands
-          c.requires.may.1,
+          c.requires.marked,
       sym (with_more c.args.self.now.trail.course),
     )
 
@@ -28,7 +28,7 @@ returns-in_default-next_left-clause-run c =
     let (events, so, course) = c.loop-record.invariant in (
       events,
       has_stuck layout w c.args.operation c.args.bricks.now (disks_of c.args.self.now.bricks.items) c.loop-record.self c.loop-record.from
-          c.loop-record.some events c.requires.may.0 so c.in-Some.record
+          c.loop-record.some events c.requires.calm so c.in-Some.record
           (opens_as layout so.last c.loop-record.self c.args.operation _ c.in-Some.ensures so.reached so.shows)
           (subst (λ (sent : List Packet). FindsLeft c.loop-record.self.history.delivered.reached.items c.in-Some.record c.args.bricks.now c.loop-record.from sent None)
           so.shows.history.packets c.in_default-next_left.ensures),
@@ -57,7 +57,7 @@ returns-in_err-deliver_alone-clause-cut c =
     on_err_always c.from_residual.result (
       events,
       has_begun layout w c.args.operation c.args.bricks.now (disks_of c.args.self.now.bricks.items) c.loop-record.self c.loop-record.from
-          c.loop-record.some events c.requires.may.0 so c.deliver_alone.new.self
+          c.loop-record.some events c.requires.calm so c.deliver_alone.new.self
           (subst (λ (v : World). Shows layout c.deliver_alone.new.self v)
           (sym (come_so layout c.args.self.now c.loop-record.self c.args.operation c.args.bricks.now _ _ _ events so course)) stays.shows) stays.contents,
       ap (λ trail. trail.course) stays.trail ∙ course,
@@ -80,7 +80,7 @@ loop-record-preserved c =
     let here = come_so layout c.args.self.now c.loop-record.self c.args.operation c.args.bricks.now _ _ _ events so course in (
       events ++ event ∷ [],
       goes_on layout w c.args.operation c.args.bricks.now (disks_of c.args.self.now.bricks.items) c.loop-record.self c.loop-record.from
-          c.loop-record.some events c.requires.may.0 so c.in-Some.record
+          c.loop-record.some events c.requires.calm so c.in-Some.record
           (opens_as layout so.last c.loop-record.self c.args.operation _ c.in-Some.ensures so.reached so.shows)
           c.in-Some-next_left.place c.deliver_alone.new.self outcome
           (subst (λ (sent : List Packet). FindsLeft c.loop-record.self.history.delivered.reached.items c.in-Some.record c.args.bricks.now c.loop-record.from sent
@@ -99,7 +99,7 @@ returns-clause-run c =
     let (events, so, course) = c.loop-record.invariant in (
       events,
       has_ended layout (world_in layout c.args.self.now) c.args.operation c.args.bricks.now (disks_of c.args.self.now.bricks.items) c.loop-record.self
-          c.loop-record.from c.loop-record.some events c.requires.may.0 so
+          c.loop-record.from c.loop-record.some events c.requires.calm so
           (opens_as layout so.last c.loop-record.self c.args.operation _ c.in_default.ensures so.reached so.shows),
       course,
     )
