@@ -10,6 +10,7 @@ use crate::bricks::{
     start_brick, stop_brick, tick_brick,
 };
 use crate::histories::{History, packet_at};
+use crate::trails::{Shelf, Trail};
 use fab_base::{Ask, BrickId, GroupId, NoMem, Op, Refusal, StripeNo};
 use layout::Layout;
 use lines::{Access, Fault, Line};
@@ -21,6 +22,7 @@ use std::alloc::Global;
 pub struct Simulation {
     pub bricks: Vec<Brick>,
     pub history: History,
+    pub trail: Trail,
 }
 
 /// What a line comes to.
@@ -55,8 +57,8 @@ fn place_of(layout: &Layout, group: u64, stripe: u64) -> Option<(GroupId, Stripe
 
 /// The group of a number. None exactly where there is none.
 fn group_of(layout: &Layout, group: u64) -> Option<GroupId>
-    ensures none { IfNone result ((node : machine.Node) → proposal_refusal layout.now node group ≡ Some Refusal.NoStripe) }
-    ensures unsynced { IfNone result ((node : machine.Node) → sync_refusal layout.now node group ≡ Some Refusal.NoStripe) }
+    ensures none { IfNone result ((node : machine.Node)
+        → (proposal_refusal layout.now node group ≡ Some Refusal.NoStripe) × (sync_refusal layout.now node group ≡ Some Refusal.NoStripe)) }
     ensures some { IfSome result (λ found. found ≡ group_no group) }
 {
     if group < layout.group_count() as u64 {
@@ -110,33 +112,61 @@ fn op_of(alloc: Global, access: &Access) -> Result<Op, NoMem>
 }
 
 impl Simulation {
-    ghost use Rattle.std.specs.Prelude.{◌≡◌, None, map, vec_len, IfOk, OnErr};
+    ghost use Rattle.std.specs.Prelude.{◌≡◌, [], None, map, IfOk, OnOk, OnErr};
     ghost use Rattle.protocol.specs.Worlds.{first_world};
     ghost use Rattle.protocol.specs.Worlds.Event.{Invokes, Proposes, Syncs, Scrubs, Sets, Ticks, Stops};
     ghost use Rattle.lines.specs.declared.forms.Line.TheVariants.{Deliver, Start, Calm};
     ghost use Rattle.world.specs.Runs.{brick_of, ask_of, group_no, stripe_no, member_no, op_of};
     ghost use Rattle.world.specs.Disks.{AreFreshDisks};
-    ghost use Rattle.world.specs.Shown.{AreNodesOf, Shows, IsUp, IsReachable, RunsAloneTo, BeginsAloneTo, RunsLine, RefusesLine, TakesEvent, StaysAs, disks_of};
+    ghost use Rattle.world.specs.Shown.{FindsUp, Shows, Stands, IsUp, IsOther, MayRun, RunsAloneTo, BeginsAloneTo, GoesOn, DeliversAlone, StopsShort, RunsLine, RefusesLine, TakesEvent, StaysAs, disks_of};
 
     /// All bricks up, their stores fresh, their clocks at 0, and nothing sent.
     pub fn new(alloc: Global, layout: &Layout) -> Result<Simulation, NoMem>
         ensures shows { IfOk result (λ state. Shows layout.now state (first_world layout.now)) }
+        ensures first { IfOk result (λ state. state.trail.course ≡ record { steps = []; events = [] }) }
         ensures listed { IfOk result (λ state. AreFreshDisks layout.now (disks_of state.bricks.items)) }
     {
         Ok(Simulation {
             bricks: fresh_bricks(alloc, layout)?,
             history: History::new(alloc),
+            trail: Trail::new(),
         })
     }
 
     /// Runs a line. After a refusal for want of memory the state shows what it showed, or what the first deliveries of an operation that runs alone
     /// leave.
     pub fn run(&mut self, alloc: Global, layout: &Layout, line: &Line) -> Result<Outcome, NoMem>
-        requires nodes { AreNodesOf layout.now self.old.bricks.items }
-        requires bricks { vec_len self.old.bricks ≡ layout.now.bricks }
-        requires shows { IsReachable layout.now self.old }
-        ensures ok { IfOk result (RunsLine layout.now self.old self.new line.now) }
+        requires { Stands layout.now self.old }
+        ensures ok { IfOk result (GoesOn layout.now self.old self.new line.now) }
         ensures err { OnErr result (RefusesLine layout.now self.old self.new line.now) }
+    {
+        match line {
+            Line::Calm { operation, bricks } => {
+                self.calm(alloc, layout, *operation, bricks.as_slice())
+            }
+            _ => self.take(alloc, layout, line),
+        }
+    }
+
+    /// Runs a line that has no operation run alone.
+    fn take(&mut self, alloc: Global, layout: &Layout, line: &Line) -> Result<Outcome, NoMem>
+        requires stands { Stands layout.now self.old }
+        requires line { IsOther line.now }
+        ensures ok { IfOk result (GoesOn layout.now self.old self.new line.now) }
+        ensures err { OnErr result (StaysAs layout.now self.old self.new) }
+    {
+        let shelf = Shelf::of(self);
+        let outcome = self.happen(alloc, layout, line)?;
+        self.trail = Trail::with(&self.trail, &shelf, layout, line, &outcome, self);
+        Ok(outcome)
+    }
+
+    /// What happens at such a line.
+    fn happen(&mut self, alloc: Global, layout: &Layout, line: &Line) -> Result<Outcome, NoMem>
+        requires stands { Stands layout.now self.old }
+        requires line { IsOther line.now }
+        ensures ok { IfOk result (RunsLine layout.now self.old self.new line.now) }
+        ensures err { OnErr result (StaysAs layout.now self.old self.new) }
     {
         match line {
             Line::Nothing => Ok(Outcome::Marks),
@@ -163,10 +193,16 @@ impl Simulation {
                 stripe,
                 members,
             } => self.scrub(alloc, layout, *brick, *group, *stripe, members.as_slice()),
-            Line::Calm { operation, bricks } => {
-                self.calm(alloc, layout, *operation, bricks.as_slice())
-            }
+            Line::Calm { .. } => unreachable!(),
         }
+    }
+
+    /// The brick of a number, where there is one and it is up.
+    fn find_up(&self, layout: &Layout, number: u64) -> Option<BrickId>
+        requires { Stands layout.now self.now }
+        ensures { FindsUp self.now.bricks.items number result }
+    {
+        find_up(&self.bricks, layout, number)
     }
 
     /// Asks a brick for an operation.
@@ -179,12 +215,11 @@ impl Simulation {
         stripe: u64,
         access: &Access,
     ) -> Result<Outcome, NoMem>
-        requires nodes { AreNodesOf layout.now self.old.bricks.items }
-        requires bricks { vec_len self.old.bricks ≡ layout.now.bricks }
+        requires { Stands layout.now self.old }
         ensures ok { IfOk result (TakesEvent layout.now self.old self.new (Invokes (brick_of brick) (ask_of group stripe (op_of access.now)))) }
         ensures err { OnErr result (StaysAs layout.now self.old self.new) }
     {
-        let brick = match find_up(&self.bricks, layout, brick) {
+        let brick = match self.find_up(layout, brick) {
             Some(brick) => brick,
             None => return Ok(Outcome::Refused(Refusal::Down)),
         };
@@ -204,7 +239,8 @@ impl Simulation {
         brick: BrickId,
         ask: Ask,
     ) -> Result<Outcome, NoMem>
-        requires { IsUp self.old.bricks.items brick }
+        requires up { IsUp self.old.bricks.items brick }
+        requires stands { Stands layout.now self.old }
         ensures ok { IfOk result (TakesEvent layout.now self.old self.new (Invokes brick ask)) }
         ensures err { OnErr result (StaysAs layout.now self.old self.new) }
     {
@@ -230,12 +266,11 @@ impl Simulation {
         group: u64,
         members: &[u64],
     ) -> Result<Outcome, NoMem>
-        requires nodes { AreNodesOf layout.now self.old.bricks.items }
-        requires bricks { vec_len self.old.bricks ≡ layout.now.bricks }
+        requires { Stands layout.now self.old }
         ensures ok { IfOk result (TakesEvent layout.now self.old self.new (Proposes (brick_of brick) (group_no group) (map member_no members.now))) }
         ensures err { OnErr result (StaysAs layout.now self.old self.new) }
     {
-        let brick = match find_up(&self.bricks, layout, brick) {
+        let brick = match self.find_up(layout, brick) {
             Some(brick) => brick,
             None => return Ok(Outcome::Refused(Refusal::Down)),
         };
@@ -256,7 +291,8 @@ impl Simulation {
         group: GroupId,
         members: &[BrickId],
     ) -> Result<Outcome, NoMem>
-        requires { IsUp self.old.bricks.items brick }
+        requires up { IsUp self.old.bricks.items brick }
+        requires stands { Stands _layout.now self.old }
         ensures ok { IfOk result (TakesEvent _layout.now self.old self.new (Proposes brick group members.now)) }
         ensures err { OnErr result (StaysAs _layout.now self.old self.new) }
     {
@@ -280,12 +316,11 @@ impl Simulation {
         brick: u64,
         group: u64,
     ) -> Result<Outcome, NoMem>
-        requires nodes { AreNodesOf layout.now self.old.bricks.items }
-        requires bricks { vec_len self.old.bricks ≡ layout.now.bricks }
+        requires { Stands layout.now self.old }
         ensures ok { IfOk result (TakesEvent layout.now self.old self.new (Syncs (brick_of brick) (group_no group))) }
         ensures err { OnErr result (StaysAs layout.now self.old self.new) }
     {
-        let brick = match find_up(&self.bricks, layout, brick) {
+        let brick = match self.find_up(layout, brick) {
             Some(brick) => brick,
             None => return Ok(Outcome::Refused(Refusal::Down)),
         };
@@ -304,7 +339,8 @@ impl Simulation {
         brick: BrickId,
         group: GroupId,
     ) -> Result<Outcome, NoMem>
-        requires { IsUp self.old.bricks.items brick }
+        requires up { IsUp self.old.bricks.items brick }
+        requires stands { Stands _layout.now self.old }
         ensures ok { IfOk result (TakesEvent _layout.now self.old self.new (Syncs brick group)) }
         ensures err { OnErr result (StaysAs _layout.now self.old self.new) }
     {
@@ -381,8 +417,7 @@ impl Simulation {
         message: u64,
         fault: Option<Fault>,
     ) -> Result<Outcome, NoMem>
-        requires nodes { AreNodesOf layout.now self.old.bricks.items }
-        requires bricks { vec_len self.old.bricks ≡ layout.now.bricks }
+        requires { Stands layout.now self.old }
         ensures ok { IfOk result (RunsLine layout.now self.old self.new (Deliver message fault)) }
         ensures err { OnErr result (StaysAs layout.now self.old self.new) }
     {
@@ -414,7 +449,7 @@ impl Simulation {
 
     /// Sets a brick's clock.
     fn set_clock(&mut self, layout: &Layout, brick: u64, time: u64) -> Outcome
-        requires { vec_len self.old.bricks ≡ layout.now.bricks }
+        requires { Stands layout.now self.old }
         ensures { TakesEvent layout.now self.old self.new (Sets (brick_of brick) time) result }
     {
         if brick >= u64::from(layout.bricks()) {
@@ -427,12 +462,11 @@ impl Simulation {
 
     /// A brick's clock ticks: it sends again what its open operations, its proposal, its synchronisation and its scrub wait for.
     fn tick(&mut self, layout: &Layout, brick: u64) -> Result<Outcome, NoMem>
-        requires nodes { AreNodesOf layout.now self.old.bricks.items }
-        requires bricks { vec_len self.old.bricks ≡ layout.now.bricks }
+        requires { Stands layout.now self.old }
         ensures ok { IfOk result (TakesEvent layout.now self.old self.new (Ticks (brick_of brick))) }
         ensures err { OnErr result (StaysAs layout.now self.old self.new) }
     {
-        let brick = match find_up(&self.bricks, layout, brick) {
+        let brick = match self.find_up(layout, brick) {
             Some(brick) => brick,
             None => return Ok(Outcome::Idle),
         };
@@ -443,12 +477,11 @@ impl Simulation {
 
     /// A brick stops: its open operations, its proposal, its synchronisation and its scrub are gone, and what it keeps of stripes, views and ballots stays.
     fn crash(&mut self, alloc: Global, layout: &Layout, brick: u64) -> Result<Outcome, NoMem>
-        requires nodes { AreNodesOf layout.now self.old.bricks.items }
-        requires bricks { vec_len self.old.bricks ≡ layout.now.bricks }
+        requires { Stands layout.now self.old }
         ensures ok { IfOk result (TakesEvent layout.now self.old self.new (Stops (brick_of brick) None)) }
         ensures err { OnErr result (StaysAs layout.now self.old self.new) }
     {
-        let brick = match find_up(&self.bricks, layout, brick) {
+        let brick = match self.find_up(layout, brick) {
             Some(brick) => brick,
             None => return Ok(Outcome::Idle),
         };
@@ -466,8 +499,7 @@ impl Simulation {
         brick: u64,
         fault: Option<Fault>,
     ) -> Result<Outcome, NoMem>
-        requires nodes { AreNodesOf layout.now self.old.bricks.items }
-        requires bricks { vec_len self.old.bricks ≡ layout.now.bricks }
+        requires { Stands layout.now self.old }
         ensures ok { IfOk result (RunsLine layout.now self.old self.new (Start brick fault)) }
         ensures err { OnErr result (StaysAs layout.now self.old self.new) }
     {
@@ -495,9 +527,9 @@ impl Simulation {
         mark: u64,
         bricks: &[u64],
     ) -> Result<Outcome, NoMem>
-        requires { IsReachable layout.now self.old }
-        ensures ok { IfOk result (RunsLine layout.now self.old self.new (Calm mark bricks.now)) }
-        ensures err { OnErr result (RefusesLine layout.now self.old self.new (Calm mark bricks.now)) }
+        requires { Stands layout.now self.old }
+        ensures ok { IfOk result (GoesOn layout.now self.old self.new (Calm mark bricks.now)) }
+        ensures err { OnErr result (StopsShort layout.now self.old self.new (Calm mark bricks.now)) }
     {
         self.history.chain_sent();
         let operation = self.history.number_marked(mark);
@@ -521,7 +553,7 @@ impl Simulation {
         operation: u64,
         bricks: &[u64],
     ) -> Result<bool, NoMem>
-        requires { IsReachable layout.now self.old }
+        requires { MayRun layout.now self.old operation bricks.now }
         ensures run { IfOk result (RunsAloneTo layout.now self.old self.new operation bricks.now) }
         ensures cut { OnErr result (BeginsAloneTo layout.now self.old self.new operation bricks.now) }
     {
@@ -543,19 +575,17 @@ impl Simulation {
     }
 
     /// Delivers the message of a number to an operation that runs alone, and chains what its receiver sends.
-    fn deliver_alone(
-        &mut self,
-        alloc: Global,
-        layout: &Layout,
-        message: u64,
-    ) -> Result<Outcome, NoMem>
-        requires nodes { AreNodesOf layout.now self.old.bricks.items }
-        requires bricks { vec_len self.old.bricks ≡ layout.now.bricks }
-        ensures ok { IfOk result (RunsLine layout.now self.old self.new (Deliver message None)) }
+    fn deliver_alone(&mut self, alloc: Global, layout: &Layout, message: u64) -> Result<(), NoMem>
+        requires { Stands layout.now self.old }
+        ensures ok { OnOk result (DeliversAlone layout.now self.old self.new message) }
         ensures err { OnErr result (StaysAs layout.now self.old self.new) }
     {
-        let outcome = self.deliver(alloc, layout, message, None)?;
+        let line = Line::Deliver {
+            message,
+            fault: None,
+        };
+        self.take(alloc, layout, &line)?;
         self.history.chain_sent();
-        Ok(outcome)
+        Ok(())
     }
 }

@@ -21,7 +21,8 @@ use Rattle.protocol.specs.Worlds.{World, Operation, is_up}
 use Rattle.quorum.specs.Quorums.{q_of}
 use Rattle.world.specs.Deliveries.{IsUntouchedAt}
 use Rattle.world.specs.Runs.{brick_of}
-use Rattle.world.specs.Shown.{Shows, ShowsBricks, IsReachedBy, OpensAs, IsAble, IsInTime, open_record, open_view, node_view, running_at, node_knows_synced, may_ask_prior_at}
+use Rattle.world.specs.Shown.{Shows, ShowsBricks, IsReachedBy, OpensAs, IsAble, IsInTime, open_record, open_view, node_view, running_at, node_knows_synced, may_ask_prior_at, world_in}
+use Rattle.world.proofs.SimulationLemmas.{come_to}
 use Rattle.world.specs.declared.bricks.Brick.{Brick}
 use Rattle.world.specs.declared.histories.OperationRecord.{OperationRecord}
 use Rattle.world.specs.declared.simulations.Simulation.{Simulation}
@@ -62,27 +63,39 @@ view_here layout w state n kept found here shows is = is ∙ by_node (running_at
 
 -- an operation that is not open may not
 pub returns-in_default : goal.returns-in_default
-returns-in_default c w reached shows = (
-  λ on. absurd (let never : false ≡ true = on in cc),
-  λ calm. absurd (let never : None ≡ Some calm.coordinator = sym (opens_as c.args.layout.now w c.args.self.now c.args.operation _ c.in_default.ensures reached shows) ∙ calm.open_is in cc),
-)
+returns-in_default c =
+    let w : World = world_in c.args.layout.now c.args.self.now in
+    let reached = come_to c.args.layout.now c.args.self.now in
+    let shows = c.requires in (
+      λ on. absurd (let never : false ≡ true = on in cc),
+      λ calm. absurd (let never : None ≡ Some calm.coordinator = sym (opens_as c.args.layout.now w c.args.self.now c.args.operation _ c.in_default.ensures reached shows) ∙ calm.open_is in cc),
+    )
 
 -- it has a view
 pub returns-in_default-open_view : goal.returns-in_default-open_view
-returns-in_default-open_view c w reached shows =
+returns-in_default-open_view c =
+    let w : World = world_in c.args.layout.now c.args.self.now in
+    let reached = come_to c.args.layout.now c.args.self.now in
+    let shows = c.requires in
     let here = here_of c.args.layout.now w c.args.self.now c.args.operation c.in-Some.record reached shows c.in-Some.ensures in
     absurd (let never : None ≡ Some (view_in here.coordinator) =
     view_here c.args.layout.now w c.args.self.now c.args.operation c.in-Some.record None here shows c.in_default-open_view.ensures in cc)
 
 -- there is its group
 pub returns-in_default-group : goal.returns-in_default-group
-returns-in_default-group c w reached shows =
+returns-in_default-group c =
+    let w : World = world_in c.args.layout.now c.args.self.now in
+    let reached = come_to c.args.layout.now c.args.self.now in
+    let shows = c.requires in
     let here = here_of c.args.layout.now w c.args.self.now c.args.operation c.in-Some.record reached shows c.in-Some.ensures in
     let group = group_is c.args.layout.now w c.args.operation c.in-Some.record here c.bricks.ensures.limits reached in
     absurd (let never : None ≡ Some group.0 = c.in_default-group.ensures.found ∙ group.1 in cc)
 
 pub returns-then-not-are_distinct : goal.returns-then-not-are_distinct
-returns-then-not-are_distinct c w reached shows =
+returns-then-not-are_distinct c =
+    let w : World = world_in c.args.layout.now c.args.self.now in
+    let reached = come_to c.args.layout.now c.args.self.now in
+    let shows = c.requires in
     let here = here_of c.args.layout.now w c.args.self.now c.args.operation c.in-Some.record reached shows c.in-Some.ensures in
     against _ c.are_distinct.result c.if-not-are_distinct.true
     (λ calm. c.are_distinct.ensures.1 (parts_of c.args.layout.now w c.args.operation c.args.bricks.now here.coordinator here.opens here.at here.up calm).distinct)
@@ -153,7 +166,10 @@ module _ (layout : Layout) (w : World) (n : ℕ) (kept : OperationRecord) (view 
       ∙ ap (λ (g : ℕ). nat_lt 1 coordinator.stamp.view.0 && not (list_any (knows_synced w g) (map brick_of numbers))) group_same
 
 pub returns-then-not-has_quorum : goal.returns-then-not-has_quorum
-returns-then-not-has_quorum c w reached shows =
+returns-then-not-has_quorum c =
+    let w : World = world_in c.args.layout.now c.args.self.now in
+    let reached = come_to c.args.layout.now c.args.self.now in
+    let shows = c.requires in
     let found = found_of c.args.layout.now w c.args.self.now c.args.operation c.in-Some.record c.in-Some-open_view.view c.in-Some-group.group.now c.m.result
     c.bricks.ensures.limits reached shows c.in-Some.ensures c.in-Some-open_view.ensures c.in-Some-group.ensures.found c.m.ensures in
     against _ c.has_quorum.result c.if-not-has_quorum.true
@@ -161,7 +177,10 @@ returns-then-not-has_quorum c w reached shows =
     (parts_of c.args.layout.now w c.args.operation c.args.bricks.now found.here.coordinator found.here.opens found.here.at found.here.up calm).members))
 
 pub returns-then-not-is_in_time : goal.returns-then-not-is_in_time
-returns-then-not-is_in_time c w reached shows =
+returns-then-not-is_in_time c =
+    let w : World = world_in c.args.layout.now c.args.self.now in
+    let reached = come_to c.args.layout.now c.args.self.now in
+    let shows = c.requires in
     let here = here_of c.args.layout.now w c.args.self.now c.args.operation c.in-Some.record reached shows c.in-Some.ensures in
     let bricks : ShowsBricks c.args.layout.now c.deref.result.now w.nodes w.after w.up w.clocks =
     subst (λ (l : List Brick). ShowsBricks c.args.layout.now l w.nodes w.after w.up w.clocks) (sym c.deref.ensures.value) shows.bricks in
@@ -171,7 +190,10 @@ returns-then-not-is_in_time c w reached shows =
     (parts_of c.args.layout.now w c.args.operation c.args.bricks.now here.coordinator here.opens here.at here.up calm).in_time)))
 
 pub returns-then-not-are_able : goal.returns-then-not-are_able
-returns-then-not-are_able c w reached shows =
+returns-then-not-are_able c =
+    let w : World = world_in c.args.layout.now c.args.self.now in
+    let reached = come_to c.args.layout.now c.args.self.now in
+    let shows = c.requires in
     let found = found_of c.args.layout.now w c.args.self.now c.args.operation c.in-Some.record c.in-Some-open_view.view c.in-Some-group.group.now c.m.result
     c.bricks.ensures.limits reached shows c.in-Some.ensures c.in-Some-open_view.ensures c.in-Some-group.ensures.found c.m.ensures in
     let bricks : ShowsBricks c.args.layout.now c.deref-2.result.now w.nodes w.after w.up w.clocks =
@@ -183,7 +205,10 @@ returns-then-not-are_able c w reached shows =
     ((parts_of c.args.layout.now w c.args.operation c.args.bricks.now found.here.coordinator found.here.opens found.here.at found.here.up calm).able k number at))))
 
 pub returns-then-not-has_prior_quorum : goal.returns-then-not-has_prior_quorum
-returns-then-not-has_prior_quorum c w reached shows =
+returns-then-not-has_prior_quorum c =
+    let w : World = world_in c.args.layout.now c.args.self.now in
+    let reached = come_to c.args.layout.now c.args.self.now in
+    let shows = c.requires in
     let found = found_of c.args.layout.now w c.args.self.now c.args.operation c.in-Some.record c.in-Some-open_view.view c.in-Some-group.group.now c.m-2.result
     c.bricks.ensures.limits reached shows c.in-Some.ensures c.in-Some-open_view.ensures c.in-Some-group.ensures.found c.m-2.ensures in
     let bricks : ShowsBricks c.args.layout.now c.deref-3.result.now w.nodes w.after w.up w.clocks =
@@ -195,7 +220,10 @@ returns-then-not-has_prior_quorum c w reached shows =
     (parts.prior (sym (may_as _ _ _ _ _ _ found c.deref-3.result.now c.args.bricks.now bricks (λ k number at. (parts.able k number at).up)) ∙ may))))
 
 pub returns : goal.returns
-returns c w reached shows =
+returns c =
+    let w : World = world_in c.args.layout.now c.args.self.now in
+    let reached = come_to c.args.layout.now c.args.self.now in
+    let shows = c.requires in
     let found = found_of c.args.layout.now w c.args.self.now c.args.operation c.in-Some.record c.in-Some-open_view.view c.in-Some-group.group.now c.m.result
     c.bricks.ensures.limits reached shows c.in-Some.ensures c.in-Some-open_view.ensures c.in-Some-group.ensures.found c.m.ensures in
     let here = found.here in
