@@ -129,7 +129,7 @@ module _ (setting : Setting) (views : Views) (w : World) (stamps : Stamping) (bo
       })) stamps
   aside_said me known seq round proposal packets reports knows more are =
       let node : Node = record (w.nodes me.0) { known = known; seq = seq; round = round; proposal = proposal } in
-      let keeps : KeepsCalls (w.nodes me.0) node = (record { boot = refl; seq = more; known = knows }, λ l. refl, refl) in
+      let keeps : KeepsCalls (w.nodes me.0) node = (record { boot = refl; seq = more; known = knows }, λ l. refl, refl, refl) in
       said_reports setting views w stamps me books said node packets reports keeps
       (said_placed setting views w stamps me books said node packets (refl, refl, refl) keeps
       (of_views_each (PacketSays setting views (quiet w me node packets) stamps) (λ from to group view. tt) (λ from to call ballot. tt)
@@ -278,7 +278,7 @@ module _ (setting : Setting) (views : Views) (w : World) (stamps : Stamping) (bo
       hearing_each (IsSaid setting views) setting w me now from call reply (
         stamps,
         said_placed setting views w stamps me books said (with_known (with_round (w.nodes me.0) reply) (known_after (w.nodes me.0).known reply)) []
-            (refl, refl, refl) (record { boot = refl; seq = omega arith; known = known_grows (w.nodes me.0).known reply }, λ l. refl, refl)
+            (refl, refl, refl) (record { boot = refl; seq = omega arith; known = known_grows (w.nodes me.0).known reply }, λ l. refl, refl, refl)
             (each_none (PacketSays setting views _ stamps)),
       )
       (let node : Node = taught_by setting w me from call reply in
