@@ -151,8 +151,7 @@ noting_each P setting w me now from call reply found handles =
     let places = noted_places setting me now from node call reply found in
     subst (λ (step : NodeStep). P (world_stepped setting w me step)) (sym same)
     (subst P (stepped_after setting w me noted (replied_noted setting me now from noted call reply found)
-    (noted_keeps setting me now from node call reply found).0.boot
-    (
+    (noted_keeps setting me now from node call reply found).0.boot (
       ap (λ (s : NodeStep). s.node.learnt) (sym same) ∙ rests.learnt ∙ sym places.0,
       ap (λ (s : NodeStep). s.node.ballots) (sym same) ∙ rests.ballots ∙ sym places.1,
       ap (λ (s : NodeStep). s.node.replicas) (sym same) ∙ rests.replicas ∙ sym places.2,

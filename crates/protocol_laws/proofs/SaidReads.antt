@@ -177,7 +177,7 @@ module _ (setting : Setting) (views : Views) (w : World) (stamps : Stamping) (me
           had.0,
           had.1,
           (λ z z_is. stands_stays w (quiet w me (with_job (w.nodes me.0) None) more) (idle_parts more None (w.nodes me.0).scrub (inr (refl, none), inl refl)) job.group.0 s z had.0
-          (had.2 z z_is)),
+              (had.2 z z_is)),
         ))
         setting.layout.bricks 0
 
@@ -207,8 +207,11 @@ module _ (setting : Setting) (views : Views) (w : World) (stamps : Stamping) (me
             (said_placed setting views w stamps me books said (w.nodes me.0) [] (refl, refl, refl) (keeps_itself (w.nodes me.0))
             (each_none (PacketSays setting views _ stamps))),
       ))
-      (λ answer. (stamps, said_jobless [] (λ k has. absurd (let never : None ≡ Some k = ap (option_map (λ (z : Job). z.seq)) (sym none) ∙ has in cc))
-          (Report.Sync group answer ∷ []) (each_none (PacketSays setting views _ stamps))))
+      (λ answer. (
+        stamps,
+        said_jobless [] (λ k has. absurd (let never : None ≡ Some k = ap (option_map (λ (z : Job). z.seq)) (sym none) ∙ has in cc))
+            (Report.Sync group answer ∷ []) (each_none (PacketSays setting views _ stamps)),
+      ))
       (λ kept is.
       said_read setting views w stamps me now (begun_job group ((w.nodes me.0).learnt group.0).view) kept books said
       (record {
