@@ -80,6 +80,10 @@ abbrev pub own_seq : Node → Own → Option ℕ
 own_seq node ForJob = option_map (λ (job : Job). job.seq) node.job
 own_seq node ForScrub = option_map (λ (scrub : Scrub). scrub.seq) node.scrub
 
+-- its synchronisation and its scrub have two calls
+abbrev pub AreApart : Node → Type 0
+AreApart node = (k : ℕ) → own_seq node ForJob ≡ Some k → own_seq node ForScrub ≡ Some k → ⊥
+
 -- a call is that of a read of the brick's own
 abbrev pub IsOwnCall : Node → ℕ → Type 0
 IsOwnCall node k = (own : Own) × (own_seq node own ≡ Some k)
@@ -179,4 +183,5 @@ pub record Books (setting : Setting) (w : World) : Type 0 where
   pub fresh_calls : (i k : ℕ) → (w.nodes i).seq < k → (w.nodes i).calls k ≡ None
   pub jobs : (i : ℕ) (job : Job) → (w.nodes i).job ≡ Some job → JobBooks w i job
   pub scrubs : (i k : ℕ) → own_seq (w.nodes i) ForScrub ≡ Some k → OwnBooks w i k
+  pub apart : (i : ℕ) → AreApart (w.nodes i)
   pub lives : (n : ℕ) (life : Life) → life_of w.marks n ≡ Some life → (1 ≤ n) × (n ≤ w.marked)

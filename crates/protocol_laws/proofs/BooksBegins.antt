@@ -22,9 +22,9 @@ use Rattle.protocol.specs.Jobs.{Job, job_ask}
 use Rattle.protocol.specs.Nodes.{Node, put, has_length, first_phase, coordinator_in, new_coordinator, opened, began_in, phase_packets, reading, read_begun_by, top_at, has_block, begun_aside, scrubbing, scrub_coordinator}
 use Rattle.protocol.specs.Worlds.{World, Choices, Operation, number_of, world_began, world_stepped, with_held, choices_after}
 use Rattle.protocol_laws.specs.Marked.{AreOwnMarks}
-use Rattle.protocol_laws.proofs.Books.{Books, IsReadable, OperationBooks, LifeBooks, CallBooks, JobBooks, IsOperation, IsCall, IsUnmade, MadeInPhase, InRound, Own, ForJob, ForScrub, own_seq, IsOwnCall, OwnBooks}
+use Rattle.protocol_laws.proofs.Books.{Books, IsReadable, OperationBooks, LifeBooks, CallBooks, JobBooks, IsOperation, IsCall, IsUnmade, MadeInPhase, InRound, Own, ForJob, ForScrub, own_seq, IsOwnCall, OwnBooks, AreApart}
 use Rattle.protocol_laws.proofs.MarkNumbers.{own_more, own_unmarked}
-use Rattle.protocol_laws.proofs.BooksKept.{KeepsRead, HasNoRead, LivesOn, lives_same, operation_kept, call_kept, cases_call, keeps_ask, job_kept, same_reads, own_kept, own_called, KeepsAsk}
+use Rattle.protocol_laws.proofs.BooksKept.{KeepsRead, HasNoRead, LivesOn, lives_same, operation_kept, call_kept, cases_call, keeps_ask, job_kept, same_reads, own_kept, own_called, KeepsAsk, apart_kept, own_books}
 use Rattle.reg_model.proofs.GrowingLives.{Stays, Stays-push, Stays-before, life_of-begin}
 use Rattle.reg_model.proofs.AddedMarks.{Places-push, well_formed_begin, numbers_below}
 use Rattle.protocol.proofs.Puts.{put_other}
@@ -237,8 +237,8 @@ module _ (setting : Setting) (w : World) (brick : BrickId) (now : ℕ) (ask : As
           (reads : mark ≡ 0 → IsOwnCall after ((w.nodes brick.0).seq + 1)) (enough : AreEnough kept only)
           (alone : is_some only ≡ true → own_seq after ForScrub ≡ Some ((w.nodes brick.0).seq + 1)) where
         -- the new operation's books
-        own_books : OperationBooks setting later n o
-        own_books = record {
+        its_books : OperationBooks setting later n o
+        its_books = record {
           from_one = omega arith;
           begun = omega arith;
           number = new_number;
@@ -317,6 +317,7 @@ module _ (setting : Setting) (w : World) (brick : BrickId) (now : ℕ) (ask : As
             → JobBooks (opened_world w brick.0 after held packets marks marked (opened_operation w brick ask view mark floor) choices) j job)
             (scrubs : (j l : ℕ) → own_seq (put w.nodes brick.0 after j) ForScrub ≡ Some l
             → OwnBooks (opened_world w brick.0 after held packets marks marked (opened_operation w brick ask view mark floor) choices) j l)
+            (apart : (j : ℕ) → AreApart (put w.nodes brick.0 after j))
             (lives : (m : ℕ) (life : Life) → life_of marks m ≡ Some life → (1 ≤ m) × (m ≤ marked)) where
           -- a new operation keeps the books
           books_opened : Books setting later
@@ -335,7 +336,7 @@ module _ (setting : Setting) (w : World) (brick : BrickId) (now : ℕ) (ask : As
                 (λ (mine : m ≡ n).
                 let one : o ≡ x = same_Some o x (sym new_operation ∙ ap later.operations (sym mine) ∙ is) in
                 subst (λ (y : ℕ). OperationBooks setting later y x) (sym mine)
-                (subst (λ (y : Operation). OperationBooks setting later n y) one own_books))
+                (subst (λ (y : Operation). OperationBooks setting later n y) one its_books))
                 (λ (other : m ≢ n). old_books m x (sym (old_operations m other) ∙ is))
                 (cases_eq m n);
             calls = λ j l e is. ⊎_elim
@@ -353,6 +354,7 @@ module _ (setting : Setting) (w : World) (brick : BrickId) (now : ℕ) (ask : As
                 old_calls j l (λ at seq. (let e : (later.nodes j).seq ≡ k = ap (λ (x : ℕ). (later.nodes x).seq) at ∙ last_seq in omega arith)) ∙ old);
             jobs = jobs;
             scrubs = scrubs;
+            apart = apart;
             lives = lives;
           }
 
@@ -468,6 +470,8 @@ module _ (setting : Setting) (w : World) (brick : BrickId) (now : ℕ) (ask : As
         places_begun
         (own_more w.marked w.operations books.own w.begun (λ m x is. (books.operations m x is).begun) own_operation refl)
         begun_jobs begun_scrubs
+        (put_each (λ (j : ℕ) (y : Node). AreApart y) w.nodes brick.0 (opened (w.nodes brick.0) its)
+        (apart_kept (w.nodes brick.0) (opened (w.nodes brick.0) its) refl refl (books.apart brick.0)) (λ j other. books.apart j))
         (λ m life is. ⊎_elim
         (λ (mine : m ≡ w.marked + 1). (omega arith, omega arith))
         (λ (other : m ≢ w.marked + 1).
@@ -514,8 +518,8 @@ module _ (setting : Setting) (w : World) (me : BrickId) (now : ℕ) (number : Gr
       → ((w.nodes me.0).job ≡ Some job)
       ⊎ ((job.seq ≡ (w.nodes me.0).seq + 1) × (scrub_ask number stripe ≡ job_ask job) × (view.number.0 ≡ job.view.number.0)))
       → ((l : ℕ) → own_seq later ForScrub ≡ Some l → (own_seq (w.nodes me.0) ForScrub ≡ Some l) ⊎ (l ≡ (w.nodes me.0).seq + 1))
-      → Books setting read_world
-  books_aside jobs scrubs =
+      → AreApart later → Books setting read_world
+  books_aside jobs scrubs apart =
       books_opened setting w me now (scrub_ask number stripe) kept view only later read_held read_packets w.marks w.marked 0 read_floors read_choices opens
       books group refl group_is stripes (λ some. absurd (omega arith)) readable up refl (λ m x is. lives_same w read_world x refl) (λ some. absurd (omega arith)) (λ none. refl)
       (λ some. absurd (omega arith)) (λ none. (own, seq)) enough alone
@@ -537,6 +541,7 @@ module _ (setting : Setting) (w : World) (me : BrickId) (now : ℕ) (number : Gr
       (λ (new : l ≡ (w.nodes me.0).seq + 1). subst (λ (x : ℕ). OwnBooks read_world me.0 x) (sym new) new_one.0)
       (scrubs l is))
       (λ j other l is. old_scrubs j l is))
+      (put_each (λ (j : ℕ) (y : Node). AreApart y) w.nodes me.0 later apart (λ j other. books.apart j))
       books.lives
     where
       old_jobs : (j : ℕ) (job : Job) → (w.nodes j).job ≡ Some job → JobBooks read_world j job
@@ -589,6 +594,10 @@ module _ (setting : Setting) (w : World) (me : BrickId) (now : ℕ) (books : Boo
       let same : next ≡ one = same_Some next one is in
       inr (ap (λ (z : Job). z.seq) (sym same), ap (λ (z : Job). job_ask z) same, ap (λ (z : Job). z.view.number.0) same))
       (λ l is. inl is)
+      (λ k reads scrubs.
+      let last : (w.nodes me.0).seq + 1 ≡ k = same_Some ((w.nodes me.0).seq + 1) k reads in
+      let most : k ≤ (w.nodes me.0).seq = own_called setting w me.0 k books (books.scrubs me.0 k scrubs) in
+      omega (arith, last, most))
 
   -- so does a scrub that begins, of at least a quorum of the group
   pub books_scrub : (number : GroupId) (stripe : StripeNo) (members : List BrickId) (kept group : Group) → HasNoRead (w.nodes me.0) ForScrub
@@ -601,3 +610,7 @@ module _ (setting : Setting) (w : World) (me : BrickId) (now : ℕ) (books : Boo
       (scrubbing_opens (w.nodes me.0) c ended refl) group_is stripes readable refl enough (λ some. refl)
       (λ one is. inl is)
       (λ l is. inr (sym (same_Some ((w.nodes me.0).seq + 1) l is)))
+      (λ k reads scrubs.
+      let last : (w.nodes me.0).seq + 1 ≡ k = same_Some ((w.nodes me.0).seq + 1) k scrubs in
+      let most : k ≤ (w.nodes me.0).seq = own_called setting w me.0 k books (own_books setting w books me.0 k ForJob reads) in
+      omega (arith, last, most))

@@ -22,7 +22,7 @@ use Rattle.protocol.specs.Nodes.{Node, has_length, no_calls, stopped, has_block}
 use Rattle.protocol.specs.Worlds.{World, Operation, is_answer, number_of, world_stopped, Choices}
 use Rattle.protocol_laws.proofs.Books.{Books, IsReadable, OperationBooks, LifeBooks, UnmarkedBooks, CallBooks, IsOperation, IsCall, ForScrub, own_seq}
 use Rattle.protocol_laws.proofs.MarkNumbers.{cases_marked, own_by, other_mark}
-use Rattle.protocol_laws.proofs.BooksKept.{KeepsNumbers, KeepsAsk, keeps_ask, LivesOn, lives_same, job_kept, operation_stays, operation_kept, call_kept, number_at, calls_apart, cases_call, keeps_all, same_reads, own_kept}
+use Rattle.protocol_laws.proofs.BooksKept.{KeepsNumbers, KeepsAsk, keeps_ask, LivesOn, lives_same, job_kept, operation_stays, operation_kept, call_kept, number_at, calls_apart, cases_call, keeps_all, same_reads, own_kept, apart_kept}
 use Rattle.reg_model.proofs.GrowingLives.{Stays-push, Stays-crash, life_onward, life_of-append, lived_before_crash, cases_open, unended_not_answered, with_ending, life_of-end, life_of-crash}
 use Rattle.reg_model.proofs.AddedMarks.{Places-push, well_formed_end, well_formed_crash}
 use Rattle.protocol.proofs.Puts.{put_other}
@@ -212,6 +212,7 @@ module _ (setting : Setting) (w : World) (i k : ℕ) (c : Coordinator) (before o
           scrubs = λ j l is.
               (own_kept w later j l (books.scrubs j l (sym (ended.scrubs j) ∙ is)) (ended.keeps j).boot (ap (λ (b : ℕ). w.numbers j b l) (ended.keeps j).boot)
               (goes_on (number_of w j l))).0;
+          apart = λ j. apart_kept (w.nodes j) (nodes j) (ended.jobs j) (ended.scrubs j) (books.apart j);
           lives = lives;
         }
 
@@ -473,6 +474,12 @@ module _ (setting : Setting) (w : World) (brick : BrickId) (during : Option ℕ)
             (λ (other : j ≢ i).
             (own_kept w shut j l (books.scrubs j l (sym (unstopped_scrub j other) ∙ is)) (stopped_keeps j).boot
             (ap (λ (b : ℕ). w.numbers j b l) (stopped_keeps j).boot) (λ o at. (o, at, keeps_ask o))).0)
+            (cases_eq j i);
+        apart = λ j. ⊎_elim
+            (λ (mine : j ≡ i) k reads scrubs.
+            let none : own_seq (shut.nodes j) ForScrub ≡ None = ap (λ (x : ℕ). own_seq (shut.nodes x) ForScrub) mine ∙ stopped_scrub in
+            let never : None ≡ Some k = sym none ∙ scrubs in let e : ⊥ = cc in e)
+            (λ (other : j ≢ i). apart_kept (w.nodes j) (shut.nodes j) (unstopped_job j other) (unstopped_scrub j other) (books.apart j))
             (cases_eq j i);
         lives = λ n life is. (let old = lived_before_crash w.marks (length w.marks) n brick life is in books.lives n old.0 old.1);
       }

@@ -1154,6 +1154,7 @@ books_first setting = record {
   fresh_calls = λ i k lt. refl;
   jobs = λ i job is. absurd (let never : None ≡ Some job = is in cc);
   scrubs = λ i k is. absurd (let never : None ≡ Some k = is in cc);
+  apart = λ i k reads scrubs. let never : None ≡ Some k = scrubs in cc;
   lives = λ n life is. absurd (let never : None ≡ Some life = is in cc);
 }
 

@@ -10,7 +10,7 @@ use Rattle.protocol.specs.Coordinators.{Coordinator}
 use Rattle.protocol.specs.Jobs.{Job}
 use Rattle.protocol.specs.Nodes.{Node, with_known, with_call, job_reading, scrub_of}
 use Rattle.protocol.specs.Worlds.{World, Operation, number_of}
-use Rattle.protocol_laws.proofs.Books.{Books, OperationBooks, LifeBooks, CallBooks, JobBooks, IsOperation, IsCall, Own, ForJob, ForScrub, own_seq, IsOwnCall, OwnBooks}
+use Rattle.protocol_laws.proofs.Books.{Books, OperationBooks, LifeBooks, CallBooks, JobBooks, IsOperation, IsCall, Own, ForJob, ForScrub, own_seq, IsOwnCall, OwnBooks, AreApart}
 use Rattle.protocol_laws.proofs.MarkNumbers.{cases_marked}
 use Rattle.reg_model.proofs.GrowingLives.{Stays, Stays-refl, LifeStays, EndingStays-answered, EndingStays-answered_before, EndingStays-open, EndingStays-open_before}
 use Rattle.protocol.specs.Scrubs.{Scrub}
@@ -149,6 +149,18 @@ scrub_was node later k keeps is =
     ⊎_elim (λ (same : own_seq later ForScrub ≡ own_seq node ForScrub). sym same ∙ is)
     (λ (ended : (later.scrub ≡ None) × HasNoRead node ForScrub).
     absurd (let never : None ≡ Some k = sym (ap (option_map (λ (z : Scrub). z.seq)) ended.0) ∙ is in cc)) keeps
+
+-- its own reads have two calls as before
+pub apart_kept : (node later : Node) → later.job ≡ node.job → own_seq later ForScrub ≡ own_seq node ForScrub → AreApart node → AreApart later
+apart_kept node later job scrub apart k reads scrubs = apart k (sym (ap (option_map (λ (z : Job). z.seq)) job) ∙ reads) (sym scrub ∙ scrubs)
+
+pub apart_reads : (node later : Node) → KeepsReads node later → AreApart node → AreApart later
+apart_reads node later keeps apart k reads scrubs =
+    ⊎_elim
+    (λ (same : later.job ≡ node.job). apart k (sym (ap (option_map (λ (z : Job). z.seq)) same) ∙ reads) (scrub_was node later k keeps.1 scrubs))
+    (λ (ended : (later.job ≡ None) × HasNoRead node ForJob).
+    let never : None ≡ Some k = sym (ap (option_map (λ (z : Job). z.seq)) ended.0) ∙ reads in cc)
+    keeps.0
 
 -- an open read of a brick's own is still that
 pub read_kept : (w : World) (i k : ℕ) (c : Coordinator) (later : Node) → IsCall w i k c → KeepsRead (w.nodes i) later → (own : Own)

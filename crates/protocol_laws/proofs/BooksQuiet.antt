@@ -15,7 +15,7 @@ use Rattle.protocol.specs.Jobs.{Job}
 use Rattle.protocol.specs.Nodes.{Node, put, no_calls, restarted}
 use Rattle.protocol.specs.Worlds.{World, Operation, number_of, known_in, world_started, Choices}
 use Rattle.protocol_laws.proofs.Books.{Books, OperationBooks, LifeBooks, CallBooks, JobBooks, IsCall, ForScrub, own_seq, OwnBooks}
-use Rattle.protocol_laws.proofs.BooksKept.{KeepsNumbers, keeps_read, job_was, lives_same, operation_stays, operation_kept, call_kept, keeps_ask, job_kept, KeepsReads, same_reads, own_kept, scrub_was}
+use Rattle.protocol_laws.proofs.BooksKept.{KeepsNumbers, keeps_read, job_was, lives_same, operation_stays, operation_kept, call_kept, keeps_ask, job_kept, KeepsReads, same_reads, own_kept, scrub_was, apart_kept, apart_reads}
 use Rattle.protocol.proofs.Puts.{put_other}
 use Rattle.protocol.proofs.Tables.{put_same}
 
@@ -73,6 +73,7 @@ books_quiet setting w nodes held clocks packets replies reached choices books ke
       scrubs = λ i l is.
           (own_kept w later i l (books.scrubs i l (scrub_was (w.nodes i) (nodes i) l (jobs i).1 is)) (keeps i).boot
           (ap (λ (b : ℕ). w.numbers i b l) (keeps i).boot) (λ o at. (o, at, keeps_ask o))).0;
+      apart = λ i. apart_reads (w.nodes i) (nodes i) (jobs i) (books.apart i);
       lives = books.lives;
     }
 
@@ -247,6 +248,15 @@ module _ (setting : Setting) (w : World) (brick : BrickId) (openings : ℕ) (boo
         = ap (λ (x : ℕ). own_seq (later.nodes x) ForScrub) mine ∙ ap (λ (x : Node). own_seq x ForScrub) own_node in
         absurd (let never : None ≡ Some l = sym none ∙ is in cc))
         (λ (other : j ≢ i). other_scrub j l other is)
+        (cases_eq j i);
+    apart = λ j. ⊎_elim
+        (λ (mine : j ≡ i) k reads scrubs.
+        let none : own_seq (later.nodes j) ForScrub ≡ None
+        = ap (λ (x : ℕ). own_seq (later.nodes x) ForScrub) mine ∙ ap (λ (x : Node). own_seq x ForScrub) own_node in
+        let never : None ≡ Some k = sym none ∙ scrubs in let e : ⊥ = cc in e)
+        (λ (other : j ≢ i).
+        let same : later.nodes j ≡ w.nodes j = unstarted j other in
+        apart_kept (w.nodes j) (later.nodes j) (ap (λ (x : Node). x.job) same) (ap (λ (x : Node). own_seq x ForScrub) same) (books.apart j))
         (cases_eq j i);
     lives = books.lives;
   }

@@ -13,7 +13,7 @@ use Rattle.protocol.specs.Nodes.{Node}
 use Rattle.protocol.specs.Worlds.{World, Operation, number_of, Choices}
 use Rattle.protocol_laws.proofs.Books.{Books, IsReadable, OperationBooks, LifeBooks, UnmarkedBooks, CallBooks, IsOperation, IsCall, MadeInPhase, InRound, ForScrub, own_seq}
 use Rattle.protocol_laws.proofs.MarkNumbers.{own_by}
-use Rattle.protocol_laws.proofs.BooksKept.{KeepsNumbers, KeepsAsk, keeps_ask, lives_same, operation_kept, call_kept, job_kept, number_at, calls_apart, cases_call, same_reads, read_kept, own_kept}
+use Rattle.protocol_laws.proofs.BooksKept.{KeepsNumbers, KeepsAsk, keeps_ask, lives_same, operation_kept, call_kept, job_kept, number_at, calls_apart, cases_call, same_reads, read_kept, own_kept, apart_kept}
 use Rattle.protocol_laws.proofs.Outcomes.{SameOperation}
 use Rattle.fab_base.specs.declared.identities.BrickId.{BrickId}
 
@@ -286,5 +286,6 @@ module _ (setting : Setting) (w : World) (i k : ℕ) (c d : Coordinator) (before
     scrubs = λ j l is.
         (own_kept w later j l (books.scrubs j l (sym (turned.scrubs j) ∙ is)) (turned.keeps j).boot (ap (λ (b : ℕ). w.numbers j b l) (turned.keeps j).boot)
         (goes_on (number_of w j l))).0;
+    apart = λ j. apart_kept (w.nodes j) (nodes j) (turned.jobs j) (turned.scrubs j) (books.apart j);
     lives = books.lives;
   }
