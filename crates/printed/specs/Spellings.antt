@@ -1,5 +1,5 @@
 -- Numbers that have a spelling, the causes that marks tell, and what bricks report: a text of them reads back.
-use Rattle.std.specs.Prelude.{ℕ, ◌<◌, ◌^◌, List, ⊤, Option, Some, None, IfSome}
+use Rattle.std.specs.Prelude.{ℕ, ◌<◌, ◌≤◌, ◌^◌, List, ⊤, length, Option, Some, None, IfSome}
 use Rattle.std.specs.List.{All}
 use Rattle.fab_base.specs.declared.answers.Answer.TheVariants.{Data, Done, Aborted}
 use Rattle.fab_base.specs.declared.answers.Cause.{Cause}
@@ -77,10 +77,10 @@ SyncAnswerReads (synced.Synced view) = IsSmall view.0
 SyncAnswerReads (synced.Stopped stripe cause) = IsSmall stripe.0 × CauseReads cause
 SyncAnswerReads (synced.Spent stripe) = IsSmall stripe.0
 
--- those of how a scrub ended
+-- those of how a scrub ended; the bricks that it names are no more than may keep a group
 abbrev pub ScrubAnswerReads : ScrubAnswer → Type 0
 ScrubAnswerReads scrubbed.Clean = ⊤
-ScrubAnswerReads (scrubbed.Repaired stamp lagging) = StampReads stamp × BricksRead lagging
+ScrubAnswerReads (scrubbed.Repaired stamp lagging) = StampReads stamp × BricksRead lagging × (length lagging ≤ 32)
 ScrubAnswerReads (scrubbed.Aborted cause) = CauseReads cause
 
 -- those of a report
