@@ -26,6 +26,7 @@ pub mod Left
 pub mod Logs
 pub mod MarkNumbers
 pub mod Moments
+pub mod Noting
 pub mod Numbers
 pub mod Operated
 pub mod Outcomes

@@ -14,7 +14,6 @@ use Rattle.fab_base.specs.declared.answers.Answer.TheVariants.{Data, Done, Abort
 use Rattle.fab_base.specs.declared.answers.Cause.{Cause}
 use Rattle.messages.specs.declared.calls.Call.{Call}
 use Rattle.fab_base.specs.Layouts.{Group}
-use Rattle.quorum.specs.Quorums.{quorum_of}
 use Rattle.reg_model.specs.Registers.{read_of, after_op}
 use Rattle.protocol.specs.Settings.{Code}
 use Rattle.protocol.specs.declared.phases.Phase.{Phase}
@@ -22,7 +21,7 @@ use Rattle.protocol.specs.declared.phases.Phase.TheVariants.{Looks, LooksAt, Ord
 use Rattle.protocol.specs.declared.phases.Counted.{Counted}
 use Rattle.protocol.specs.declared.phases.Refuser.{Refuser}
 use Rattle.protocol.specs.declared.phases.FullMember.{FullMember}
-use Rattle.protocol.specs.Coordinators.{Coordinator, Next, Ignores, Waits, Sends, Makes, Ends, next_phase, in_phase, restoring, reordering, forgetting, most_rounds, aborted_by, unless_told_full, unless_told_moved, lowest_mover, ordered_again, once_ordered, unless_refused, answered_fast, read_back, answer_with, pieces_at, greatest_refuser, lowest_full, greatest_found, fast_version, decided, once_full, answered_fast_at, modified_if, once_modified, rebuilt, some_behind, bytes_at, block_written, fast_version_at, common_version_at, asked_view, asked_group, looks_back, may_look_back, lower_phase, lowest_dropper, unless_told_gone}
+use Rattle.protocol.specs.Coordinators.{Coordinator, Next, Ignores, Waits, Sends, Makes, Ends, next_phase, in_phase, restoring, reordering, forgetting, most_rounds, aborted_by, unless_told_full, unless_told_moved, lowest_mover, ordered_again, once_ordered, unless_refused, answered_fast, read_back, answer_with, pieces_at, greatest_refuser, lowest_full, greatest_found, fast_version, decided, once_full, answered_fast_at, modified_if, once_modified, rebuilt, some_behind, bytes_at, block_written, fast_version_at, common_version_at, asked_view, asked_group, looks_back, may_look_back, lower_phase, lowest_dropper, unless_told_gone, needed}
 use Rattle.protocol.specs.Worlds.{is_answer}
 
 -- the call of an operation's next phase
@@ -34,6 +33,7 @@ pub record SameOperation (c d : Coordinator) : Type 0 where
   pub ask : d.ask ≡ c.ask
   pub members : d.group ≡ c.group
   pub prior : d.prior ≡ c.prior
+  pub only : d.only ≡ c.only
   pub boot : d.call.boot ≡ c.call.boot
   pub seq : d.call.seq ≡ c.call.seq
   pub group : d.call.group ≡ c.call.group
@@ -240,18 +240,29 @@ NextFits fresh c (Makes d) = MakesFits c d
 NextFits fresh c (Ends answer seen stored) = EndFits c.phase answer seen × AnswerFits fresh c answer
 
 -- a coordinator of these parts
-abbrev at : Group → List BrickId → Ask → Stamp → ℕ → Option Stamp → List ℕ → Call → Phase → List Counted → Coordinator
-at group prior ask stamp round base content call phase counted =
-    record { group = group; prior = prior; ask = ask; stamp = stamp; round = round; base = base; content = content; call = call; phase = phase; counted = counted }
+abbrev at : Group → List BrickId → Option (List BrickId) → Ask → Stamp → ℕ → Option Stamp → List ℕ → Call → Phase → List Counted → Coordinator
+at group prior only ask stamp round base content call phase counted = record {
+  group = group;
+  prior = prior;
+  only = only;
+  ask = ask;
+  stamp = stamp;
+  round = round;
+  base = base;
+  content = content;
+  call = call;
+  phase = phase;
+  counted = counted;
+}
 
-module _ (group : Group) (prior : List BrickId) (ask : Ask) (stamp : Stamp) (round : ℕ) (base : Option Stamp) (content : List ℕ) (call : Call) (counted : List Counted) where
+module _ (group : Group) (prior : List BrickId) (only : Option (List BrickId)) (ask : Ask) (stamp : Stamp) (round : ℕ) (base : Option Stamp) (content : List ℕ) (call : Call) (counted : List Counted) where
   -- the coordinator in a phase
   abbrev within : Phase → Coordinator
-  within phase = at group prior ask stamp round base content call phase counted
+  within phase = at group prior only ask stamp round base content call phase counted
 
   waits_fits : (phase : Phase) → WaitsFits (within phase) (within phase)
   waits_fits phase = record {
-    same = record { ask = refl; members = refl; prior = refl; boot = refl; seq = refl; group = refl; stripe = refl };
+    same = record { ask = refl; members = refl; prior = refl; only = refl; boot = refl; seq = refl; group = refl; stripe = refl };
     stamp = refl;
     round = refl;
     base = refl;
@@ -263,7 +274,7 @@ module _ (group : Group) (prior : List BrickId) (ask : Ask) (stamp : Stamp) (rou
   forgets_fits : (phase : Phase) → (looks_back phase ≡ false → greatest_refuser counted ≡ None) → NoneStops counted
       → (greatest_found counted ≡ None) ⊎ IsRebuild phase → WaitsFits (within phase) (forgetting (within phase))
   forgets_fits phase none roomy nothing = record {
-    same = record { ask = refl; members = refl; prior = refl; boot = refl; seq = refl; group = refl; stripe = refl };
+    same = record { ask = refl; members = refl; prior = refl; only = refl; boot = refl; seq = refl; group = refl; stripe = refl };
     stamp = refl;
     round = refl;
     base = refl;
@@ -274,7 +285,7 @@ module _ (group : Group) (prior : List BrickId) (ask : Ask) (stamp : Stamp) (rou
 
   same_next : (phase next : Phase) (base_of : Option Stamp) (bytes : List ℕ) → SameOperation (within phase)
       (record (in_phase (within phase) next) { base = base_of; content = bytes })
-  same_next phase next base_of bytes = record { ask = refl; members = refl; prior = refl; boot = refl; seq = refl; group = refl; stripe = refl }
+  same_next phase next base_of bytes = record { ask = refl; members = refl; prior = refl; only = refl; boot = refl; seq = refl; group = refl; stripe = refl }
 
   makes_fits : (phase : Phase) → (IsMaking phase → ⊥) → MakesFits (within phase) (in_phase (within phase) Stores)
   makes_fits phase unmade = record {
@@ -426,7 +437,7 @@ module _ (group : Group) (prior : List BrickId) (ask : Ask) (stamp : Stamp) (rou
       cond_both (nat_lt round most_rounds) (Sends (reordering (within phase) t)) (aborted_by r)
       (λ (next : Next). NextFits (Some t) (within phase) next)
       (λ few. record {
-        same = record { ask = refl; members = refl; prior = refl; boot = refl; seq = refl; group = refl; stripe = refl };
+        same = record { ask = refl; members = refl; prior = refl; only = refl; boot = refl; seq = refl; group = refl; stripe = refl };
         call = refl;
         counted = refl;
         how = inl (record {
@@ -505,9 +516,9 @@ module _ (group : Group) (prior : List BrickId) (ask : Ask) (stamp : Stamp) (rou
   decided_fits block code fresh Stores =
       unless_told_fits fresh Stores _ (lowest_mover counted) (lowest_dropper counted) (lowest_full counted) refl refl refl (λ roomy. stored_fits fresh (Some stamp) (read_of block ask.op content) (greatest_refuser counted) refl)
 
--- what a coordinator decides, with a quorum of replies or without, fits it
+-- what a coordinator decides, with as many replies as are needed or without, fits it
 pub once_full_fits : (block : ℕ) (code : Code) (fresh : Option Stamp) (c : Coordinator) → NextFits fresh c (once_full block code fresh c)
 once_full_fits block code fresh c =
-    cond_both (nat_lt (length c.counted) (quorum_of (asked_group c))) _ _ (λ (next : Next). NextFits fresh c next)
-    (λ few. waits_fits c.group c.prior c.ask c.stamp c.round c.base c.content c.call c.counted c.phase)
-    (λ enough. decided_fits c.group c.prior c.ask c.stamp c.round c.base c.content c.call c.counted block code fresh c.phase)
+    cond_both (nat_lt (length c.counted) (needed c)) _ _ (λ (next : Next). NextFits fresh c next)
+    (λ few. waits_fits c.group c.prior c.only c.ask c.stamp c.round c.base c.content c.call c.counted c.phase)
+    (λ enough. decided_fits c.group c.prior c.only c.ask c.stamp c.round c.base c.content c.call c.counted block code fresh c.phase)

@@ -21,13 +21,13 @@ use Rattle.protocol.specs.Settings.{Setting, Code, IsSound}
 use Rattle.protocol.specs.Replicas.{handle}
 use Rattle.protocol.specs.Jobs.{Job, begun_job, job_after, abort_cause}
 use Rattle.protocol.specs.Coordinators.{Coordinator, Next, Ignores, Ends, with_reply, once_full, counted_at, counts_at, on_reply, asked_group, dropper_of, request_of}
-use Rattle.protocol.specs.Nodes.{Node, NodeStep, ticked, new_coordinator, put, no_step, fresh_stamp, began_in, began, opened, phase_packets, top_at, carried_for, job_reading, sync_refusal, synced_at, invoked, with_replica, replica_at, full_at, reply_packets, requested, known_after, with_known, replied_at, replied, heard, received, vote_at, with_round, proposed, node_learnt, node_synced, lists_fit}
+use Rattle.protocol.specs.Nodes.{Node, NodeStep, ticked, new_coordinator, put, no_step, fresh_stamp, began_in, began, opened, phase_packets, top_at, job_reading, sync_refusal, synced_at, invoked, with_replica, replica_at, full_at, reply_packets, requested, known_after, with_known, replied_at, replied, heard, received, vote_at, with_round, proposed, node_learnt, node_synced, lists_fit, scrub_of, scrubbed_at, members_alone}
 use Rattle.protocol.specs.Worlds.{World, is_up, world_stepped, Found, Before, After, Event, first_world, may_begin, number_of, world_stopped, world_found, world_started, world_began, counted_after, replies_at, replies_with, run, with_held, Choices, voiced}
 use Rattle.protocol_laws.specs.Laws.{WasSent, RequestSent, RunFollows}
 use Rattle.protocol.proofs.Served.{request_each}
-use Rattle.protocol_laws.proofs.Books.{Books, IsCall}
+use Rattle.protocol_laws.proofs.Books.{Books, IsCall, ForJob, ForScrub, own_seq}
 use Rattle.protocol_laws.proofs.Left.{Leaves, always_leaves, found_down, packet_was_sent}
-use Rattle.protocol_laws.proofs.BooksKept.{KeepsNumbers, KeepsCalls, keeps_all, keeps_itself, keeps_known, call_marked, reading_is}
+use Rattle.protocol_laws.proofs.BooksKept.{KeepsNumbers, KeepsCalls, keeps_all, keeps_itself, keeps_known, call_marked, reading_is, same_reads, scrub_is, job_seq, scrub_seq}
 use Rattle.protocol_laws.proofs.Votes.{with_vote}
 use Rattle.protocol_laws.proofs.Proposing.{ballot_each, proposed_each}
 use Rattle.protocol_laws.proofs.Hearing.{kept_world, taught_by, replying_each}
@@ -41,7 +41,7 @@ use Rattle.fab_base.specs.declared.identities.ViewNo.{ViewNo}
 use Rattle.view_laws.proofs.Syncing.{synced_each}
 use Rattle.protocol_laws.proofs.BooksQuiet.{started_calls, unstarted, started_known}
 use Rattle.protocol_laws.proofs.BooksEnds.{stopped_keeps, stopped_calls, unstopped_calls}
-use Rattle.protocol_laws.proofs.BooksEvents.{keeps_put, stepped, known_grows, BeginFits, begin_fits, found_keeps, books_found, books_kept, hearing_keeps, learnt_keeps, start_fits, books_beside, books, group_there, fits_at, books_closing}
+use Rattle.protocol_laws.proofs.BooksEvents.{keeps_put, stepped, known_grows, BeginFits, begin_fits, found_keeps, books_found, books_kept, hearing_keeps, learnt_keeps, start_fits, books_beside, books, group_there, fits_at, books_closing, scrub_fits}
 use Rattle.protocol_laws.proofs.Outcomes.{NextFits, once_full_fits}
 use Rattle.protocol_laws.proofs.Said.{Stamping, Said, IsSaid, CountedSays}
 use Rattle.protocol_laws.proofs.SaidAlways.{always_said, follows_front, no_job}
@@ -51,11 +51,15 @@ use Rattle.protocol.proofs.CountsAt.{CountsAt, counts_facts}
 use Rattle.protocol.proofs.Tables.{put_each, put_same, get_kept, get_grown, get_one}
 use Rattle.protocol_laws.proofs.Tallies.{Tallied, MessagesShow}
 use Rattle.protocol_laws.proofs.TalliesKept.{call_tallied_on, known_kept, tallied_on}
-use Rattle.protocol_laws.proofs.TalliesReads.{tallied_quiet, tallied_opened, tallied_read, tallied_idle, tallied_after_close}
-use Rattle.protocol_laws.proofs.Closing.{ClosesNone, closing_each, closed_world, closed_no_read}
-use Rattle.view_laws.proofs.SyncReads.{synced_at_each}
+use Rattle.protocol_laws.proofs.TalliesReads.{tallied_quiet, tallied_opened, tallied_read, tallied_idle, tallied_after_close, tallied_scrub, tallied_after_scrub}
+use Rattle.protocol_laws.proofs.Closing.{ClosesNone, closing_each, closed_world, closed_no_read, carried_noted}
+use Rattle.view_laws.proofs.SyncReads.{synced_at_each, scrubbed_at_each}
 use Rattle.protocol_laws.proofs.TalliesCounts.{dropper_ahead, tallied_counted, tallied_closed}
 use Rattle.protocol.proofs.Events.{EventCases, world_handled, run_along}
+use Rattle.protocol.specs.Scrubs.{Scrub, scrub_answer}
+use Rattle.fab_base.specs.declared.identities.StripeNo.{StripeNo}
+use Rattle.protocol_laws.proofs.Noting.{noted_by, replied_noted, noting_each, noted_keeps}
+use Rattle.std.specs.Option.{option_map}
 
 module _ (setting : Setting) (w : World) (books : Books setting w) (tallied : Tallied w) where
   -- a step that tells nothing and keeps a brick's calls and numbers, whatever it reports
@@ -75,7 +79,7 @@ module _ (setting : Setting) (w : World) (books : Books setting w) (tallied : Ta
   tallied_known : (me : BrickId) (known : ℕ) → (w.nodes me.0).known ≤ known
       → MessagesShow (stepped setting w w.replies me (no_step (with_known (w.nodes me.0) known)))
       → Tallied (stepped setting w w.replies me (no_step (with_known (w.nodes me.0) known)))
-  tallied_known me known grows = tallied_silent me (with_known (w.nodes me.0) known) [] [] (keeps_known (w.nodes me.0) known grows, λ l. refl, refl)
+  tallied_known me known grows = tallied_silent me (with_known (w.nodes me.0) known) [] [] (keeps_known (w.nodes me.0) known grows, λ l. refl, refl, refl)
 
   -- a request
   tallied_requested : (me from : BrickId) (call : Call) (request : Request)
@@ -88,11 +92,11 @@ module _ (setting : Setting) (w : World) (books : Books setting w) (tallied : Ta
       (λ group seat here served.
       let reaction = handle setting.code group.m (full_at setting.layout.records (w.nodes me.0).live) seat (replica_at (w.nodes me.0) call) request in
       tallied_silent me (with_replica (w.nodes me.0) call reaction) (reply_packets me from call reaction.reply) []
-      (record { boot = refl; seq = omega arith; known = omega arith }, λ l. refl, refl))
+      (record { boot = refl; seq = omega arith; known = omega arith }, λ l. refl, refl, refl))
       (λ group ballot asked here.
       let vote : Voted = vote_at (w.nodes me.0) call ballot asked in
       tallied_silent me (with_vote (w.nodes me.0) call vote) (reply_packets me from call (Some vote.reply)) []
-      (record { boot = refl; seq = omega arith; known = omega arith }, λ l. refl, refl))
+      (record { boot = refl; seq = omega arith; known = omega arith }, λ l. refl, refl, refl))
 
   -- a brick begins a proposal
   tallied_proposed : (me : BrickId) (group : GroupId) (members : List BrickId)
@@ -102,15 +106,15 @@ module _ (setting : Setting) (w : World) (books : Books setting w) (tallied : Ta
       proposed_each (λ (step : NodeStep). MessagesShow (stepped setting w w.replies me step) → Tallied (stepped setting w w.replies me step)) setting me
       (w.nodes me.0) group members (λ seq round proposal packets reports more are.
       tallied_silent me (record (w.nodes me.0) { seq = seq; round = round; proposal = proposal }) packets reports
-      (record { boot = refl; seq = more; known = omega arith }, λ l. refl, refl))
+      (record { boot = refl; seq = more; known = omega arith }, λ l. refl, refl, refl))
 
-  -- a reply to an open operation, or to a proposal
-  tallied_replied : (me : BrickId) (now : ℕ) (from : BrickId) (call : Call) (reply : Reply) (found : Option Coordinator) → MessagesShow w
+  -- a reply to an open operation, once it is noted who lagged, or to a proposal
+  tallied_noted : (me : BrickId) (now : ℕ) (from : BrickId) (call : Call) (reply : Reply) (found : Option Coordinator) → MessagesShow w
       → WasSent w (record { from = from; to = me; message = Message.Reply call reply }) → (w.nodes me.0).calls call.seq ≡ found
-      → MessagesShow (stepped setting w (replies_at setting w me from call reply found) me (replied_at setting me now from (w.nodes me.0) call reply found))
-      → Tallied (stepped setting w (replies_at setting w me from call reply found) me (replied_at setting me now from (w.nodes me.0) call reply found))
+      → MessagesShow (stepped setting w (replies_at setting w me from call reply found) me (replied_noted setting me now from (w.nodes me.0) call reply found))
+      → Tallied (stepped setting w (replies_at setting w me from call reply found) me (replied_noted setting me now from (w.nodes me.0) call reply found))
   unfolding on_reply
-  tallied_replied me now from call reply found shows sent = at_call found
+  tallied_noted me now from call reply found shows sent = at_call found
     where
       known : ℕ
       known = known_after (w.nodes me.0).known reply
@@ -125,54 +129,62 @@ module _ (setting : Setting) (w : World) (books : Books setting w) (tallied : Ta
       counting : ℕ → Call → Option ℕ → World
       counting n k z = record w { replies = counted_after w.replies n from k reply z }
 
-      no_read : (z : Option Job) (answer : Answer) (seen stored : Option Stamp) → ClosesNone z (Ends answer seen stored) → z ≡ None
-      no_read None answer seen stored none = refl
-      no_read (Some job) answer seen stored none = absurd (none job answer seen stored refl refl)
-
       at_seat : (c : Coordinator) → IsCall w me.0 c.call.seq c → (z : Option ℕ) → counts_at setting.layout.block c from.0 call reply ≡ z
           → IsTalliedNext (world_stepped setting (counting (number_of w me.0 call.seq) call z) me
-          (carried_for setting me now (w.nodes me.0) known c (counted_at setting.layout.block setting.code (fresh c) c from reply z)
-          (job_reading (w.nodes me.0).job c.call.seq)))
+          (carried_noted setting me now (w.nodes me.0) known c (counted_at setting.layout.block setting.code (fresh c) c from reply z)
+          (job_reading (w.nodes me.0).job c.call.seq) (scrub_of (w.nodes me.0).scrub c.call.seq)))
       at_seat c is None none =
           closing_each IsTalliedNext setting (counting (number_of w me.0 call.seq) call None) me now known c Ignores (job_reading (w.nodes me.0).job c.call.seq)
+          (scrub_of (w.nodes me.0).scrub c.call.seq)
           (λ isnt. tallied_known me known (known_grows (w.nodes me.0).known reply))
           (λ job reads answer seen stored ends. absurd (let never : Ignores ≡ Ends answer seen stored = ends in cc))
+          (λ s reads scrubs answer seen stored ends. absurd (let never : Ignores ≡ Ends answer seen stored = ends in cc))
       at_seat c is (Some seat) counts =
           let facts : CountsAt setting.layout.block c from.0 call reply seat = counts_facts setting.layout.block c from.0 call reply seat counts in
           let next : Next = once_full setting.layout.block setting.code (fresh c) (with_reply c seat from reply) in
           let reading : Option Job = job_reading (w.nodes me.0).job c.call.seq in
+          let scrub : Option Scrub = scrub_of (w.nodes me.0).scrub c.call.seq in
+          let heard : World = counting (number_of w me.0 c.call.seq) c.call (Some seat) in
+          let booked = books_beside setting w (counted_after w.replies (number_of w me.0 c.call.seq) from c.call reply (Some seat)) w.reached w.choices books in
+          let decides : on_reply setting.layout.block setting.code (fresh c) c from call reply ≡ next
+          = ap (λ (z : Option ℕ). counted_at setting.layout.block setting.code (fresh c) c from reply z) counts in
           let fits = once_full_fits setting.layout.block setting.code (fresh c) (with_reply c seat from reply) in
           let sent_it = subst (λ (k : Call). WasSent w (record { from = from; to = me; message = Message.Reply k reply })) facts.call_is sent in
           let its = books.calls me.0 c.call.seq c is in
           subst (λ (k : Call). IsTalliedNext (world_stepped setting (counting (number_of w me.0 k.seq) k (Some seat)) me
-          (carried_for setting me now (w.nodes me.0) known c next reading))) (sym facts.call_is)
-          (closing_each IsTalliedNext setting (counting (number_of w me.0 c.call.seq) c.call (Some seat)) me now known c next reading
+          (carried_noted setting me now (w.nodes me.0) known c next reading scrub))) (sym facts.call_is)
+          (closing_each IsTalliedNext setting heard me now known c next reading scrub
           (λ none.
           tallied_counted setting w me now known c from reply seat books tallied shows is sent_it (known_grows (w.nodes me.0).known reply) facts.answers next fits
           (λ answer seen stored ends.
-          call_marked setting w me.0 c.call.seq c its
-          (no_read reading answer seen stored (λ job a s t at same. none job a s t at (ends ∙ same)))))
+          let neither = none answer seen stored ends in
+          call_marked setting w me.0 c.call.seq c its neither.0 neither.1))
           (λ job reads answer seen stored ends.
           let mine = reading_is (w.nodes me.0).job c.call.seq job reads in
-          let found : on_reply setting.layout.block setting.code (fresh c) c from call reply ≡ next
-          = ap (λ (z : Option ℕ). counted_at setting.layout.block setting.code (fresh c) c from reply z) counts in
-          tallied_after_close setting (closed_world setting (counting (number_of w me.0 c.call.seq) c.call (Some seat)) me known c answer seen stored) me now job
+          let seq : own_seq (w.nodes me.0) ForJob ≡ Some c.call.seq = job_seq (w.nodes me.0).job job c.call.seq mine.0 mine.1 in
+          tallied_after_close setting (closed_world setting heard me known c answer seen stored) me now job
           (job_after c.group.stripes job.attempt (abort_cause answer))
-          (books_closing setting (counting (number_of w me.0 c.call.seq) c.call (Some seat)) me now from call reply c
-          (books_beside setting w (counted_after w.replies (number_of w me.0 c.call.seq) from c.call reply (Some seat)) w.reached w.choices books) is job reads
-          answer seen stored (found ∙ ends))
-          (closed_no_read setting (counting (number_of w me.0 c.call.seq) c.call (Some seat)) me known c answer seen stored job mine.0 mine.1)
+          (books_closing setting heard me now from call reply c booked is ForJob seq answer seen stored (decides ∙ ends))
+          (closed_no_read setting heard me known c answer seen stored ForJob seq)
+          (tallied_closed setting w me now known c from reply seat books tallied shows is sent_it (known_grows (w.nodes me.0).known reply) facts.answers answer
+          seen stored (subst (λ (z : Next). NextFits (fresh c) (with_reply c seat from reply) z) ends fits).1))
+          (λ s reads scrubs answer seen stored ends.
+          let mine = scrub_is (w.nodes me.0).scrub c.call.seq s scrubs in
+          let seq : own_seq (w.nodes me.0) ForScrub ≡ Some c.call.seq = scrub_seq (w.nodes me.0).scrub s c.call.seq mine.0 mine.1 in
+          tallied_after_scrub setting (closed_world setting heard me known c answer seen stored) me c.call (members_alone c.only)
+          (scrub_answer s.lagging (abort_cause answer) stored)
+          (books_closing setting heard me now from call reply c booked is ForScrub seq answer seen stored (decides ∙ ends))
           (tallied_closed setting w me now known c from reply seat books tallied shows is sent_it (known_grows (w.nodes me.0).known reply) facts.answers answer
           seen stored (subst (λ (z : Next). NextFits (fresh c) (with_reply c seat from reply) z) ends fits).1)))
 
       at_call : (z : Option Coordinator) → (w.nodes me.0).calls call.seq ≡ z
-          → MessagesShow (stepped setting w (replies_at setting w me from call reply z) me (replied_at setting me now from (w.nodes me.0) call reply z))
-          → Tallied (stepped setting w (replies_at setting w me from call reply z) me (replied_at setting me now from (w.nodes me.0) call reply z))
+          → MessagesShow (stepped setting w (replies_at setting w me from call reply z) me (replied_noted setting me now from (w.nodes me.0) call reply z))
+          → Tallied (stepped setting w (replies_at setting w me from call reply z) me (replied_noted setting me now from (w.nodes me.0) call reply z))
       at_call None none =
           ballot_each (λ (step : NodeStep). MessagesShow (stepped setting w w.replies me step) → Tallied (stepped setting w w.replies me step)) setting.layout me from
           (with_known (w.nodes me.0) known) call reply (w.nodes me.0).proposal (λ seq round proposal packets reports more are.
           tallied_silent me (record (w.nodes me.0) { known = known; seq = seq; round = round; proposal = proposal }) packets reports
-          (record { boot = refl; seq = more; known = known_grows (w.nodes me.0).known reply }, λ l. refl, refl))
+          (record { boot = refl; seq = more; known = known_grows (w.nodes me.0).known reply }, λ l. refl, refl, refl))
       at_call (Some c) is =
           at_seat c (subst (λ (l : ℕ). IsCall w me.0 l c) (sym (books.calls me.0 call.seq c is).call_seq) is) (counts_at setting.layout.block c from.0 call reply) refl
 
@@ -200,7 +212,7 @@ replies_kept setting w me node from call reply (Some c) same =
 synced_calls : (layout : Layout) (node : Node) (group : GroupId) (number : ViewNo) → KeepsCalls node (node_synced layout node group number)
 synced_calls layout node group number =
     synced_each (λ (n : Node). KeepsCalls node n) layout node group number (keeps_itself node)
-    (λ now unsynced. (record { boot = refl; seq = omega arith; known = omega arith }, λ l. refl, refl))
+    (λ now unsynced. (record { boot = refl; seq = omega arith; known = omega arith }, λ l. refl, refl, refl))
 
 module _ (setting : Setting) (w : World) (books : Books setting w) (tallied : Tallied w) where
   tallied_kept : (me : BrickId) (node : Node) → KeepsCalls (w.nodes me.0) node → MessagesShow w → MessagesShow (kept_world w me node) × Tallied (kept_world w me node)
@@ -213,6 +225,28 @@ module _ (setting : Setting) (w : World) (books : Books setting w) (tallied : Ta
             (keeps_put w me.0 node keeps.0) calls (λ packet sent. sent),
       )
 
+module _ (setting : Setting) (w : World) (books : Books setting w) (tallied : Tallied w) where
+  -- a reply to an open operation, or to a proposal
+  tallied_replied : (me : BrickId) (now : ℕ) (from : BrickId) (call : Call) (reply : Reply) (found : Option Coordinator) → MessagesShow w
+      → WasSent w (record { from = from; to = me; message = Message.Reply call reply }) → (w.nodes me.0).calls call.seq ≡ found
+      → MessagesShow (stepped setting w (replies_at setting w me from call reply found) me (replied_at setting me now from (w.nodes me.0) call reply found))
+      → Tallied (stepped setting w (replies_at setting w me from call reply found) me (replied_at setting me now from (w.nodes me.0) call reply found))
+  tallied_replied me now from call reply found shows sent is =
+      let counted : ℕ → ℕ → List Counted = replies_at setting w me from call reply found in
+      let node : Node = noted_by setting me now from (w.nodes me.0) call reply found in
+      let keeps = noted_keeps setting me now from (w.nodes me.0) call reply found in
+      let kept = tallied_kept setting w books tallied me node keeps shows in
+      let y : World = kept_world w me node in
+      noting_each (λ (next : World). MessagesShow next → Tallied next) setting (record w { replies = counted }) me now from call reply found
+      (subst
+      (λ (r : ℕ → ℕ → List Counted).
+      MessagesShow (stepped setting y r me (replied_noted setting me now from (y.nodes me.0) call reply found))
+      → Tallied (stepped setting y r me (replied_noted setting me now from (y.nodes me.0) call reply found)))
+      (replies_kept setting w me node from call reply found keeps.0.boot)
+      (tallied_noted setting y (books_kept setting w me node books keeps) kept.1 me now from call reply found kept.0 sent
+      (ap (λ (n : Node). n.calls call.seq) (put_same w.nodes me.0 node) ∙ keeps.1 call.seq ∙ is)))
+
+module _ (setting : Setting) (w : World) (books : Books setting w) (tallied : Tallied w) where
   -- a reply is heard
   tallied_heard : (me : BrickId) (now : ℕ) (from : BrickId) (call : Call) (reply : Reply) → MessagesShow w
       → WasSent w (record { from = from; to = me; message = Message.Reply call reply })
@@ -237,7 +271,7 @@ module _ (setting : Setting) (w : World) (books : Books setting w) (tallied : Ta
       replies_heard =
           let node : Node = taught_by setting w me from call reply in
           let keeps = hearing_keeps setting w me from call reply in
-          let kept = tallied_kept me node keeps shows in
+          let kept = tallied_kept setting w books tallied me node keeps shows in
           let x : World = kept_world w me node in
           let found : Option Coordinator = (w.nodes me.0).calls call.seq in
           replying_each IsTalliedNext setting (record w { replies = counted }) me now from call reply
@@ -251,7 +285,7 @@ module _ (setting : Setting) (w : World) (books : Books setting w) (tallied : Ta
       by true = replies_heard
       by false =
           tallied_silent setting w books tallied me (with_known (with_round (w.nodes me.0) reply) known) [] []
-          (record { boot = refl; seq = omega arith; known = known_grows (w.nodes me.0).known reply }, λ l. refl, refl)
+          (record { boot = refl; seq = omega arith; known = known_grows (w.nodes me.0).known reply }, λ l. refl, refl, refl)
 
   -- a message
   tallied_received : (now : ℕ) (from to : BrickId) (message : Message) → MessagesShow w → WasSent w (record { from = from; to = to; message = message })
@@ -296,9 +330,15 @@ module _ (setting : Setting) (w : World) (books : Books setting w) (tallied : Ta
   tallied_began brick now ask group shows =
       let its : Coordinator = new_coordinator (group_there (w.nodes brick.0) ask group) brick now (w.nodes brick.0) ask in
       let begin_mark : Mark = Begin (length w.marks) (w.marked + 1) brick ask in
-      tallied_opened setting w books tallied brick now ask (group_there (w.nodes brick.0) ask group) ((w.nodes brick.0).learnt ask.group.0).view (opened (w.nodes brick.0) its) w.held
+      tallied_opened setting w books tallied brick now ask (group_there (w.nodes brick.0) ask group) ((w.nodes brick.0).learnt ask.group.0).view None (opened (w.nodes brick.0) its) w.held
       (w.packets ++ phase_packets setting brick its) (w.marks ++ (begin_mark ∷ [])) (w.marked + 1) (w.marked + 1)
-      (λ i. top_at (w.nodes i) ask.group.0 ask.stripe.0) w.choices (record { boot = refl; seq = refl; known = refl; calls = refl; job = inl refl })
+      (λ i. top_at (w.nodes i) ask.group.0 ask.stripe.0) w.choices (record {
+        boot = refl;
+        seq = refl;
+        known = refl;
+        calls = refl;
+        reads = same_reads (w.nodes brick.0) (opened (w.nodes brick.0) its) refl refl;
+      })
       shows.orders_alone (λ packet sent. (sent.0, get_kept w.packets (phase_packets setting brick its) sent.0 packet sent.1))
       (λ a p m cause is. ⊎_elim
       (λ (old : slice_get w.marks a ≡ Some (End p m (Aborted cause))). old)
@@ -387,12 +427,24 @@ tallied_syncs : (setting : Setting) (w : World) → Books setting w → Tallied 
     MessagesShow next → Tallied next)
 tallied_syncs setting w books tallied me now group none =
     synced_at_each (λ (step : NodeStep). MessagesShow (world_stepped setting w me step) → Tallied (world_stepped setting w me step)) setting me now (w.nodes me.0) group
-    (λ shows. tallied_idle setting w books tallied me (w.nodes me.0).job [] [] shows.orders_alone)
-    (λ answer shows. tallied_idle setting w books tallied me (w.nodes me.0).job [] (Report.Sync group answer ∷ []) shows.orders_alone)
-    (λ answer shows. tallied_idle setting w books tallied me None [] (Report.Sync group answer ∷ []) shows.orders_alone)
+    (λ shows. tallied_idle setting w books tallied me (w.nodes me.0).job (w.nodes me.0).scrub [] [] shows.orders_alone)
+    (λ answer shows. tallied_idle setting w books tallied me (w.nodes me.0).job (w.nodes me.0).scrub [] (Report.Sync group answer ∷ []) shows.orders_alone)
+    (λ answer shows. tallied_idle setting w books tallied me None (w.nodes me.0).scrub [] (Report.Sync group answer ∷ []) shows.orders_alone)
     (λ kept is shows.
     tallied_read setting w books tallied me now (begun_job group ((w.nodes me.0).learnt group.0).view) kept
-    (λ job at. absurd (let never : None ≡ Some job = sym none ∙ at in cc)) shows.orders_alone)
+    (λ k has. absurd (let never : None ≡ Some k = ap (option_map (λ (z : Job). z.seq)) (sym none) ∙ has in cc)) shows.orders_alone)
+
+-- a brick begins a scrub
+tallied_scrubs : (setting : Setting) (w : World) → Books setting w → Tallied w → (me : BrickId) (now : ℕ) (group : GroupId) (stripe : StripeNo)
+    (members : List BrickId) → (w.nodes me.0).scrub ≡ None
+    → (let next : World = world_stepped setting w me (scrubbed_at setting me now (w.nodes me.0) group stripe members) in
+    MessagesShow next → Tallied next)
+tallied_scrubs setting w books tallied me now group stripe members none =
+    scrubbed_at_each (λ (step : NodeStep). MessagesShow (world_stepped setting w me step) → Tallied (world_stepped setting w me step)) setting me now (w.nodes me.0)
+    group stripe members (λ shows. tallied_idle setting w books tallied me (w.nodes me.0).job (w.nodes me.0).scrub [] [] shows.orders_alone)
+    (λ kept is shows.
+    tallied_scrub setting w books tallied me now group stripe members kept
+    (λ k has. absurd (let never : None ≡ Some k = ap (option_map (λ (z : Scrub). z.seq)) (sym none) ∙ has in cc)) shows.orders_alone)
 
 -- a world whose messages show what they should has its history of replies: so does the next
 abbrev IsTalliedThere : World → Type 0
@@ -414,6 +466,8 @@ tallied_cases setting w known there =
           tallied_syncs setting w books tallied brick (w.clocks brick.0) group
           (no_job (w.nodes brick.0).job (group_of setting.layout group.0)
           (and_parts (is_up setting.layout w brick) (not (is_some (sync_refusal setting.layout (w.nodes brick.0) group.0))) may).1);
+      scrubs = λ brick group stripe members may.
+          tallied_scrubs setting w books tallied brick (w.clocks brick.0) group stripe members (scrub_fits setting w brick group stripe members may).free;
       handles = λ number packet at up. tallied_handled setting w books tallied number packet shows (packet_was_sent w number packet at);
       sets = λ brick time is shown.
           tallied_quiet setting w books tallied w.nodes w.held (put w.clocks brick.0 time) w.packets w.reached _ shown.orders_alone (λ i. keeps_all (w.nodes i))

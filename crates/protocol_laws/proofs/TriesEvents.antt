@@ -28,7 +28,7 @@ use Rattle.protocol.specs.Replicas.{handle}
 use Rattle.protocol.specs.Coordinators.{Coordinator, Next, Ignores, Waits, Sends, Makes, Ends, on_reply}
 use Rattle.protocol.specs.Proposals.{Proposal, Voting, Ignored, Waited, Asks, Ended, ballot_packets, voted}
 use Rattle.protocol.specs.Jobs.{Job, JobNext, Reads, Finishes, GivesUp, most_tries, begun_job, job_after, abort_cause, job_ask}
-use Rattle.protocol.specs.Nodes.{Node, NodeStep, put, sending, reporting, with_known, with_round, with_call, with_job, with_proposal, known_after, full_at, replica_at, vote_at, fresh_stamp, phase_packets, carried_out, carried_ballot, replied_ballot, ended_packets, replied_at, job_reading, carried_for, read_begun, read_begun_in, read_begun_by, reading, job_goes, synced_packets, is_spent, coordinator_in, node_learnt, node_synced, view_counted, requested, heard, received, invoked, began, group_at, new_proposal, proposing, proposed_in, proposed, synced_at, stopped, restarted, reply_packets, with_replica}
+use Rattle.protocol.specs.Nodes.{Node, NodeStep, put, sending, reporting, with_known, with_round, with_call, with_job, with_proposal, known_after, full_at, replica_at, vote_at, fresh_stamp, phase_packets, carried_out, carried_ballot, replied_ballot, ended_packets, replied_at, job_reading, read_begun, read_begun_in, read_begun_by, reading, job_goes, synced_packets, is_spent, coordinator_in, node_learnt, node_synced, view_counted, requested, heard, received, invoked, began, group_at, new_proposal, proposing, proposed_in, proposed, synced_at, stopped, restarted, reply_packets, with_replica, scrub_of, scrub_ended, members_alone, with_scrub, scrubbed_at, scrub_coordinator, scrubbing, begun_aside, then_does}
 use Rattle.protocol.specs.Worlds.{World, Operation, Event, Found, Before, After, first_world, number_of, with_seen, with_closed, reports_of, world_began, world_stepped, world_stopped, world_found, world_started, happens, run}
 use Rattle.protocol.proofs.Events.{EventCases, world_handled, world_counting, happens_each}
 use Rattle.protocol.proofs.Puts.{put_other}
@@ -39,12 +39,17 @@ use Rattle.protocol_laws.specs.SyncEnds.{WasAborted, SyncsShow}
 use Rattle.protocol_laws.proofs.Books.{Books, OperationBooks, CallBooks, JobBooks, IsCall}
 use Rattle.protocol_laws.proofs.BooksKept.{KeepsAsk, reading_is}
 use Rattle.protocol_laws.proofs.BooksEvents.{books}
-use Rattle.protocol_laws.proofs.Closing.{closes, closed_world, closed_then}
+use Rattle.protocol_laws.proofs.Closing.{closes, closed_world, closed_then, closed_second, carried_noted}
 use Rattle.protocol_laws.proofs.Votes.{with_vote}
 use Rattle.protocol_laws.proofs.Hearing.{kept_world, taught_by, hearing_each}
 use Rattle.protocol_laws.proofs.Tallies.{Tallied}
 use Rattle.protocol_laws.proofs.Teaching.{told_each, learnt_each}
 use Rattle.protocol_laws.proofs.Tries.{Table, StaysClosed, stays_itself, stays_then, made_stays, seen_stays, answered_stays, closed_stays, new_stays, IsTry, EarlierTries, JobTries, StoppedTries, ReportTried, Tried, job_on, report_on, now_tried, first_tried, again_tried, stop_tried}
+use Rattle.protocol.specs.Scrubs.{Scrub, scrub_answer}
+use Rattle.protocol.specs.declared.tellings.ScrubAnswer.{ScrubAnswer}
+use Rattle.fab_base.specs.declared.identities.StripeNo.{StripeNo}
+use Rattle.view_laws.proofs.SyncReads.{scrubbed_at_each}
+use Rattle.protocol_laws.proofs.Noting.{noted_by, replied_noted, noting_each, noted_keeps}
 
 -- a brick has the synchronisation that it had, under the number that it had; or its reads are so
 abbrev pub KeepsTries : World → World → ℕ → Job → Type 0
@@ -270,9 +275,17 @@ abbrev pub IsOpenTry : World → BrickId → Job → ℕ → Type 0
 IsOpenTry w me job seq =
     IsTry w.operations me job.group (record { 0 = job.attempt.stripe }) (w.nodes me.0).boot job.view.number.0 (number_of w me.0 seq) None
 
+-- a coordinator's call is that of an operation that has not ended
+abbrev pub IsOpenCall : World → BrickId → Coordinator → Type 0
+IsOpenCall w me c = (o : Operation) × (w.operations (number_of w me.0 c.call.seq) ≡ Some o) × (o.closed ≡ None)
+
 -- a coordinator's call is the read of its brick's synchronisation
 abbrev pub IsRead : World → BrickId → Coordinator → Job → Type 0
 IsRead w me c job = ((w.nodes me.0).job ≡ Some job) × (job.seq ≡ c.call.seq) × IsOpenTry w me job c.call.seq
+
+-- what is known of a coordinator's call: whether it is that read, and that its operation has not ended
+abbrev pub AreReads : World → BrickId → Coordinator → Type 0
+AreReads w me c = ((job : Job) → job_reading (w.nodes me.0).job c.call.seq ≡ Some job → IsRead w me c job) × IsOpenCall w me c
 
 module _ (setting : Setting) (w : World) (me : BrickId) (tried : Tried w) (within : AreWithin w.operations w.begun) where
   -- what the close of a read leaves
@@ -292,7 +305,8 @@ module _ (setting : Setting) (w : World) (me : BrickId) (tried : Tried w) (withi
 
   -- a read of the synchronisation ends
   ends_tried : (now known : ℕ) (c : Coordinator) (answer : Answer) (seen stored : Option Stamp) (job : Job) → IsRead w me c job
-      → Tried (world_stepped setting w me (carried_for setting me now (w.nodes me.0) known c (Ends answer seen stored) (Some job)))
+      → Tried (world_stepped setting w me (then_does (closes w me known c answer seen stored)
+      (job_goes setting me now (closes w me known c answer seen stored).node job (job_after c.group.stripes job.attempt (abort_cause answer)))))
   ends_tried now known c answer seen stored job (has, seq, it) =
       let y : World = closed_world setting w me known c answer seen stored in
       let once = closed_once known c answer stored it.operation it.is it.ended seen in
@@ -318,15 +332,39 @@ module _ (setting : Setting) (w : World) (me : BrickId) (tried : Tried w) (withi
         ended = once.ended;
       }))
 
-  -- a brick does what a coordinator decided, that of a read for its synchronisation or of another operation
-  for_tried : (now known : ℕ) (c : Coordinator) (next : Next) (reading : Option Job) → ((job : Job) → reading ≡ Some job → IsRead w me c job)
-      → Tried (world_stepped setting w me (carried_for setting me now (w.nodes me.0) known c next reading))
-  for_tried now known c next None reads = carried_tried setting w me tried known c next
-  for_tried now known c Ignores (Some job) reads = carried_tried setting w me tried known c Ignores
-  for_tried now known c (Waits d) (Some job) reads = carried_tried setting w me tried known c (Waits d)
-  for_tried now known c (Sends d) (Some job) reads = carried_tried setting w me tried known c (Sends d)
-  for_tried now known c (Makes d) (Some job) reads = carried_tried setting w me tried known c (Makes d)
-  for_tried now known c (Ends answer seen stored) (Some job) reads = ends_tried now known c answer seen stored job (reads job refl)
+  -- a scrub ends
+  scrub_tried : (known : ℕ) (c : Coordinator) (answer : Answer) (seen stored : Option Stamp) (members : List BrickId) (ended : ScrubAnswer) → IsOpenCall w me c
+      → (let y = closed_world setting w me known c answer seen stored in
+      Tried (world_stepped setting y me (scrub_ended (y.nodes me.0) c.call members ended)))
+  scrub_tried known c answer seen stored members ended (o, is, unclosed) =
+      let y : World = closed_world setting w me known c answer seen stored in
+      let once = closed_once known c answer stored o is unclosed seen in
+      let same = closed_numbers known c answer stored seen in
+      quiet_tried setting y me
+      (step_tried setting w me tried (closes w me known c answer seen stored) once.stays same.0 (λ j has. has) refl (none_reported y.operations me))
+      (with_scrub (y.nodes me.0) None) [] (report.Scrub c.call members ended ∷ []) (λ j has. has) refl
+      (one_reported y.operations me (report.Scrub c.call members ended) tt)
+
+  -- a brick does what a coordinator decided, that of a read for its synchronisation, of its scrub, or of another operation
+  for_tried : (now known : ℕ) (c : Coordinator) (next : Next) (reading : Option Job) (scrub : Option Scrub)
+      → ((job : Job) → reading ≡ Some job → IsRead w me c job) → IsOpenCall w me c
+      → Tried (world_stepped setting w me (carried_noted setting me now (w.nodes me.0) known c next reading scrub))
+  for_tried now known c next None None reads is_open = carried_tried setting w me tried known c next
+  for_tried now known c Ignores None (Some s) reads is_open = carried_tried setting w me tried known c Ignores
+  for_tried now known c (Waits d) None (Some s) reads is_open = carried_tried setting w me tried known c (Waits d)
+  for_tried now known c (Sends d) None (Some s) reads is_open = carried_tried setting w me tried known c (Sends d)
+  for_tried now known c (Makes d) None (Some s) reads is_open = carried_tried setting w me tried known c (Makes d)
+  for_tried now known c (Ends answer seen stored) None (Some s) reads is_open =
+      let members : List BrickId = members_alone c.only in
+      let ended : ScrubAnswer = scrub_answer s.lagging (abort_cause answer) stored in
+      subst (λ (x : World). Tried x)
+      (closed_second setting w me now known c answer seen stored (λ n. scrub_ended n c.call members ended) (refl, refl, refl))
+      (scrub_tried known c answer seen stored members ended is_open)
+  for_tried now known c Ignores (Some job) scrub reads is_open = carried_tried setting w me tried known c Ignores
+  for_tried now known c (Waits d) (Some job) scrub reads is_open = carried_tried setting w me tried known c (Waits d)
+  for_tried now known c (Sends d) (Some job) scrub reads is_open = carried_tried setting w me tried known c (Sends d)
+  for_tried now known c (Makes d) (Some job) scrub reads is_open = carried_tried setting w me tried known c (Makes d)
+  for_tried now known c (Ends answer seen stored) (Some job) scrub reads is_open = ends_tried now known c answer seen stored job (reads job refl)
 
   -- a reply to its proposal, if it has one
   ballot_tried : (from : BrickId) (node : Node) (call : Call) (reply : Reply) (proposal : Option Proposal) → node.job ≡ (w.nodes me.0).job
@@ -342,21 +380,47 @@ module _ (setting : Setting) (w : World) (me : BrickId) (tried : Tried w) (withi
           quiet_tried setting w me tried (with_proposal node None) (ended_packets setting.layout me p answer) (report.View p.call.group (Some ended) answer ∷ [])
           (λ j is. sym job ∙ is) boot (one_reported w.operations me (report.View p.call.group (Some ended) answer) tt)
 
-  -- a reply to an open operation, or to a proposal
+  -- a reply to an open operation, once it is noted who lagged, or to a proposal
   replied_tried : (now : ℕ) (from : BrickId) (call : Call) (reply : Reply) (found : Option Coordinator)
-      → ((c : Coordinator) → found ≡ Some c → (job : Job) → job_reading (w.nodes me.0).job c.call.seq ≡ Some job → IsRead w me c job)
-      → Tried (world_stepped setting w me (replied_at setting me now from (w.nodes me.0) call reply found))
+      → ((c : Coordinator) → found ≡ Some c → AreReads w me c)
+      → Tried (world_stepped setting w me (replied_noted setting me now from (w.nodes me.0) call reply found))
   replied_tried now from call reply None reads =
       ballot_tried from (with_known (w.nodes me.0) (known_after (w.nodes me.0).known reply)) call reply (w.nodes me.0).proposal refl refl
   replied_tried now from call reply (Some c) reads =
       for_tried now (known_after (w.nodes me.0).known reply) c
       (on_reply setting.layout.block setting.code (fresh_stamp me c.stamp.view now (w.nodes me.0).boot (known_after (w.nodes me.0).known reply)) c from call reply)
-      (job_reading (w.nodes me.0).job c.call.seq) (reads c refl)
+      (job_reading (w.nodes me.0).job c.call.seq) (scrub_of (w.nodes me.0).scrub c.call.seq) (reads c refl).0 (reads c refl).1
+
+module _ (setting : Setting) (w : World) (me : BrickId) (tried : Tried w) (within : AreWithin w.operations w.begun) where
+  -- a brick that keeps its synchronisation and its boot keeps what is known of its reads
+  reads_kept : (node : Node) → node.job ≡ (w.nodes me.0).job → node.boot ≡ (w.nodes me.0).boot → (c : Coordinator) → AreReads w me c
+      → AreReads (kept_world w me node) me c
+  reads_kept node job_is boot_is c (reads, (o, is, unclosed)) =
+      let x : World = kept_world w me node in
+      let job : (x.nodes me.0).job ≡ (w.nodes me.0).job = ap (λ (n : Node). n.job) (put_same w.nodes me.0 node) ∙ job_is in
+      let boot : (x.nodes me.0).boot ≡ (w.nodes me.0).boot = ap (λ (n : Node). n.boot) (put_same w.nodes me.0 node) ∙ boot_is in (
+        λ j reading.
+            (let old = reads j (ap (λ (z : Option Job). job_reading z c.call.seq) (sym job) ∙ reading) in (
+              job ∙ old.0,
+              old.1,
+              subst (λ (b : ℕ). IsTry w.operations me j.group (record { 0 = j.attempt.stripe }) b j.view.number.0 (w.numbers me.0 b c.call.seq) None) (sym boot) old.2,
+            )),
+        (o, ap (λ (b : ℕ). w.operations (w.numbers me.0 b c.call.seq)) boot ∙ is, unclosed),
+      )
+
+  -- it is handled, once it is noted who lagged
+  noted_tried : (now : ℕ) (from : BrickId) (call : Call) (reply : Reply) (found : Option Coordinator) → ((c : Coordinator) → found ≡ Some c → AreReads w me c)
+      → Tried (world_stepped setting w me (replied_at setting me now from (w.nodes me.0) call reply found))
+  noted_tried now from call reply found reads =
+      let node : Node = noted_by setting me now from (w.nodes me.0) call reply found in
+      let keeps = noted_keeps setting me now from (w.nodes me.0) call reply found in
+      noting_each (λ (z : World). Tried z) setting w me now from call reply found
+      (replied_tried setting (kept_world w me node) me (still_tried setting w me tried node [] keeps.2 keeps.0.boot) within now from call reply found
+      (λ c is. reads_kept node keeps.2 keeps.0.boot c (reads c is)))
 
 module _ (setting : Setting) (w : World) (me : BrickId) (tried : Tried w) (within : AreWithin w.operations w.begun) where
   -- it is heard, once the brick was taught the view that it teaches
-  heard_tried : (now : ℕ) (from : BrickId) (call : Call) (reply : Reply)
-      → ((c : Coordinator) → (w.nodes me.0).calls call.seq ≡ Some c → (job : Job) → job_reading (w.nodes me.0).job c.call.seq ≡ Some job → IsRead w me c job)
+  heard_tried : (now : ℕ) (from : BrickId) (call : Call) (reply : Reply) → ((c : Coordinator) → (w.nodes me.0).calls call.seq ≡ Some c → AreReads w me c)
       → Tried (world_stepped setting w me (heard setting me now from (w.nodes me.0) call reply))
   heard_tried now from call reply reads =
       let node : Node = taught_by setting w me from call reply in
@@ -364,17 +428,10 @@ module _ (setting : Setting) (w : World) (me : BrickId) (tried : Tried w) (withi
       let keeps : (node.job ≡ (w.nodes me.0).job) × (node.boot ≡ (w.nodes me.0).boot)
       = told_each (λ (n : Node). (n.job ≡ (w.nodes me.0).job) × (n.boot ≡ (w.nodes me.0).boot)) setting.layout.block call.group.0
       (with_round (w.nodes me.0) reply) (view_counted setting.layout from (w.nodes me.0) call reply) (refl, refl) (λ v later. (refl, refl)) in
-      let job : (x.nodes me.0).job ≡ (w.nodes me.0).job = ap (λ (n : Node). n.job) (put_same w.nodes me.0 node) ∙ keeps.0 in
-      let boot : (x.nodes me.0).boot ≡ (w.nodes me.0).boot = ap (λ (n : Node). n.boot) (put_same w.nodes me.0 node) ∙ keeps.1 in
       hearing_each (λ (z : World). Tried z) setting w me now from call reply
       (still_tried setting w me tried (with_known (with_round (w.nodes me.0) reply) (known_after (w.nodes me.0).known reply)) [] refl refl)
-      (replied_tried setting x me (still_tried setting w me tried node [] keeps.0 keeps.1) within now from call reply ((w.nodes me.0).calls call.seq)
-      (λ c is j reading.
-      let old = reads c is j (ap (λ (z : Option Job). job_reading z c.call.seq) (sym job) ∙ reading) in (
-        job ∙ old.0,
-        old.1,
-        subst (λ (b : ℕ). IsTry w.operations me j.group (record { 0 = j.attempt.stripe }) b j.view.number.0 (w.numbers me.0 b c.call.seq) None) (sym boot) old.2,
-      )))
+      (noted_tried setting x me (still_tried setting w me tried node [] keeps.0 keeps.1) within now from call reply ((w.nodes me.0).calls call.seq)
+      (λ c is. reads_kept setting w me tried within node keeps.0 keeps.1 c (reads c is)))
 
   -- a request
   requested_tried : (from : BrickId) (call : Call) (request : Request) → Tried (world_stepped setting w me (requested setting me from (w.nodes me.0) call request))
@@ -391,8 +448,7 @@ module _ (setting : Setting) (w : World) (me : BrickId) (tried : Tried w) (withi
 
   -- a message
   received_tried : (now : ℕ) (from : BrickId) (message : Message)
-      → ((call : Call) (c : Coordinator) → (w.nodes me.0).calls call.seq ≡ Some c
-      → (job : Job) → job_reading (w.nodes me.0).job c.call.seq ≡ Some job → IsRead w me c job)
+      → ((call : Call) (c : Coordinator) → (w.nodes me.0).calls call.seq ≡ Some c → AreReads w me c)
       → (let packet : Packet = record { from = from; to = me; message = message } in
       Tried (world_stepped setting w me (received setting me now (w.nodes me.0) packet)))
   unfolding received
@@ -444,23 +500,31 @@ read_is setting w books me k c is job reading =
     let there = reading_is (w.nodes me.0).job c.call.seq job reading in
     let mine : JobBooks w me.0 job = books.jobs me.0 job there.0 in
     let own : CallBooks setting w me.0 k c = books.calls me.0 k c is in
-    let at : w.operations (number_of w me.0 c.call.seq) ≡ Some mine.operation
-    = ap (λ (l : ℕ). w.operations (number_of w me.0 l)) (sym there.1) ∙ mine.operation_is in
-    let same : own.operation ≡ mine.operation
-    = same_Some own.operation mine.operation
+    let at : w.operations (number_of w me.0 c.call.seq) ≡ Some mine.own.operation
+    = ap (λ (l : ℕ). w.operations (number_of w me.0 l)) (sym there.1) ∙ mine.own.operation_is in
+    let same : own.operation ≡ mine.own.operation
+    = same_Some own.operation mine.own.operation
     (sym own.operation_is ∙ ap (λ (l : ℕ). w.operations (number_of w me.0 l)) (sym own.call_seq) ∙ at) in (
       there.0,
       there.1,
       record {
-        operation = mine.operation;
+        operation = mine.own.operation;
         is = at;
-        unmarked = mine.mark;
-        brick_is = ap (λ (i : ℕ). record { 0 = i }) mine.brick;
-        boot_is = mine.boot;
+        unmarked = mine.own.mark;
+        brick_is = ap (λ (i : ℕ). record { 0 = i }) mine.own.brick;
+        boot_is = mine.own.boot;
         view_is = mine.view;
         ask = mine.ask;
         ended = ap (λ (o : Operation). o.closed) (sym same) ∙ own.unclosed;
       },
+    )
+
+-- and of an open operation
+reads_are : (setting : Setting) (w : World) → Books setting w → (me : BrickId) (k : ℕ) (c : Coordinator) → IsCall w me.0 k c → AreReads w me c
+reads_are setting w books me k c is =
+    let own : CallBooks setting w me.0 k c = books.calls me.0 k c is in (
+      read_is setting w books me k c is,
+      (own.operation, ap (λ (l : ℕ). w.operations (number_of w me.0 l)) own.call_seq ∙ own.operation_is, own.unclosed),
     )
 
 -- a synchronisation's read keeps its number, where the brick keeps its boot
@@ -468,12 +532,12 @@ number_kept : (setting : Setting) (w next : World) → Books setting w → Books
     → (w.nodes i).job ≡ Some job → (next.nodes i).boot ≡ (w.nodes i).boot → number_of next i job.seq ≡ number_of w i job.seq
 number_kept setting w next books later stays i job has boot =
     let mine : JobBooks w i job = books.jobs i job has in
-    let goes = stays (number_of w i job.seq) mine.operation mine.operation_is in
+    let goes = stays (number_of w i job.seq) mine.own.operation mine.own.operation_is in
     let own : OperationBooks setting next (number_of w i job.seq) goes.0 = later.operations (number_of w i job.seq) goes.0 goes.1 in
     sym (
-    ap (λ (j : ℕ). next.numbers j goes.0.boot goes.0.seq) (ap (λ (b : BrickId). b.0) goes.2.0.brick ∙ mine.brick)
-    ∙ ap (λ (b : ℕ). next.numbers i b goes.0.seq) (goes.2.0.boot ∙ mine.boot ∙ sym boot)
-    ∙ ap (λ (k : ℕ). next.numbers i (next.nodes i).boot k) (goes.2.0.seq ∙ mine.seq)
+    ap (λ (j : ℕ). next.numbers j goes.0.boot goes.0.seq) (ap (λ (b : BrickId). b.0) goes.2.0.brick ∙ mine.own.brick)
+    ∙ ap (λ (b : ℕ). next.numbers i b goes.0.seq) (goes.2.0.boot ∙ mine.own.boot ∙ sym boot)
+    ∙ ap (λ (k : ℕ). next.numbers i (next.nodes i).boot k) (goes.2.0.seq ∙ mine.own.seq)
     )
     ∙ own.number
 
@@ -508,11 +572,34 @@ module _ (setting : Setting) (w : World) (books : Books setting w) (tried : Trie
       inl (has, same.1, number_kept setting w next books later stays i job has same.1))
       (λ k told is. inl (k, is)) tried
 
+  -- a scrub begins
+  scrubs_tried : (me : BrickId) (now : ℕ) (group : GroupId) (stripe : StripeNo) (members : List BrickId)
+      → (let next = world_stepped setting w me (scrubbed_at setting me now (w.nodes me.0) group stripe members) in Books setting next → Tried next)
+  scrubs_tried me now group stripe members =
+      scrubbed_at_each (λ (step : NodeStep). Books setting (world_stepped setting w me step) → Tried (world_stepped setting w me step)) setting me now (w.nodes me.0)
+      group stripe members (λ later. still_tried setting w me tried (w.nodes me.0) [] refl refl)
+      (λ kept is later.
+      let c : Coordinator = scrub_coordinator kept me now (w.nodes me.0) group stripe members in
+      let node : Node = scrubbing (w.nodes me.0) c in
+      let next : World = world_stepped setting w me (begun_aside setting me node c) in
+      let stays : StaysClosed w.operations next.operations
+      = new_stays w.operations (w.begun + 1) _ (λ p at. (let most : w.begun + 1 ≤ w.begun = are_within (w.begun + 1) p at in omega arith)) in
+      tried_on w next stays
+      (λ i job at.
+      let same = put_each (λ i (n : Node). (n.job ≡ (w.nodes i).job) × (n.boot ≡ (w.nodes i).boot)) w.nodes me.0 node (refl, refl) (λ i other. (refl, refl)) i in
+      let has : (w.nodes i).job ≡ Some job = sym same.0 ∙ at in
+      inl (has, same.1, number_kept setting w next books later stays i job has same.1))
+      (λ k told at. ⊎_elim
+      (λ (old : slice_get w.choices.reports k ≡ Some told). inl (k, old))
+      (λ (none : (j : ℕ) × (slice_get (reports_of me []) j ≡ Some told)). inr (none_reported next.operations me none.0 told none.1))
+      (get_grown w.choices.reports (reports_of me []) k told at))
+      tried)
+
   -- a packet is handled
   handled_tried : (number : ℕ) (packet : Packet) → Tried (world_handled setting w number packet)
   handled_tried number packet =
       received_tried setting (world_counting setting w number packet) packet.to tried are_within (w.clocks packet.to.0) packet.from packet.message
-      (λ call c is. read_is setting w books packet.to call.seq c is)
+      (λ call c is. reads_are setting w books packet.to call.seq c is)
 
   -- a brick stops: it has no synchronisation
   stopped_tried : (brick : BrickId) (during : Option ℕ) → Tried (world_stopped setting w brick during)
@@ -565,6 +652,7 @@ tried_cases setting w books tried = record {
   begins = λ brick ask may later. begins_tried setting w books tried brick ask later;
   proposes = λ brick group members may later. proposed_tried setting w brick tried (are_within setting w books tried) group members;
   syncs = λ brick group may later. synced_tried setting w brick tried (are_within setting w books tried) (w.clocks brick.0) group;
+  scrubs = λ brick group stripe members may later. scrubs_tried setting w books tried brick (w.clocks brick.0) group stripe members later;
   handles = λ number packet at up later. handled_tried setting w books tried number packet;
   sets = λ brick time is later. tried;
   ticks = λ brick up later. tried;
