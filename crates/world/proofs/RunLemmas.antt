@@ -12,7 +12,7 @@ use Rattle.lines.specs.declared.forms.Line.{Line}
 use Rattle.lines.specs.declared.forms.Fault.{Fault}
 use Rattle.stripe_code.specs.Codes.{coding}
 use Rattle.fab_base.specs.Layouts.{Layout}
-use Rattle.protocol.specs.Nodes.{Node, NodeStep, proposed, synced_at}
+use Rattle.protocol.specs.Nodes.{Node, NodeStep, proposed, synced_at, scrubbed_at}
 use Rattle.protocol.specs.Settings.{Setting}
 use Rattle.protocol.specs.declared.tellings.Report.{Report}
 use Rattle.protocol.specs.Worlds.{World, Event, Stops, Starts, Before, first_world, number_of, reports_of, world_stepped, run}
@@ -90,6 +90,8 @@ grow_cases : (setting : Setting) (least : ℕ) (w : World) → HasAtLeast least 
 grow_cases setting least w few = record {
   proposes = λ brick group members may. grow_stepped setting least w brick (proposed setting brick (w.nodes brick.0) group members) few;
   syncs = λ brick group may. grow_stepped setting least w brick (synced_at setting brick (w.clocks brick.0) (w.nodes brick.0) group) few;
+  scrubs = λ brick group stripe members may.
+      grow_stepped setting least w brick (scrubbed_at setting brick (w.clocks brick.0) (w.nodes brick.0) group stripe members) few;
   begins = λ brick ask may. grown_by w.marks (mark.Begin (length w.marks) (w.marked + 1) brick ask) least few;
   handles = λ number packet at up. grow_stepped setting least (world_counting setting w number packet) packet.to (step_on setting w packet) few;
   sets = λ brick time is. few;
@@ -113,6 +115,9 @@ report_cases setting least w few = record {
       reports_grown w.choices.reports (reports_of brick (proposed setting brick (w.nodes brick.0) group members).reports) least few;
   syncs = λ brick group may.
       reports_grown w.choices.reports (reports_of brick (synced_at setting brick (w.clocks brick.0) (w.nodes brick.0) group).reports) least few;
+  scrubs = λ brick group stripe members may.
+      reports_grown w.choices.reports
+      (reports_of brick (scrubbed_at setting brick (w.clocks brick.0) (w.nodes brick.0) group stripe members).reports) least few;
   handles = λ number packet at up. reports_grown w.choices.reports (reports_of packet.to (step_on setting w packet).reports) least few;
   sets = λ brick time is. few;
   ticks = λ brick up. few;
