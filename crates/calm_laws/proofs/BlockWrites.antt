@@ -162,18 +162,18 @@ module _ (stage : Stage) (cast : Cast stage) (logs : ℕ → List Version) (lore
       go : (z : Option Stamp) → common_version_at j looked ≡ z
           → Carries stage (after_replies stage s known parts others before) (modified_if stage.setting.code (having s.c looked) j z)
       go None is = (
-        record { group = refl; prior = refl; boot = refl; seq = refl; of_group = refl; view = refl; stripe = refl },
+        record { group = refl; prior = refl; only = refl; boot = refl; seq = refl; of_group = refl; view = refl; stripe = refl },
         lower_closes stage cast logs lore s in_view later early others before parts known looked s.c.stamp tame above (omega arith),
       )
       go (Some v) is =
           let common = common_parts j looked v is in
           let found = each_finds look v cast.xs (common_found looked v common.1) in (
-            record { group = refl; prior = refl; boot = refl; seq = refl; of_group = refl; view = refl; stripe = refl },
+            record { group = refl; prior = refl; only = refl; boot = refl; seq = refl; of_group = refl; view = refl; stripe = refl },
             modify_phase stage cast (made stage (after_replies stage s known parts others before) (modifying stage.setting.code (having s.c looked) v j)) v j
                 (next_open stage cast s.c (modifying stage.setting.code (having s.c looked) v j) others before
                 (made stage (after_replies stage s known parts others before) (modifying stage.setting.code (having s.c looked) v j)) in_view
                 (record {
-                  same = record { group = refl; prior = refl; boot = refl; seq = refl; of_group = refl; view = refl; stripe = refl };
+                  same = record { group = refl; prior = refl; only = refl; boot = refl; seq = refl; of_group = refl; view = refl; stripe = refl };
                   ahead = refl;
                   own = refl;
                   later = refl;

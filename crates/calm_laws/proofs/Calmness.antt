@@ -12,7 +12,7 @@ use Rattle.std.proofs.lemmas.Bool.{and_from, and_parts, cond_both, eqb-true, fal
 use Rattle.std.proofs.lemmas.Bool.Decides.{nat_tests}
 use Rattle.std.proofs.lemmas.List.{append_assoc, length-take-le, take-append-drop}
 use Rattle.std.specs.Prelude.{filter, nat_eq, nat_lt, slice_get, ◌*◌, ◌-◌, not}
-use Rattle.calm_laws.proofs.Asking.{each_append, each_then}
+use Rattle.calm_laws.proofs.Asking.{each_append, each_then, each_so}
 use Rattle.calm_laws.proofs.Beginnings.{OpenFacts, each_repeated, map_append, one_stands, open_facts, repeated_sends, waiting_untouched}
 use Rattle.calm_laws.proofs.Casting.{apart_chosen, apart_take, chosen, chosen_many, each_chosen, each_drop, each_take, sends_chosen, chosen_few, has_chosen}
 use Rattle.calm_laws.proofs.Descending.{Lore, IsFloor, Ground, MayLookBack}
@@ -30,7 +30,6 @@ use Rattle.calm_laws.proofs.Rooms.{Room}
 use Rattle.calm_laws.proofs.Scenes.{Closes, Each, IsSeated, Part, Scene, Seated, Stage, asking, sends, IsInView, asks_own, first_ahead, IsOf, IsSeatedBack, asks_before, AreApart}
 use Rattle.calm_laws.proofs.Shows.{IsMember, Shows}
 use Rattle.calm_laws.proofs.Starts.{AreFew, block_first, write_first}
-use Rattle.calm_laws.proofs.StorePhases.{each_so}
 use Rattle.calm_laws.specs.Laws.{EncodesBlocks, EndsAlone, IsOver, most_records}
 use Rattle.fab_base.proofs.Seats.{brick_at_seat, seat_of_member, seat_within}
 use Rattle.fab_base.specs.Layouts.{Group, brick_at, seat_in}
@@ -125,7 +124,7 @@ module _ (setting : Setting) (sound : IsSound setting) (lengths : EncodesBlocks 
   ahead = ap (λ (p : Phase). looks_back p) known.call.phase ∙ first_ahead c.ask.op
 
   of : IsOf stage c
-  of = record { group = refl; prior = refl; boot = refl; seq = refl; of_group = refl; view = sym known.call.view; stripe = refl }
+  of = record { group = refl; prior = refl; only = known.call.only; boot = refl; seq = refl; of_group = refl; view = sym known.call.view; stripe = refl }
 
   in_view : IsInView stage c
   in_view = record { of = of; ahead = ahead; own = known.call.view }

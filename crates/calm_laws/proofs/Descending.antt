@@ -255,7 +255,7 @@ module _ (stage : Stage) (cast : Cast stage) (logs : ℕ → List Version) (lore
       (cond b (Sends (in_phase (having s.c reads) (LooksBack None))) (Waits (forgetting (having s.c reads)))))
       (sym (ap (λ (t : ℕ). nat_lt 1 t && not (looks_back s.c.phase)) (ap (λ (v : ViewNo). v.0) in_view.of.view)
       ∙ ap (λ (b : Bool). nat_lt 1 stage.call.view.0 && not b) in_view.ahead ∙ ap (λ (b : Bool). b && true) back.later)) (
-        record { group = refl; prior = refl; boot = refl; seq = refl; of_group = refl; view = refl; stripe = refl },
+        record { group = refl; prior = refl; only = refl; boot = refl; seq = refl; of_group = refl; view = refl; stripe = refl },
         back.closes s others before parts known reads in_view tame later within,
       )
 
@@ -290,9 +290,9 @@ module _ (stage : Stage) (cast : Cast stage) (logs : ℕ → List Version) (lore
           let same : s.c.group.m ≡ stage.group.m = ap (λ (y : Group). y.m) in_view.of.group in
           let less : length (pieces_at v reads) < s.c.group.m = ltb-true (length (pieces_at v reads)) s.c.group.m few in
           let over = still_above lore.ground above v is (omega (arith, less, same)) in
-          (record { group = refl; prior = refl; boot = refl; seq = refl; of_group = refl; view = refl; stripe = refl }, lower v over (found_fewer logs cast.xs bound want v is)))
+          (record { group = refl; prior = refl; only = refl; boot = refl; seq = refl; of_group = refl; view = refl; stripe = refl }, lower v over (found_fewer logs cast.xs bound want v is)))
           (λ enough. (
-            record { group = refl; prior = refl; boot = refl; seq = refl; of_group = refl; view = refl; stripe = refl },
+            record { group = refl; prior = refl; only = refl; boot = refl; seq = refl; of_group = refl; view = refl; stripe = refl },
             store_phase stage cast
                 (made stage (after_replies stage s known parts others before)
                 (restoring stage.setting.layout.block (having s.c reads) v (stage.setting.code.decode s.c.group.m (pieces_at v reads))))
@@ -303,7 +303,7 @@ module _ (stage : Stage) (cast : Cast stage) (logs : ℕ → List Version) (lore
                 (restoring stage.setting.layout.block (having s.c reads) v (stage.setting.code.decode s.c.group.m (pieces_at v reads))))
                 in_view
                 (record {
-                  same = record { group = refl; prior = refl; boot = refl; seq = refl; of_group = refl; view = refl; stripe = refl };
+                  same = record { group = refl; prior = refl; only = refl; boot = refl; seq = refl; of_group = refl; view = refl; stripe = refl };
                   ahead = refl;
                   own = refl;
                   later = refl;
@@ -352,7 +352,7 @@ down_step stage cast logs lore n s bound set phase above early lower =
       open_is = next_open stage cast s.c (in_phase (having s.c all) (Descends v)) set.open_is.others before
           (sent stage (after_replies stage s known parts set.open_is.others before) (in_phase (having s.c all) (Descends v))) set.open_is.in_view
           (record {
-            same = record { group = refl; prior = refl; boot = refl; seq = refl; of_group = refl; view = refl; stripe = refl };
+            same = record { group = refl; prior = refl; only = refl; boot = refl; seq = refl; of_group = refl; view = refl; stripe = refl };
             ahead = refl;
             own = refl;
             later = refl;

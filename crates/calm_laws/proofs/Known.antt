@@ -2,7 +2,7 @@
 use Rattle.fab_base.specs.declared.identities.BrickId.{BrickId}
 use Rattle.std.specs.List.{IsDistinct}
 use Rattle.protocol.specs.Views.{view_of, first_kept, kept_by}
-use Rattle.std.proofs.Common.{List, Some, [], false, length, suc, true, zero, ℕ, ◌++◌, ◌+◌, ◌<◌, ◌≡◌, ◌≤◌, ◌⊎◌}
+use Rattle.std.proofs.Common.{List, Some, [], false, length, suc, true, zero, ℕ, ◌++◌, ◌+◌, ◌<◌, ◌≡◌, ◌≤◌, ◌⊎◌, None}
 use Rattle.std.specs.Prelude.{filter, nat_eq, slice_get, map, ◌-◌}
 use Rattle.protocol_laws.proofs.Logs.{LogAscends}
 use Rattle.calm_laws.specs.Laws.{most_records}
@@ -48,6 +48,7 @@ pub record KnownCall (setting : Setting) (w : World) (n : ℕ) (o : Operation) (
   pub number_of_phase : c.call.phase ≡ 1
   pub round : c.round ≡ 1
   pub counted : c.counted ≡ []
+  pub only : c.only ≡ None
 
 -- Its messages: its first phase's requests, once for its beginning and once for each tick since. And nothing was delivered that was not sent.
 pub record KnownMessages (setting : Setting) (w : World) (n : ℕ) (o : Operation) (c : Coordinator) : Type 0 where

@@ -116,7 +116,7 @@ ends_stored stage c o parts t None (Some u) its made version ends =
 
 module _ (setting : Setting) (events : List Event) (n : ℕ) (bricks : List BrickId) (sound : IsSound setting) (encodes : EncodesBlocks setting)
     (small : setting.layout.records ≤ most_records) (calm : IsCalm setting (run setting events (first_world setting.layout)) n bricks)
-    (has_stripe : HasStripe setting calm.operation) (exactly : AreJustQuorum calm.coordinator bricks) (t : Stamp) where
+    (has_stripe : HasStripe setting calm.operation calm.coordinator) (exactly : AreJustQuorum calm.coordinator bricks) (t : Stamp) where
   abbrev w : World
   w = run setting events (first_world setting.layout)
 

@@ -184,15 +184,15 @@ module _ (stage : Stage) (cast : Cast stage) (logs : ℕ → List Version) (lore
       let own = first.stamp_known in
       record {
         open_is = record {
-          in_view = record { of = of_same stage s.c (in_phase (having s.c counted) Recovers) (record { group = refl; prior = refl; boot = refl; seq = refl; of_group = refl; view = refl; stripe = refl }) first.open_is.in_view.of; ahead = refl; own = refl };
+          in_view = record { of = of_same stage s.c (in_phase (having s.c counted) Recovers) (record { group = refl; prior = refl; only = refl; boot = refl; seq = refl; of_group = refl; view = refl; stripe = refl }) first.open_is.in_view.of; ahead = refl; own = refl };
           counted = refl;
           stale = told_all stage s.c first.open_is.others before;
-          old = stale_then stage s.c (in_phase (having s.c counted) Recovers) (record { group = refl; prior = refl; boot = refl; seq = refl; of_group = refl; view = refl; stripe = refl }) refl
+          old = stale_then stage s.c (in_phase (having s.c counted) Recovers) (record { group = refl; prior = refl; only = refl; boot = refl; seq = refl; of_group = refl; view = refl; stripe = refl }) refl
               (told_all stage s.c first.open_is.others before) (told_replies stage s.c first.open_is.others before);
           others = cast.rest;
           others_seated = cast.rest_seated;
           waiting = ap (λ (q : List Packet). told_all stage s.c first.open_is.others before ++ q)
-              (cast.sends (in_phase (having s.c counted) Recovers) (record { of = of_same stage s.c (in_phase (having s.c counted) Recovers) (record { group = refl; prior = refl; boot = refl; seq = refl; of_group = refl; view = refl; stripe = refl }) first.open_is.in_view.of; ahead = refl; own = refl }));
+              (cast.sends (in_phase (having s.c counted) Recovers) (record { of = of_same stage s.c (in_phase (having s.c counted) Recovers) (record { group = refl; prior = refl; only = refl; boot = refl; seq = refl; of_group = refl; view = refl; stripe = refl }) first.open_is.in_view.of; ahead = refl; own = refl }));
         };
         quiet = looks_quiet stage s.c want looking_is.asks first.open_is.others before (max known s.c.stamp.time);
         round = first.round;
@@ -248,7 +248,7 @@ module _ (stage : Stage) (cast : Cast stage) (logs : ℕ → List Version) (lore
           → Carries stage (after_replies stage s known parts first.open_is.others before) (decides stage s.c known counted)
       go before parts still (inl is) =
           subst (λ (z : Next). Carries stage (after_replies stage s known parts first.open_is.others before) z) (sym is) (
-            record { group = refl; prior = refl; boot = refl; seq = refl; of_group = refl; view = refl; stripe = refl },
+            record { group = refl; prior = refl; only = refl; boot = refl; seq = refl; of_group = refl; view = refl; stripe = refl },
             recover_first stage cast logs lore few
                 (sent stage (after_replies stage s known parts first.open_is.others before) (in_phase (having s.c counted) Recovers))
                 (recovery_first counted before parts known known_is still) refl (omega (arith, early)) unheld,

@@ -1,7 +1,7 @@
 -- The three phases that order, alone: each closes, in its first round or in its second.
 use Rattle.std.proofs.Common.{List, [], ap, arith, false, inl, inr, map, refl, true, ℕ, ◌+◌, ◌<◌, ◌∙◌, ◌∷◌, ◌≡◌, ◌≤◌}
 use Rattle.std.specs.Prelude.{◌-◌, ◌^◌}
-use Rattle.calm_laws.proofs.Asking.{Holds, each_then}
+use Rattle.calm_laws.proofs.Asking.{Holds, each_then, each_so}
 use Rattle.calm_laws.proofs.Counts.{Carries, counted_of}
 use Rattle.calm_laws.proofs.Decided.{order_decides, recover_decides}
 use Rattle.calm_laws.proofs.Descending.{are_taking, IsSet, Lore, after_replies, down_phase, having, read_back_goes, told_fits, Ground, IsAbove}
@@ -12,7 +12,7 @@ use Rattle.calm_laws.proofs.Ordering.{TameWith, looking, order_fits, orders_ask,
 use Rattle.calm_laws.proofs.PhaseRuns.{Cast, IsAfter, next_open}
 use Rattle.calm_laws.proofs.Rounds.{order_whole, reads_whole}
 use Rattle.calm_laws.proofs.Scenes.{Closes, Each, Part, Scene, Seated, Stage, made, sent, IsInView, view_ahead}
-use Rattle.calm_laws.proofs.StorePhases.{each_so, store_phase}
+use Rattle.calm_laws.proofs.StorePhases.{store_phase}
 use Rattle.fab_base.specs.Stamps.{first_stamp, stamp_below, stamp_same}
 use Rattle.fab_base.specs.declared.stamps.Stamp.{Stamp}
 use Rattle.messages.specs.declared.replies.Reply.TheVariants.{Later, Ordered}
@@ -29,7 +29,7 @@ use Rattle.protocol.specs.declared.phases.Phase.TheVariants.{Descends, Orders, R
 pub after_in_phase : (c : Coordinator) → (counted : List Counted) (phase : Phase) → looks_back phase ≡ false
     → IsAfter c (in_phase (having c counted) phase)
 after_in_phase c counted phase ahead = record {
-  same = record { group = refl; prior = refl; boot = refl; seq = refl; of_group = refl; view = refl; stripe = refl };
+  same = record { group = refl; prior = refl; only = refl; boot = refl; seq = refl; of_group = refl; view = refl; stripe = refl };
   ahead = ahead;
   own = view_ahead c.stamp phase ahead;
   later = refl;
@@ -84,7 +84,7 @@ module _ (stage : Stage) (cast : Cast stage) (logs : ℕ → List Version) (lore
       → Holds (TameWith stage s.c.stamp logs) parts cast.xs
       → Carries stage (after_replies stage s known parts others before) (write_goes (map (counted_of (λ x. Ordered)) cast.xs))
   write_accepted in_view early others before parts known tame = (
-    record { group = refl; prior = refl; boot = refl; seq = refl; of_group = refl; view = refl; stripe = refl },
+    record { group = refl; prior = refl; only = refl; boot = refl; seq = refl; of_group = refl; view = refl; stripe = refl },
     store_phase stage cast
         (made stage (after_replies stage s known parts others before) (in_phase (having s.c (map (counted_of (λ x. Ordered)) cast.xs)) Stores))
         (next_open stage cast s.c (in_phase (having s.c (map (counted_of (λ x. Ordered)) cast.xs)) Stores) others before

@@ -1,15 +1,15 @@
 -- A phase alone: what is left of earlier phases is left out, each member is asked, and the first quorum of them decides.
-use Rattle.fab_base.specs.Layouts.{seat_in}
+use Rattle.fab_base.specs.Layouts.{seat_in, Group}
 use Rattle.std.proofs.Common.{None, List, [], ap, ap₂, arith, false, length, map, refl, subst, sym, true, zero-add, ℕ, ◌++◌, ◌+◌, ◌<◌, ◌∙◌, ◌∷◌, ◌≡◌, ◌≤◌, Some}
 use Rattle.std.specs.Prelude.{◌-◌, ◌^◌}
-use Rattle.calm_laws.proofs.Asking.{Gives, Holds, IsReply, Keeps, Replies, all_given, asks_pass, each_then, holds_on, reacted_all, reaction_teaches, told_all, told_exactly, told_replies}
+use Rattle.calm_laws.proofs.Asking.{Gives, Holds, IsReply, Keeps, Replies, all_given, asks_pass, each_then, holds_on, reacted_all, reaction_teaches, told_all, told_exactly, told_replies, each_so}
 use Rattle.calm_laws.proofs.Counts.{AreNew, Carries, counted_of, decides, new_from, replies_pass, told}
 use Rattle.calm_laws.proofs.Hearing.{IsStale, known_through, stale_pass}
 use Rattle.calm_laws.proofs.Queues.{waiting}
-use Rattle.calm_laws.proofs.Scenes.{Closes, Each, Fits, IsSeated, Part, SameCall, Scene, Seated, Stage, asking, heard, sends, AreApart, IsInView, asks_own, IsOf, of_same}
+use Rattle.calm_laws.proofs.Scenes.{Closes, Each, Fits, IsSeated, Part, SameCall, Scene, Seated, Stage, asking, heard, sends, AreApart, IsInView, asks_own, IsOf, of_same, all_needed, all_count}
 use Rattle.messages.specs.declared.packets.Packet.{Packet}
 use Rattle.messages.specs.declared.replies.Reply.{Reply}
-use Rattle.protocol.specs.Coordinators.{Coordinator, answers_phase, has_seat, looks_back}
+use Rattle.protocol.specs.Coordinators.{Coordinator, answers_phase, has_seat, looks_back, may_count}
 use Rattle.protocol.specs.Views.{view_told}
 use Rattle.protocol.specs.declared.phases.Counted.{Counted}
 use Rattle.quorum.specs.Quorums.{quorum_of}
@@ -68,10 +68,12 @@ module _ (stage : Stage) (s : Scene) (Inv After : ℕ → Part → Type 0) (f : 
   replies_wait =
       replies_pass stage stage.group f xs
       (record s { known = known_through stale s.known; parts = all_parts; queue = told stage s.c.call f xs ++ told_all stage s.c others asked_parts })
-      (told_all stage s.c others asked_parts) refl begins.early (asks_own stage s.c begins.in_view)
+      (told_all stage s.c others asked_parts) refl begins.early
+      (each_so (λ (x : Seated). may_count s.c x.brick.0 ≡ true) (λ x. all_count s.c begins.in_view.of.only x.brick.0) xs) (asks_own stage s.c begins.in_view)
       (each_then (IsSeated stage) (λ (x : Seated). seat_in stage.group.members x.brick.0 ≡ Some x.seat) xs (λ x seated. seated.0) begins.seated) begins.answers plain
       (subst (λ (l : List Counted). AreNew f l xs) (sym begins.counted) (new_from f [] xs begins.apart (none_new xs)))
-      begins.some (ap (λ (l : List Counted). length l + length xs) begins.counted ∙ zero-add (length xs) ∙ begins.quorum)
+      begins.some (ap (λ (l : List Counted). length l + length xs) begins.counted ∙ zero-add (length xs) ∙ begins.quorum
+      ∙ ap (λ (g : Group). quorum_of g) (sym (asks_own stage s.c begins.in_view)) ∙ sym (all_needed s.c begins.in_view.of.only))
       (subst (λ (l : List Counted). Carries stage
       (record s { known = known_then stage s f xs stale; parts = all_parts; queue = told_all stage s.c others asked_parts })
       (decides stage s.c (known_then stage s f xs stale) (l ++ map (counted_of f) xs))) (sym begins.counted)

@@ -72,6 +72,7 @@ same_then : (c d e : Coordinator) → SameCall c d → SameCall d e → SameCall
 same_then c d e first second = record {
   group = second.group ∙ first.group;
   prior = second.prior ∙ first.prior;
+  only = second.only ∙ first.only;
   boot = second.boot ∙ first.boot;
   seq = second.seq ∙ first.seq;
   of_group = second.of_group ∙ first.of_group;
@@ -420,7 +421,7 @@ asked_move stage n w s x rest number shows seated in_view = record {
     own = reply_own stage w n x.brick s.c.call change.reply shows.number;
   };
   queue = ap (λ (l : List Packet). rest ++ l) (sym (reply_goes stage x.brick s.c.call change.reply seated.1));
-  same = record { group = refl; prior = refl; boot = refl; seq = refl; of_group = refl; view = refl; stripe = refl };
+  same = record { group = refl; prior = refl; only = refl; boot = refl; seq = refl; of_group = refl; view = refl; stripe = refl };
 }
   where
     change : Reaction
@@ -492,5 +493,5 @@ back_move stage n w s x rest reply number shows one = record {
     own = reply_own stage w n x.brick s.c.call (Some reply) shows.number;
   };
   queue = ap (λ (l : List Packet). rest ++ l) (sym (reply_goes stage x.brick s.c.call (Some reply) one));
-  same = record { group = refl; prior = refl; boot = refl; seq = refl; of_group = refl; view = refl; stripe = refl };
+  same = record { group = refl; prior = refl; only = refl; boot = refl; seq = refl; of_group = refl; view = refl; stripe = refl };
 }

@@ -17,7 +17,7 @@ use Rattle.messages.specs.declared.replies.Reply.{Reply}
 use Rattle.messages.specs.declared.requests.Request.{Request}
 use Rattle.messages.specs.declared.requests.Version.{Version}
 use Rattle.protocol.specs.Calms.{goes_among, is_one_of}
-use Rattle.protocol.specs.Coordinators.{Coordinator, Ends, Ignores, Makes, Next, Sends, Waits, on_reply, request_of, asked_group, asked_view, looks_back}
+use Rattle.protocol.specs.Coordinators.{Coordinator, Ends, Ignores, Makes, Next, Sends, Waits, on_reply, request_of, asked_group, asked_view, looks_back, needed_of, needed, may_count_in, may_count}
 use Rattle.protocol.specs.Views.{view_told, kept_by}
 use Rattle.protocol.specs.Nodes.{fits, fresh_stamp, full_at, known_after, phase_packets, put, reply_packets, first_phase}
 use Rattle.protocol.specs.Replicas.{Reaction, Replica, handle, newest_of, under}
@@ -25,6 +25,7 @@ use Rattle.protocol.specs.Settings.{Setting}
 use Rattle.protocol.specs.declared.phases.Phase.{Phase}
 use Rattle.protocol.specs.Worlds.{is_answer}
 use Rattle.protocol_laws.proofs.Outcomes.{IsLook}
+use Rattle.quorum.specs.Quorums.{quorum_of}
 
 -- a member at its seat
 pub record Seated : Type 0 where
@@ -148,16 +149,18 @@ first_ahead (WriteStripe bytes) = refl
 pub record SameCall (c d : Coordinator) : Type 0 where
   pub group : d.group ≡ c.group
   pub prior : d.prior ≡ c.prior
+  pub only : d.only ≡ c.only
   pub boot : d.call.boot ≡ c.call.boot
   pub seq : d.call.seq ≡ c.call.seq
   pub of_group : d.call.group ≡ c.call.group
   pub view : d.stamp.view ≡ c.stamp.view
   pub stripe : d.call.stripe ≡ c.call.stripe
 
--- A coordinator is of the stage's operation.
+-- A coordinator is of the stage's operation, in which every member counts.
 pub record IsOf (stage : Stage) (c : Coordinator) : Type 0 where
   pub group : c.group ≡ stage.group
   pub prior : kept_by c.prior c.group ≡ stage.prior
+  pub only : c.only ≡ None
   pub boot : c.call.boot ≡ stage.call.boot
   pub seq : c.call.seq ≡ stage.call.seq
   pub of_group : c.call.group ≡ stage.call.group
@@ -169,12 +172,21 @@ pub of_same : (stage : Stage) (c d : Coordinator) → SameCall c d → IsOf stag
 of_same stage c d same is = record {
   group = same.group ∙ is.group;
   prior = ap (λ (members : List BrickId). kept_by members d.group) same.prior ∙ ap (λ (g : Group). kept_by c.prior g) same.group ∙ is.prior;
+  only = same.only ∙ is.only;
   boot = same.boot ∙ is.boot;
   seq = same.seq ∙ is.seq;
   of_group = same.of_group ∙ is.of_group;
   view = same.view ∙ is.view;
   stripe = same.stripe ∙ is.stripe;
 }
+
+-- its phases need a quorum of those who are asked
+pub all_needed : (c : Coordinator) → c.only ≡ None → needed c ≡ quorum_of (asked_group c)
+all_needed c all = ap (λ (o : Option (List BrickId)). needed_of (asked_group c) c.phase o) all
+
+-- and each of these may count
+pub all_count : (c : Coordinator) → c.only ≡ None → (brick : ℕ) → may_count c brick ≡ true
+all_count c all brick = ap (λ (o : Option (List BrickId)). may_count_in c.phase o brick) all
 
 -- A coordinator is in a phase that asks the members of its operation's view: its call is of the view of its stamp.
 pub record IsInView (stage : Stage) (c : Coordinator) : Type 0 where

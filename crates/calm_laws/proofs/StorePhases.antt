@@ -3,7 +3,7 @@ use Rattle.std.proofs.Common.{Bool, List, None, Option, Some, [], ap, arith, con
 use Rattle.std.proofs.lemmas.Bool.{eq-eqb}
 use Rattle.std.proofs.lemmas.Bool.Decides.{nat_tests}
 use Rattle.std.specs.Prelude.{nat_eq, nat_lt, ◌-◌, ◌^◌}
-use Rattle.calm_laws.proofs.Asking.{each_then}
+use Rattle.calm_laws.proofs.Asking.{each_then, each_so}
 use Rattle.calm_laws.proofs.Counts.{counted_of}
 use Rattle.calm_laws.proofs.Decided.{asked_in_phase, in_this, modify_decides, none_stops, none_refuses, store_decides}
 use Rattle.calm_laws.proofs.PhaseRuns.{Cast, IsOpen}
@@ -37,11 +37,6 @@ none_behind (x ∷ xs) = none_behind xs
 answers_well : (bytes : Option (List ℕ)) → is_answer (answer_with bytes) ≡ true
 answers_well None = refl
 answers_well (Some bytes) = refl
-
--- a test that passes at each member
-pub each_so : {A : Type 0} (P : A → Type 0) → ((x : A) → P x) → (xs : List A) → Each P xs
-each_so P all [] = tt
-each_so P all (x ∷ xs) = (all x, each_so P all xs)
 
 -- what is asked fits, by the phase's name
 pub fits_in_phase : (stage : Stage) (c : Coordinator) (phase : Phase) (x : Seated) → c.phase ≡ phase → Fits stage (in_this c phase) x → Fits stage c x

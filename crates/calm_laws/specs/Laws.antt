@@ -37,16 +37,17 @@ EncodesBlocks setting = (m : ℕ) (content : List ℕ) (seat : ℕ) → length (
 abbrev pub most_records : ℕ
 most_records = 2 ^ 20
 
--- An operation has marks, or its stripe is one of its group's: a synchronisation of a group without stripes reads one that there is not, and nobody answers it.
-abbrev pub HasStripe : Setting → Operation → Type 0
-HasStripe setting o = (is_marked o ≡ true) ⊎ (is_stripe (group_of setting.layout o.ask.group.0) o.ask.stripe.0 ≡ true)
+-- An operation has marks; or it counts every member, and its stripe is one of its group's: a synchronisation of a group without stripes reads one that there is
+-- not, and nobody answers it.
+abbrev pub HasStripe : Setting → Operation → Coordinator → Type 0
+HasStripe setting o c = (is_marked o ≡ true) ⊎ ((is_stripe (group_of setting.layout o.ask.group.0) o.ask.stripe.0 ≡ true) × (c.only ≡ None))
 
 -- After every schedule: an operation whose messages among these bricks alone are delivered is answered, where it is calm.
 abbrev pub CalmOperationsEnd : Type 0
 CalmOperationsEnd =
     (setting : Setting) (events : List Event) (n : ℕ) (bricks : List BrickId) → IsSound setting → EncodesBlocks setting
     → setting.layout.records ≤ most_records → (calm : IsCalm setting (run setting events (first_world setting.layout)) n bricks)
-    → HasStripe setting calm.operation → EndsAlone setting (run setting events (first_world setting.layout)) n bricks
+    → HasStripe setting calm.operation calm.coordinator → EndsAlone setting (run setting events (first_world setting.layout)) n bricks
 
 -- the packet of this number is a Collect of version t, which brick me sent to this brick under the call of this coordinator, in some phase
 pub record IsCollect (w : World) (me : BrickId) (c : Coordinator) (t : Stamp) (brick : BrickId) (number : ℕ) : Type 0 where
@@ -94,5 +95,5 @@ abbrev pub CollectsLeaveOne : Type 0
 CollectsLeaveOne =
     (setting : Setting) (events : List Event) (n : ℕ) (bricks : List BrickId) → IsSound setting → EncodesBlocks setting
     → setting.layout.records ≤ most_records → (calm : IsCalm setting (run setting events (first_world setting.layout)) n bricks)
-    → HasStripe setting calm.operation → (alone : List Event) (last : World) → RunsAlone setting n bricks (run setting events (first_world setting.layout)) alone last
+    → HasStripe setting calm.operation calm.coordinator → (alone : List Event) (last : World) → RunsAlone setting n bricks (run setting events (first_world setting.layout)) alone last
     → LeavesItsOwn setting (run setting events (first_world setting.layout)) n bricks calm last
