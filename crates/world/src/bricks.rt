@@ -306,7 +306,7 @@ pub fn ask_to_scrub(
     members: &[BrickId],
 ) -> Result<Outs, NodeFault>
     requires { IsUp bricks.old.items number }
-    ensures scrubs { ChangesBrick bricks.old.items bricks.new.items number (RunsOn (DoesScrub group stripe members.now result)) }
+    ensures asks { ChangesBrick bricks.old.items bricks.new.items number (RunsOn (DoesScrub group stripe members.now result)) }
     ensures few { IfOk result (λ outs. length outs.messages ≤ most_sent) }
     ensures reads { IfOk result (λ outs. reads_begun outs.told ≤ 1) }
     ensures not_halted { result ≢ Err NodeFault.Halted }
