@@ -131,18 +131,6 @@ run_reports setting w events =
     run_each (λ (x : World). length w.choices.reports ≤ length x.choices.reports) (λ x. Unit {0}) setting
     (λ x known. report_cases setting (length w.choices.reports) x) events w (λ more. tt) (omega arith)
 
--- so a run with a line more has no fewer
-pub marks_grow : (old new : Run) (line : Line) (outcome : Outcome) → RunsTo old new line outcome → length (world_of old).marks ≤ length (world_of new).marks
-marks_grow old new line outcome ran =
-    subst (λ (v : World). length (world_of old).marks ≤ length v.marks)
-    (sym (ap world_of ran.runs.run ∙ world_of-with_step old ran.step new.disks)) (run_grows (coding old.layout) (world_of old) ran.step.events)
-
-pub reports_grow : (old new : Run) (line : Line) (outcome : Outcome) → RunsTo old new line outcome
-    → length (world_of old).choices.reports ≤ length (world_of new).choices.reports
-reports_grow old new line outcome ran =
-    subst (λ (v : World). length (world_of old).choices.reports ≤ length v.choices.reports)
-    (sym (ap world_of ran.runs.run ∙ world_of-with_step old ran.step new.disks)) (run_reports (coding old.layout) (world_of old) ran.step.events)
-
 -- what a world's books say of its open calls
 pub numbered_from_books : (setting : Setting) (w : World) → Books setting w → IsNumbered w
 numbered_from_books setting w books i k c is =
@@ -260,6 +248,15 @@ module _ (layout : Layout) (old new : Simulation) (trail : Trail) (line : Line) 
         prints = ap (λ (v : World). outcome_text outcome (new_marks (world_of before) v) (new_reports (world_of before) v)) (world_after events goes)
             ∙ came.prints;
       })
+
+  -- marks and reports are only added
+  pub all_grow : (outcome : Outcome) → GoesOn layout old new line outcome
+      → (length (world_of was).marks ≤ length (world_of after).marks) × (length (world_of was).choices.reports ≤ length (world_of after).choices.reports)
+  all_grow outcome (events, comes, goes) =
+      subst (λ (r : Run). (length (world_of r).marks ≤ length (world_of after).marks)
+      × (length (world_of r).choices.reports ≤ length (world_of after).choices.reports)) view
+      (subst (λ (v : World). (length (world_of before).marks ≤ length v.marks) × (length (world_of before).choices.reports ≤ length v.choices.reports))
+      (sym (world_after events goes)) (run_grows (coding layout) (world_of before) events, run_reports (coding layout) (world_of before) events))
 
   -- or no memory was left for the rest of it
   pub leaves_part : StopsShort layout old new line → LeavesSome was after line

@@ -112,18 +112,16 @@ fn op_of(alloc: Global, access: &Access) -> Result<Op, NoMem>
 }
 
 impl Simulation {
-    ghost use Rattle.std.specs.Prelude.{◌≡◌, [], None, map, IfOk, OnOk, OnErr};
-    ghost use Rattle.protocol.specs.Worlds.{first_world};
+    ghost use Rattle.std.specs.Prelude.{None, map, IfOk, OnOk, OnErr};
     ghost use Rattle.protocol.specs.Worlds.Event.{Invokes, Proposes, Syncs, Scrubs, Sets, Ticks, Stops};
     ghost use Rattle.lines.specs.declared.forms.Line.TheVariants.{Deliver, Start, Calm};
     ghost use Rattle.world.specs.Runs.{brick_of, ask_of, group_no, stripe_no, member_no, op_of};
     ghost use Rattle.world.specs.Disks.{AreFreshDisks};
-    ghost use Rattle.world.specs.Shown.{FindsUp, Shows, Stands, IsUp, IsOther, MayRun, RunsAloneTo, BeginsAloneTo, GoesOn, DeliversAlone, StopsShort, RunsLine, RefusesLine, TakesEvent, StaysAs, disks_of};
+    ghost use Rattle.world.specs.Shown.{FindsUp, IsFirst, Stands, IsUp, IsOther, MayRun, RunsAloneTo, BeginsAloneTo, GoesOn, DeliversAlone, StopsShort, RunsLine, RefusesLine, TakesEvent, StaysAs, disks_of};
 
     /// All bricks up, their stores fresh, their clocks at 0, and nothing sent.
     pub fn new(alloc: Global, layout: &Layout) -> Result<Simulation, NoMem>
-        ensures shows { IfOk result (λ state. Shows layout.now state (first_world layout.now)) }
-        ensures first { IfOk result (λ state. state.trail.course ≡ record { steps = []; events = [] }) }
+        ensures first { IfOk result (IsFirst layout.now) }
         ensures listed { IfOk result (λ state. AreFreshDisks layout.now (disks_of state.bricks.items)) }
     {
         Ok(Simulation {
