@@ -1,6 +1,6 @@
 -- What stands behind a line's first word, where there are so many words of it.
 use Rattle.std.proofs.Common.{◌≡◌, ◌≢◌, ◌-◌, ◌<◌, ◌≤◌, ℕ, List, [], ◌∷◌, length, map, take, drop, take_all, get_or, Bor, Some, None, refl, arith}
-use Rattle.lines.specs.Grammar.{write_block, read_block, write_all, read_all, fault, deliver, start, clock, one_brick, calm, propose, sync}
+use Rattle.lines.specs.Grammar.{write_block, read_block, write_all, read_all, fault, deliver, start, clock, one_brick, calm, propose, sync, scrub}
 
 -- the words that stand in a slice
 abbrev pub words : List (Bor (List ℕ)) → List (List ℕ)
@@ -71,6 +71,13 @@ propose_none [] none = refl
 propose_none (b ∷ []) none = refl
 propose_none (b ∷ g ∷ behind) none = absurd (omega arith)
 
+pub scrub_none : (found : List (Bor (List ℕ))) → length found < 3 → None ≡ scrub (words found)
+unfolding scrub
+scrub_none [] none = refl
+scrub_none (b ∷ []) none = refl
+scrub_none (b ∷ g ∷ []) none = refl
+scrub_none (b ∷ g ∷ s ∷ behind) none = absurd (omega arith)
+
 -- the first word, and those behind it
 pub first_and_rest : (found : List (Bor (List ℕ))) → 1 ≤ length found
     → words found ≡ word_at found 0 ∷ words (take (length found - 1) (drop 1 found))
@@ -86,6 +93,16 @@ two_and_rest [] some = absurd (omega arith)
 two_and_rest (word ∷ []) some = absurd (omega arith)
 two_and_rest (word ∷ second ∷ rest) some =
     let behind : take (length (word ∷ second ∷ rest) - 2) rest ≡ rest = take_all _ _ (omega arith) in
+    rw behind refl
+
+-- the first three words, and those behind them
+pub three_and_rest : (found : List (Bor (List ℕ))) → 3 ≤ length found
+    → words found ≡ word_at found 0 ∷ word_at found 1 ∷ word_at found 2 ∷ words (take (length found - 3) (drop 3 found))
+three_and_rest [] some = absurd (omega arith)
+three_and_rest (word ∷ []) some = absurd (omega arith)
+three_and_rest (word ∷ second ∷ []) some = absurd (omega arith)
+three_and_rest (word ∷ second ∷ third ∷ rest) some =
+    let behind : take (length (word ∷ second ∷ third ∷ rest) - 3) rest ≡ rest = take_all _ _ (omega arith) in
     rw behind refl
 
 -- no word befalls nothing, and any count but 0, 2 and 4 is none

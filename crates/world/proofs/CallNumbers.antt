@@ -11,7 +11,7 @@ use Rattle.fab_base.specs.Layouts.{Layout}
 use Rattle.stripe_code.specs.Codes.{coding}
 use Rattle.protocol.specs.Settings.{Setting}
 use Rattle.protocol.specs.Coordinators.{Coordinator}
-use Rattle.protocol.specs.Nodes.{NodeStep, put, invoked, proposed, synced_at}
+use Rattle.protocol.specs.Nodes.{NodeStep, put, invoked, proposed, synced_at, scrubbed_at}
 use Rattle.protocol.specs.Worlds.{World, Operation, Event, first_world, is_brick, is_up, number_of, read_of_call, with_made, with_seen, with_closed, with_answer, world_began, world_stepped, run}
 use Rattle.protocol_laws.proofs.Books.{Books}
 use Rattle.world.proofs.Places.{value_here, value_elsewhere}
@@ -122,6 +122,8 @@ numbers_cases setting w says = record {
   begins = λ brick ask may. numbers_began w brick ask (invoked setting brick (w.clocks brick.0) (w.nodes brick.0) ask) says;
   proposes = λ brick group members may. numbers_stepped setting w brick (proposed setting brick (w.nodes brick.0) group members) says;
   syncs = λ brick group may. numbers_stepped setting w brick (synced_at setting brick (w.clocks brick.0) (w.nodes brick.0) group) says;
+  scrubs = λ brick group stripe members may.
+      numbers_stepped setting w brick (scrubbed_at setting brick (w.clocks brick.0) (w.nodes brick.0) group stripe members) says;
   handles = λ number packet at up. numbers_stepped setting (world_counting setting w number packet) packet.to (step_on setting w packet) says;
   sets = λ brick time is. says;
   ticks = λ brick up. says;
@@ -208,6 +210,9 @@ bricks_cases setting w are = record {
       bricks_stepped setting w brick (proposed setting brick (w.nodes brick.0) group members) (is_there setting.layout w brick _ may) are;
   syncs = λ brick group may.
       bricks_stepped setting w brick (synced_at setting brick (w.clocks brick.0) (w.nodes brick.0) group) (is_there setting.layout w brick _ may) are;
+  scrubs = λ brick group stripe members may.
+      bricks_stepped setting w brick (scrubbed_at setting brick (w.clocks brick.0) (w.nodes brick.0) group stripe members)
+      (is_there setting.layout w brick _ may) are;
   handles = λ number packet at up.
       bricks_stepped setting (world_counting setting w number packet) packet.to (step_on setting w packet)
       (and_parts (is_brick setting.layout packet.to) (w.up packet.to.0) up).0 are;

@@ -12,7 +12,7 @@ use Rattle.lines.specs.declared.forms.Line.{Line}
 use Rattle.lines.specs.declared.forms.Fault.{Fault}
 use Rattle.stripe_code.specs.Codes.{coding}
 use Rattle.fab_base.specs.Layouts.{Layout}
-use Rattle.protocol.specs.Nodes.{Node, NodeStep, proposed, synced_at}
+use Rattle.protocol.specs.Nodes.{Node, NodeStep, proposed, synced_at, scrubbed_at}
 use Rattle.protocol.specs.Settings.{Setting}
 use Rattle.protocol.specs.declared.tellings.Report.{Report}
 use Rattle.protocol.specs.Worlds.{World, Event, Stops, Starts, Before, first_world, number_of, reports_of, world_stepped, run}
@@ -90,6 +90,8 @@ grow_cases : (setting : Setting) (least : ℕ) (w : World) → HasAtLeast least 
 grow_cases setting least w few = record {
   proposes = λ brick group members may. grow_stepped setting least w brick (proposed setting brick (w.nodes brick.0) group members) few;
   syncs = λ brick group may. grow_stepped setting least w brick (synced_at setting brick (w.clocks brick.0) (w.nodes brick.0) group) few;
+  scrubs = λ brick group stripe members may.
+      grow_stepped setting least w brick (scrubbed_at setting brick (w.clocks brick.0) (w.nodes brick.0) group stripe members) few;
   begins = λ brick ask may. grown_by w.marks (mark.Begin (length w.marks) (w.marked + 1) brick ask) least few;
   handles = λ number packet at up. grow_stepped setting least (world_counting setting w number packet) packet.to (step_on setting w packet) few;
   sets = λ brick time is. few;
@@ -113,6 +115,9 @@ report_cases setting least w few = record {
       reports_grown w.choices.reports (reports_of brick (proposed setting brick (w.nodes brick.0) group members).reports) least few;
   syncs = λ brick group may.
       reports_grown w.choices.reports (reports_of brick (synced_at setting brick (w.clocks brick.0) (w.nodes brick.0) group).reports) least few;
+  scrubs = λ brick group stripe members may.
+      reports_grown w.choices.reports
+      (reports_of brick (scrubbed_at setting brick (w.clocks brick.0) (w.nodes brick.0) group stripe members).reports) least few;
   handles = λ number packet at up. reports_grown w.choices.reports (reports_of packet.to (step_on setting w packet).reports) least few;
   sets = λ brick time is. few;
   ticks = λ brick up. few;
@@ -125,18 +130,6 @@ run_reports : (setting : Setting) (w : World) (events : List Event) → length w
 run_reports setting w events =
     run_each (λ (x : World). length w.choices.reports ≤ length x.choices.reports) (λ x. Unit {0}) setting
     (λ x known. report_cases setting (length w.choices.reports) x) events w (λ more. tt) (omega arith)
-
--- so a run with a line more has no fewer
-pub marks_grow : (old new : Run) (line : Line) (outcome : Outcome) → RunsTo old new line outcome → length (world_of old).marks ≤ length (world_of new).marks
-marks_grow old new line outcome ran =
-    subst (λ (v : World). length (world_of old).marks ≤ length v.marks)
-    (sym (ap world_of ran.runs.run ∙ world_of-with_step old ran.step new.disks)) (run_grows (coding old.layout) (world_of old) ran.step.events)
-
-pub reports_grow : (old new : Run) (line : Line) (outcome : Outcome) → RunsTo old new line outcome
-    → length (world_of old).choices.reports ≤ length (world_of new).choices.reports
-reports_grow old new line outcome ran =
-    subst (λ (v : World). length (world_of old).choices.reports ≤ length v.choices.reports)
-    (sym (ap world_of ran.runs.run ∙ world_of-with_step old ran.step new.disks)) (run_reports (coding old.layout) (world_of old) ran.step.events)
 
 -- what a world's books say of its open calls
 pub numbered_from_books : (setting : Setting) (w : World) → Books setting w → IsNumbered w
@@ -255,6 +248,15 @@ module _ (layout : Layout) (old new : Simulation) (trail : Trail) (line : Line) 
         prints = ap (λ (v : World). outcome_text outcome (new_marks (world_of before) v) (new_reports (world_of before) v)) (world_after events goes)
             ∙ came.prints;
       })
+
+  -- marks and reports are only added
+  pub all_grow : (outcome : Outcome) → GoesOn layout old new line outcome
+      → (length (world_of was).marks ≤ length (world_of after).marks) × (length (world_of was).choices.reports ≤ length (world_of after).choices.reports)
+  all_grow outcome (events, comes, goes) =
+      subst (λ (r : Run). (length (world_of r).marks ≤ length (world_of after).marks)
+      × (length (world_of r).choices.reports ≤ length (world_of after).choices.reports)) view
+      (subst (λ (v : World). (length (world_of before).marks ≤ length v.marks) × (length (world_of before).choices.reports ≤ length v.choices.reports))
+      (sym (world_after events goes)) (run_grows (coding layout) (world_of before) events, run_reports (coding layout) (world_of before) events))
 
   -- or no memory was left for the rest of it
   pub leaves_part : StopsShort layout old new line → LeavesSome was after line

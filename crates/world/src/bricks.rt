@@ -12,10 +12,10 @@ ghost use Rattle.node.specs.Running.{shape_at, state_of};
 ghost use Rattle.world.specs.Faults.{LeftBy, plan_of};
 ghost use Rattle.world.specs.Disks.{ShowsDisk, AreFreshDisks};
 ghost use Rattle.world.specs.Shown.{Rests, Runs, IsFreshBrick, ShowsBricks, Takes, TurnsOn, FindsUp, IsUp, AreBricksOf, AreNodesOf, most_sent, reads_begun, disk_in, disks_of, running_at, unopened};
-ghost use Rattle.world.specs.BrickSteps.{ChangesBrick, RunsOn, DoesBegin, DoesPropose, DoesSync, DoesHandle, DoesStart, Stops};
+ghost use Rattle.world.specs.BrickSteps.{ChangesBrick, RunsOn, DoesBegin, DoesPropose, DoesSync, DoesScrub, DoesHandle, DoesStart, Stops};
 
 use brick_store::OpenFault;
-use fab_base::{Ask, BrickId, GroupId, IoFault, NoMem};
+use fab_base::{Ask, BrickId, GroupId, IoFault, NoMem, StripeNo};
 use fab_disk::{Armed, MemDisk, Plan};
 use layout::Layout;
 use lines::Fault;
@@ -306,12 +306,9 @@ pub fn ask_to_scrub(
     members: &[BrickId],
 ) -> Result<Outs, NodeFault>
     requires { IsUp bricks.old.items number }
-    ensures refused { RefusesScrub bricks.old.items number group stripe members.now result }
-    ensures scrubs { IfOk result (ScrubsBrick bricks.old.items bricks.new.items number group stripe members.now) }
+    ensures asks { ChangesBrick bricks.old.items bricks.new.items number (RunsOn (DoesScrub group stripe members.now result)) }
     ensures few { IfOk result (λ outs. length outs.messages ≤ most_sent) }
     ensures reads { IfOk result (λ outs. reads_begun outs.told ≤ 1) }
-    ensures err { OnErr result ((layout : _) → BricksStay layout bricks.old.items bricks.new.items) }
-    ensures disks { disks_of bricks.new.items ≡ disks_of bricks.old.items }
     ensures not_halted { result ≢ Err NodeFault.Halted }
     ensures not_disk { result ≢ Err NodeFault.Disk }
 {

@@ -6,8 +6,8 @@ ghost use Rattle.protocol.specs.Nodes.{refusal_of, proposal_refusal, sync_refusa
 ghost use Rattle.world.specs.Runs.{ask_of, block_no, group_no, stripe_no, member_no, op_of};
 
 use crate::bricks::{
-    Brick, ask_brick, ask_to_propose, ask_to_sync, boot_of, find_up, fresh_bricks, hand_over,
-    start_brick, stop_brick, tick_brick,
+    Brick, ask_brick, ask_to_propose, ask_to_scrub, ask_to_sync, boot_of, find_up, fresh_bricks,
+    hand_over, start_brick, stop_brick, tick_brick,
 };
 use crate::histories::{History, packet_at};
 use crate::trails::{Shelf, Trail};
@@ -112,18 +112,16 @@ fn op_of(alloc: Global, access: &Access) -> Result<Op, NoMem>
 }
 
 impl Simulation {
-    ghost use Rattle.std.specs.Prelude.{◌≡◌, [], None, map, IfOk, OnOk, OnErr};
-    ghost use Rattle.protocol.specs.Worlds.{first_world};
+    ghost use Rattle.std.specs.Prelude.{None, map, IfOk, OnOk, OnErr};
     ghost use Rattle.protocol.specs.Worlds.Event.{Invokes, Proposes, Syncs, Scrubs, Sets, Ticks, Stops};
     ghost use Rattle.lines.specs.declared.forms.Line.TheVariants.{Deliver, Start, Calm};
     ghost use Rattle.world.specs.Runs.{brick_of, ask_of, group_no, stripe_no, member_no, op_of};
     ghost use Rattle.world.specs.Disks.{AreFreshDisks};
-    ghost use Rattle.world.specs.Shown.{FindsUp, Shows, Stands, IsUp, IsOther, MayRun, RunsAloneTo, BeginsAloneTo, GoesOn, DeliversAlone, StopsShort, RunsLine, RefusesLine, TakesEvent, StaysAs, disks_of};
+    ghost use Rattle.world.specs.Shown.{FindsUp, IsFirst, Stands, IsUp, IsOther, MayRun, RunsAloneTo, BeginsAloneTo, GoesOn, DeliversAlone, StopsShort, RunsLine, RefusesLine, TakesEvent, StaysAs, disks_of};
 
     /// All bricks up, their stores fresh, their clocks at 0, and nothing sent.
     pub fn new(alloc: Global, layout: &Layout) -> Result<Simulation, NoMem>
-        ensures shows { IfOk result (λ state. Shows layout.now state (first_world layout.now)) }
-        ensures first { IfOk result (λ state. state.trail.course ≡ record { steps = []; events = [] }) }
+        ensures first { IfOk result (IsFirst layout.now) }
         ensures listed { IfOk result (λ state. AreFreshDisks layout.now (disks_of state.bricks.items)) }
     {
         Ok(Simulation {
@@ -366,12 +364,11 @@ impl Simulation {
         stripe: u64,
         members: &[u64],
     ) -> Result<Outcome, NoMem>
-        requires nodes { AreNodesOf layout.now self.old.bricks.items }
-        requires bricks { vec_len self.old.bricks ≡ layout.now.bricks }
+        requires { Stands layout.now self.old }
         ensures ok { IfOk result (TakesEvent layout.now self.old self.new (Scrubs (brick_of brick) (group_no group) (stripe_no stripe) (map member_no members.now))) }
         ensures err { OnErr result (StaysAs layout.now self.old self.new) }
     {
-        let brick = match find_up(&self.bricks, layout, brick) {
+        let brick = match self.find_up(layout, brick) {
             Some(brick) => brick,
             None => return Ok(Outcome::Refused(Refusal::Down)),
         };
@@ -393,7 +390,8 @@ impl Simulation {
         stripe: StripeNo,
         members: &[BrickId],
     ) -> Result<Outcome, NoMem>
-        requires { IsUp self.old.bricks.items brick }
+        requires up { IsUp self.old.bricks.items brick }
+        requires stands { Stands _layout.now self.old }
         ensures ok { IfOk result (TakesEvent _layout.now self.old self.new (Scrubs brick group stripe members.now)) }
         ensures err { OnErr result (StaysAs _layout.now self.old self.new) }
     {

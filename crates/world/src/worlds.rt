@@ -96,7 +96,7 @@ fn print(
 }
 
 impl World {
-    ghost use Rattle.std.specs.Prelude.{◌≡◌, ◌<◌, ◌≤◌, ℕ, [], None, IfOk, IfSome, IfNone, OnOk, OnErr, IsErrOf};
+    ghost use Rattle.std.specs.Prelude.{◌≡◌, ◌<◌, ◌≤◌, ℕ, [], None, IfOk, IfSome, IfNone, OnOk, OnErr, IsErrOf, length};
     ghost use Rattle.std.specs.Option.{option_map};
     ghost use Rattle.replica.specs.Parts.{log_seen};
     ghost use Rattle.lines.specs.Grammar.{line_of};
@@ -171,6 +171,8 @@ impl World {
     /// Runs a line.
     fn run(&mut self, line: &Line) -> Result<Outcome, NoMem>
         ensures ok { IfOk result (λ outcome. RunsTo self.old self.new line.now outcome) }
+        ensures grow { OnOk result ((length (world_of self.old).marks ≤ length (world_of self.new).marks)
+            × (length (world_of self.old).choices.reports ≤ length (world_of self.new).choices.reports)) }
         ensures err { OnErr result (LeavesSome self.old self.new line.now) }
         ensures disks { ShowsDisks self.new }
     {

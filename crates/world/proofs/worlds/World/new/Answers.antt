@@ -11,4 +11,4 @@ returns-clause-disks c =
     disks_shown c.args.layout state state.trail.course.steps
     (subst (λ (course : Course). Shows c.args.layout state
     (world_of (record { layout = c.args.layout; steps = course.steps; disks = disks_of state.bricks.items })))
-    (sym c.in_ok-simulation.ensures.first) c.in_ok-simulation.ensures.shows)
+    (sym c.in_ok-simulation.ensures.first.course) c.in_ok-simulation.ensures.first.shows)

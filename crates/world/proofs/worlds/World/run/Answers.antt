@@ -5,7 +5,7 @@ use Rattle.world.specs.Runs.{Course}
 use Rattle.world.specs.Shown.{Shows}
 use Rattle.world.specs.declared.trails.Trail.{Trail}
 use Rattle.world.proofs.DeliveryLemmas.{calm_stops, other_stays}
-use Rattle.world.proofs.RunLemmas.{at_rest, disks_shown, leaves_none, leaves_part, runs_to, shows_kept, shows_ran, shows_short}
+use Rattle.world.proofs.RunLemmas.{all_grow, at_rest, disks_shown, leaves_none, leaves_part, runs_to, shows_kept, shows_ran, shows_short}
 use Rattle.world.proofs.worlds.World.run.Goals as goal
 
 pub run-requires : goal.run-requires
@@ -30,6 +30,11 @@ pub returns-in-Ok-clause-disks : goal.returns-in-Ok-clause-disks
 returns-in-Ok-clause-disks c =
     (runs_to c.self.inside.layout c.self.inside.simulation c.run.new.self c.ended-self-inside.result c.args.line.now _ c.self.invariant.ended
     c.ended-self-inside.ensures c.self.view_is c.in-Ok.outcome c.in-Ok.ensures.ok).runs.shows
+
+pub returns-in-Ok-clause-grow : goal.returns-in-Ok-clause-grow
+returns-in-Ok-clause-grow c =
+    all_grow c.self.inside.layout c.self.inside.simulation c.run.new.self c.ended-self-inside.result c.args.line.now _ c.self.invariant.ended
+    c.ended-self-inside.ensures c.self.view_is c.in-Ok.outcome c.in-Ok.ensures.ok
 
 -- no memory was left for the rest of what an operation was to do alone
 pub invariant_of-self-in-Calm : goal.invariant_of-self-in-Calm
