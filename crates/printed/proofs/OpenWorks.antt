@@ -19,7 +19,7 @@ use Rattle.protocol.specs.Settings.{Setting}
 use Rattle.protocol.specs.Views.{group_kept, is_later, learns, is_unsynced, notes_synced}
 use Rattle.protocol.specs.Jobs.{Job, JobNext, Reads, Finishes, GivesUp, begun_job, job_ask, job_after, abort_cause, synced_answer, spent_answer}
 use Rattle.protocol.specs.Scrubs.{Scrub}
-use Rattle.protocol.specs.Coordinators.{Coordinator, Next, Ignores, Waits, Sends, Makes, Ends}
+use Rattle.protocol.specs.Coordinators.{Coordinator, Next, Ignores, Waits, Sends, Makes, Ends, counts_at, hearing}
 use Rattle.protocol.specs.Proposals.{Proposal, Voting, Ignored, Waited, Asks, Ended, ballot_packets, voted}
 use Rattle.protocol.specs.declared.tellings.Report.{Report}
 use Rattle.protocol.specs.declared.tellings.Report.TheVariants as report
@@ -267,7 +267,8 @@ module _ (setting : Setting) (me from : BrickId) (now : ℕ) (node : Node) (call
   replied_closes_at None =
       ballot_closes (with_known (with_round node reply) (known_after node.known reply)) node.proposal (record { proposal = refl; job = refl; scrub = refl }) refl
   replied_closes_at (Some c) =
-      carried_for_closes (with_round node reply) (known_after node.known reply) c _ _ (job_reading node.job c.call.seq) (scrub_of node.scrub c.call.seq)
+      carried_for_closes (with_round node reply) (known_after node.known reply) c
+      (hearing c from reply (counts_at setting.layout.block c from.0 call reply)) _ (job_reading node.job c.call.seq) (scrub_of node.scrub c.call.seq)
       (record { proposal = refl; job = refl; scrub = refl }) refl refl
 
   replied_closes : Closes node (replied setting me now from node call reply) 0
