@@ -15,8 +15,6 @@ use Rattle.protocol.specs.declared.tellings.Answered.{Answered}
 use Rattle.protocol.specs.declared.tellings.Report.{Report}
 use Rattle.protocol.specs.declared.tellings.Told.{Told}
 use Rattle.protocol.specs.declared.tellings.Told.TheVariants as told
-use Rattle.protocol.specs.Proposals.{Proposal}
-use Rattle.protocol.specs.Jobs.{Job}
 use Rattle.protocol.specs.Nodes.{Node, NodeStep, put, refusal_of, proposal_refusal, sync_refusal, scrub_refusal, group_at, began, invoked, proposed, synced_at, scrubbed_at, stopped, restarted}
 use Rattle.protocol.specs.Worlds.{World, Event, first_world, Found, Invokes, Proposes, Syncs, Scrubs, Delivers, Sets, Ticks, Stops, Starts, Before, After, number_of, mark_of, is_brick, is_up, may_start, world_began, world_told, world_tells, world_answered, world_answers, reports_of, world_stepped, world_ticked, world_stopped, world_found, world_started, delivered, packet_of, happens, run}
 use Rattle.lines.specs.declared.forms.Line.{Line}
