@@ -4,7 +4,8 @@ ghost use Rattle.std.specs.Prelude.{◌≡◌};
 ghost use Rattle.node.specs.Scrubs.{answer_of, cause_in};
 
 use crate::jobs::closed;
-use crate::operations::{Operation, moved_end};
+use crate::movers::moved_cause;
+use crate::operations::Operation;
 use crate::outs::Outs;
 use crate::teaching::teaching;
 use fab_base::{
@@ -246,8 +247,8 @@ impl OpenScrub {
     pub(crate) fn moved(&self, alloc: Global, from: BrickId, view: ViewNo) -> Option<Outs>
         ensures { MovesScrub self.now from view result }
     {
-        let answer = moved_end(self.shown(), from, view)?;
-        Some(self.end(Vec::new(alloc), None, self.answer(answer)))
+        let cause = moved_cause(self.shown(), from, view)?;
+        Some(self.end(Vec::new(alloc), None, ScrubAnswer::Aborted { cause }))
     }
 
     /// Counts a reply on which it waits for more.
