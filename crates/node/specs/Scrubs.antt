@@ -1,7 +1,6 @@
 -- The scrub of a brick, as the machine sees it.
 use Rattle.std.specs.Prelude.{◌≡◌, ◌≤◌, ℕ, true, false, max, nat_eq, List, [], ◌∷◌, ◌++◌, Option, Some, None}
 use Rattle.std.specs.Option.{option_map}
-use Rattle.fab_base.specs.declared.answers.Answer.{Answer}
 use Rattle.fab_base.specs.declared.answers.Answer.TheVariants as answer
 use Rattle.fab_base.specs.declared.answers.Cause.{Cause}
 use Rattle.fab_base.specs.declared.identities.BrickId.{BrickId}
@@ -23,8 +22,7 @@ use Rattle.protocol.specs.declared.tellings.ScrubAnswer.{ScrubAnswer}
 use Rattle.protocol.specs.declared.tellings.ScrubAnswer.TheVariants.{Clean, Repaired, Aborted}
 use Rattle.protocol.specs.Settings.{Setting}
 use Rattle.protocol.specs.Coordinators.{Coordinator, counts_at, hearing, on_reply}
-use Rattle.protocol.specs.Jobs.{abort_cause}
-use Rattle.protocol.specs.Scrubs.{Scrub, scrub_answer, scrub_ask}
+use Rattle.protocol.specs.Scrubs.{Scrub, scrub_ask}
 use Rattle.protocol.specs.Nodes.{Node, NodeStep, begun_aside, carried_scrub, coordinator_in, put, scrubbing, seen_told, with_known}
 use Rattle.stripe_code.specs.Codes.{block_code, coding}
 use Rattle.coord_phase.specs.Operations as phased
@@ -129,18 +127,14 @@ cause_in Clean = None
 cause_in (Repaired stamp lagging) = None
 cause_in (Aborted cause) = Some cause
 
--- how it ends where its stripe's recovery ends with this answer
-abbrev pub answer_of : OpenScrub → Answer → ScrubAnswer
-answer_of held answer = scrub_answer held.scrub.lagging (abort_cause answer) (Some (scrub_coordinator_of held).stamp)
-
--- what is sent, told and reported as it ends so, with a version that it saw its members keep, if it did
-abbrev pub end_outs : OpenScrub → List (BrickId × Message) → Option Stamp → ScrubAnswer → Outcome
-end_outs held messages seen answer =
+-- what is sent, told and reported as it ends so in the phase of this call, with a version that it saw its members keep, if it did
+abbrev pub end_outs : OpenScrub → Call → List (BrickId × Message) → Option Stamp → ScrubAnswer → Outcome
+end_outs held call messages seen answer =
     record {
       messages = messages;
-      told = seen_told (scrub_seq held) seen ++ (Closed (scrub_seq held) (cause_in answer) ∷ []);
+      told = seen_told call.seq seen ++ (Closed call.seq (cause_in answer) ∷ []);
       answers = [];
-      reports = Report.Scrub (scrub_coordinator_of held).call (members_of held.scrub) answer ∷ [];
+      reports = Report.Scrub call (members_of held.scrub) answer ∷ [];
     }
 
 -- Its recovery has begun, and sends its first phase: it goes on from the look. Its stamp is known from then on.
@@ -188,7 +182,7 @@ pub record StepsScrub (layout : Layout) (before : OpenScrub) (from : BrickId) (t
 abbrev pub MovesScrub : OpenScrub → BrickId → ViewNo → Option Outcome → Type 0
 MovesScrub held from view None = EndsOrWaits (scrub_coordinator_of held) from view None
 MovesScrub held from view (Some outs) =
-    (cause : Cause) × EndsOrWaits (scrub_coordinator_of held) from view (Some (answer.Aborted cause)) × (outs ≡ end_outs held [] None (Aborted cause))
+    (cause : Cause) × EndsOrWaits (scrub_coordinator_of held) from view (Some (answer.Aborted cause)) × (outs ≡ end_outs held (scrub_coordinator_of held).call [] None (Aborted cause))
 
 -- it has counted a message that counts, and waits for more
 pub record HasCountedScrub (from : BrickId) (message : Message) (before after : OpenScrub) : Type 0 where

@@ -11,8 +11,8 @@ use Rattle.node.proofs.operations.Operation.may_end.Goals as goal
 pub returns-then-counts : goal.returns-then-counts
 returns-then-counts c = λ less fresh.
     let op = coordinator_of c.args.self.now in
-    let counted = ap (λ (xs : List Counted). length xs) (c.counted.ensures ∙ ap (λ (o : phased.Operation). o.state.counted) c.shown-then-counts.ensures) in
-    let enough = c.needed.ensures.value ∙ ap (λ (o : phased.Operation). needed o.state) c.shown.ensures in
+    let counted = ap (λ (xs : List Counted). length xs) (c.counted.ensures ∙ ap (λ (o : phased.Operation). o.state.counted) c.shown.ensures) in
+    let enough = c.needed.ensures.value ∙ ap (λ (o : phased.Operation). needed o.state) c.shown-then-counts.ensures in
     let few : length op.counted + 1 < needed op = grind (arith, nat_tests, counted, enough, less) in
     too_few fresh (shown_of c.args.self.now) c.args.from c.args.message.now few
 
