@@ -128,9 +128,10 @@ module _ (layout : Layout) (me : BrickId) (s : Option Scrubbing) where
       ap (λ (n : Node). then_does (record closed { node = n }) (job_goes (coding layout) me now n job next)) (call_beside_scrub node known node.busy c.call.seq None apart)
       ∙ ap (then_does closed) (job_beside_scrub now closed.node job next free)
 
-  -- what it does with a reply to another call
+  -- what it does with a reply to another call; if that is to the read of its synchronisation, the brick's next call is another than the scrub's
   pub replied_beside_scrub : (now : ℕ) (from : BrickId) (node : Node) (call : Call) (reply : Reply) (o : Option Coordinator) → node.scrub ≡ None
-      → ScrubApart s call.seq → ScrubApart s (node.seq + 1) → ((c : Coordinator) → o ≡ Some c → c.call.seq ≡ call.seq)
+      → ScrubApart s call.seq → ((job : Job) → job_reading node.job call.seq ≡ Some job → ScrubApart s (node.seq + 1))
+      → ((c : Coordinator) → o ≡ Some c → c.call.seq ≡ call.seq)
       → replied_at (coding layout) me now from (with_scrubbing s node) call reply o ≡ beside_scrub s (replied_at (coding layout) me now from node call reply o)
   replied_beside_scrub now from node call reply None quiet apart free at =
       heard_so (with_known node (known_after node.known reply)) node.proposal
@@ -152,15 +153,17 @@ module _ (layout : Layout) (me : BrickId) (s : Option Scrubbing) where
       let next = on_reply layout.block (coding layout).code (fresh_stamp me c.stamp.view now node.boot known) c from call reply in
       let apart_here = subst (ScrubApart s) (sym (at c refl)) apart in
       ap (carried_for (coding layout) me now (with_scrubbing s node) known c heard next (job_reading node.job c.call.seq)) (none_scrubs s c.call.seq apart_here)
-      ∙ either known heard next apart_here (job_reading node.job c.call.seq)
+      ∙ either known heard next apart_here (job_reading node.job c.call.seq) refl
       ∙ ap (λ (scrub : Option Scrub). beside_scrub s (carried_for (coding layout) me now node known c heard next (job_reading node.job c.call.seq)
       (scrub_of scrub c.call.seq))) (sym quiet)
     where
-      either : (known : ℕ) (heard : Coordinator) (next : Next) → ScrubApart s c.call.seq → (job : Option Job)
+      either : (known : ℕ) (heard : Coordinator) (next : Next) → ScrubApart s c.call.seq → (job : Option Job) → job_reading node.job c.call.seq ≡ job
           → carried_for (coding layout) me now (with_scrubbing s node) known c heard next job None
           ≡ beside_scrub s (carried_for (coding layout) me now node known c heard next job None)
-      either known heard next apart_here None = carried_beside_scrub node known c next apart_here
-      either known heard next apart_here (Some job) = carried_read_beside_scrub now node known job c next apart_here free
+      either known heard next apart_here None e = carried_beside_scrub node known c next apart_here
+      either known heard next apart_here (Some job) e =
+          carried_read_beside_scrub now node known job c next apart_here
+          (free job (subst (λ (k : ℕ). job_reading node.job k ≡ Some job) (at c refl) e))
 
   -- how it begins an operation
   pub began_beside_scrub : (now : ℕ) (node : Node) (ask : Ask) (group : Group) (view : View) → ScrubApart s (node.seq + 1)

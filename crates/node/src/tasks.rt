@@ -227,10 +227,10 @@ impl Tasks {
         requires begun { told.begun ≡ None }
         requires from { (layout : layouts.Layout) × FollowsFrom layout self.old.work.calls.seq group next }
         ensures step { (kept : KeptParts) → StepsAs self.old.work.calls.me (tasks_in kept self.new)
-            (then_told told (followed_step self.old.work.calls.me group (state_in kept self.old.work) next)) result }
+            (then_told told (followed_step self.old.work.calls.me group (tasks_in kept (record self.old { job = None })) next)) result }
         ensures few { length result.messages ≡ sent_in next }
         ensures same { (layout : layouts.Layout) → FollowsFrom layout self.old.work.calls.seq group next
-            → AreSameTasks layout (record { work = self.old.work; job = None }) self.new }
+            → AreSameTasks layout (record self.old { job = None }) self.new }
     {
         match next {
             Followed::Reads(messages, open) => {
