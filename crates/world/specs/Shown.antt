@@ -309,8 +309,8 @@ pub record IsFirst (layout : Layout) (state : Simulation) : Type 0 where
   pub shows : Shows layout state (first_world layout)
   pub course : state.trail.course ≡ record { steps = []; events = [] }
 
--- how many messages a step of a brick sends at most, on a message or as an operation, a proposal or a synchronisation begins: one to each member of a view, and
--- one to each brick of a layout
+-- how many messages a step of a brick sends at most, on a message or as an operation, a proposal, a synchronisation or a scrub begins: one to each member of a
+-- view, and one to each brick of a layout
 abbrev pub most_sent : ℕ
 most_sent = 96
 
