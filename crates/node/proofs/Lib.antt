@@ -26,6 +26,7 @@ pub mod Beside
 pub mod ScrubsBeside
 pub mod ScrubSteps
 pub mod ScrubReplies
+pub mod ScrubCalls
 pub mod Following
 pub mod Reading
 pub mod Underway

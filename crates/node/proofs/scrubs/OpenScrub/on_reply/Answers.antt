@@ -65,7 +65,7 @@ returns-in-Some-answer-clause-step c = λ layout of.
     let call = ap (λ (s : Stage). s.call) c.stage.ensures.stage ∙ ap (λ (o : phased.Operation). o.state.call) shown in
     let stamp = ap (λ (s : Stage). s.stamp) c.stage.ensures.stage ∙ ap (λ (o : phased.Operation). o.state.stamp) shown in
     let answer = c.answer.ensures
-    ∙ (λ i. scrub_answer scrub.lagging (abort_cause (sym c.in-Some-answer.answer-is i)) (Some (stamp i))) in
+    ∙ (λ i. scrub_answer scrub.lagging (abort_cause x.answer) (Some (stamp i))) in
     let outs_is = c.end.ensures ∙ (λ i. end_outs (with scrub (Some after)) (call i) (parts.messages i) None (answer i)) in
     subst (λ (o : Option Operation). StepsScrub layout (with scrub o) c.args.from c.args.message.now c.args.fresh known c.end.result
     (with scrub (Some after)) later) (sym c.in-Some.is)
