@@ -25,6 +25,8 @@ pub mod Turns
 pub mod Beside
 pub mod ScrubsBeside
 pub mod ScrubSteps
+pub mod ScrubReplies
+pub mod ScrubCalls
 pub mod Following
 pub mod Reading
 pub mod Underway

@@ -29,7 +29,7 @@ use Rattle.coord_phase.specs.Operations as phased
 use Rattle.coord_phase.specs.Operations.{counts, heard, scrub_op, with_state, without_last}
 use Rattle.coord_phase.specs.Messages.{packets_from, phase_messages}
 use Rattle.coord_recover.specs.Recoveries.{entered, is_of_recovery}
-use Rattle.scrub.specs.Scrubs.{members_of}
+use Rattle.scrub.specs.Scrubs.{members_of, noted}
 use Rattle.node.specs.declared.operations.Operation.{Operation}
 use Rattle.node.specs.declared.scrubs.OpenScrub.{OpenScrub}
 use Rattle.node.specs.Operations.{shown_of, EndsOrWaits}
@@ -137,9 +137,9 @@ end_outs held call messages seen answer =
       reports = Report.Scrub call (members_of held.scrub) answer ∷ [];
     }
 
--- Its recovery has begun, and sends its first phase: it goes on from the look. Its stamp is known from then on.
+-- Its recovery has begun, and sends its first phase: it goes on from the look, and it is noted who lagged. Its stamp is known from then on.
 pub record Recovers (before after : OpenScrub) (known later : ℕ) (outs : Outcome) : Type 0 where
-  pub scrub : after.scrub ≡ before.scrub
+  pub scrub : after.scrub ≡ noted before.scrub
   pub shown : scrub_shown after ≡ entered before.scrub.look Turn.Order
   pub sends : outs.messages ≡ phase_messages (scrub_shown after)
   pub told : outs.told ≡ []

@@ -170,6 +170,7 @@ impl OpenScrub {
         match Operation::recovering(alloc, self.scrub.look()) {
             Ok((recovery, messages)) => {
                 stamps.saw(self.scrub.look().stage().stamp);
+                self.scrub.note_lagging();
                 self.recovery = Some(recovery);
                 Ok(Outs::sending(messages))
             }
@@ -307,6 +308,8 @@ impl OpenScrub {
         if let Some(recovery) = &self.recovery {
             return recovery.on_tick(alloc);
         }
+        // There is at most a message for each member that is asked, and these are few.
+        let _ = self.scrub.look().asked().policy().n();
         match self.scrub.on_tick()? {
             ScrubNext::Send(messages) => {
                 teaching(alloc, self.call().group, &self.view(), messages)
