@@ -11,6 +11,7 @@ pub mod Resending
 pub mod Views
 pub mod Moments
 pub mod Moved
+pub mod RecoveryPhases
 pub mod MayEnd
 pub mod Hearing
 pub mod Steps
@@ -22,6 +23,10 @@ pub mod Sent
 pub mod Shown
 pub mod Turns
 pub mod Beside
+pub mod ScrubsBeside
+pub mod ScrubSteps
+pub mod ScrubReplies
+pub mod ScrubCalls
 pub mod Following
 pub mod Reading
 pub mod Underway

@@ -20,8 +20,9 @@ use Rattle.protocol.specs.declared.tellings.ViewAnswer.TheVariants as answer
 use Rattle.protocol.specs.Proposals.{Proposal, Voting, Ignored, Waited, Asks, Ended, ballot_packets, voted}
 use Rattle.protocol.specs.declared.tellings.Report.{Report}
 use Rattle.protocol.specs.Views.{group_kept}
-use Rattle.protocol.specs.Nodes.{Node, NodeStep, put, ballot_resent, began_in, calls_but_read, calls_but_scrub, carried_ballot, carried_for, carried_out, carried_read, carried_unless_scrub, coordinator_in, fresh_stamp, is_spent, job_call, job_goes, job_reading, known_after, new_proposal, proposed_in, proposing, read_begun, read_begun_by, read_begun_in, read_closed, refusal_of, replied_at, replied_ballot, reporting, resent, resent_up_to, scrub_call, scrub_of, sending, synced_at, then_does, ticked, with_call, with_job, with_known}
+use Rattle.protocol.specs.Nodes.{Node, NodeStep, put, ballot_resent, began_in, calls_but_read, calls_but_scrub, carried_ballot, carried_for, carried_out, carried_read, carried_unless_scrub, coordinator_in, fresh_stamp, is_spent, job_call, job_goes, job_reading, known_after, new_proposal, proposed_in, proposing, read_begun, read_begun_by, read_begun_in, read_closed, reading, refusal_of, replied_at, replied_ballot, reporting, resent, resent_up_to, scrub_call, scrub_of, sending, synced_at, then_does, ticked, with_call, with_job, with_known}
 use Rattle.stripe_code.specs.Codes.{coding}
+use Rattle.node.specs.Jobs.{Reading, with_reading}
 use Rattle.node.specs.Scrubs.{Scrubbing, calls_with_scrub, with_scrubbing}
 use Rattle.node.proofs.Beside.{eq_same, eq_turned, put_same, put_twice, puts_apart}
 
@@ -40,6 +41,26 @@ calls_put_scrub : (s : Option Scrubbing) (f : ℕ → Option Coordinator) (seq :
     → put (calls_with_scrub s f) seq v ≡ calls_with_scrub s (put f seq v)
 calls_put_scrub None f seq v apart = refl
 calls_put_scrub (Some s) f seq v apart = puts_apart f s.scrub.seq seq (Some s.call) v apart
+
+-- a scrub and a read that have other calls are there in either order
+pub swapped : (s : Option Scrubbing) (r : Reading) (node : Node) → ScrubApart s r.job.seq
+    → with_scrubbing s (with_reading (Some r) node) ≡ with_reading (Some r) (with_scrubbing s node)
+swapped None r node apart = refl
+swapped (Some s) r node apart =
+    ap (λ (calls : ℕ → Option Coordinator). record node { calls = calls; job = Some r.job; scrub = Some s.scrub })
+    (puts_apart node.calls r.job.seq s.scrub.seq (Some r.read) (Some s.call) (eq_turned r.job.seq s.scrub.seq ∙ apart))
+
+-- a read that begins has the brick's next call
+pub read_beside : (s : Option Scrubbing) (job : Job) (c : Coordinator) (node : Node) → ScrubApart s c.call.seq
+    → reading (with_scrubbing s node) job c ≡ with_scrubbing s (reading node job c)
+read_beside s job c node apart =
+    ap (λ (calls : ℕ → Option Coordinator). record node {
+      seq = c.call.seq;
+      known = c.stamp.time;
+      calls = calls;
+      job = Some (record job { seq = c.call.seq });
+      scrub = option_map (λ (x : Scrubbing). x.scrub) s;
+    }) (calls_put_scrub s node.calls c.call.seq (Some c) apart)
 
 -- the same step of a brick with this scrub
 abbrev pub beside_scrub : Option Scrubbing → NodeStep → NodeStep
@@ -128,9 +149,10 @@ module _ (layout : Layout) (me : BrickId) (s : Option Scrubbing) where
       ap (λ (n : Node). then_does (record closed { node = n }) (job_goes (coding layout) me now n job next)) (call_beside_scrub node known node.busy c.call.seq None apart)
       ∙ ap (then_does closed) (job_beside_scrub now closed.node job next free)
 
-  -- what it does with a reply to another call
+  -- what it does with a reply to another call; if that is to the read of its synchronisation, the brick's next call is another than the scrub's
   pub replied_beside_scrub : (now : ℕ) (from : BrickId) (node : Node) (call : Call) (reply : Reply) (o : Option Coordinator) → node.scrub ≡ None
-      → ScrubApart s call.seq → ScrubApart s (node.seq + 1) → ((c : Coordinator) → o ≡ Some c → c.call.seq ≡ call.seq)
+      → ScrubApart s call.seq → ((job : Job) → job_reading node.job call.seq ≡ Some job → ScrubApart s (node.seq + 1))
+      → ((c : Coordinator) → o ≡ Some c → c.call.seq ≡ call.seq)
       → replied_at (coding layout) me now from (with_scrubbing s node) call reply o ≡ beside_scrub s (replied_at (coding layout) me now from node call reply o)
   replied_beside_scrub now from node call reply None quiet apart free at =
       heard_so (with_known node (known_after node.known reply)) node.proposal
@@ -152,15 +174,17 @@ module _ (layout : Layout) (me : BrickId) (s : Option Scrubbing) where
       let next = on_reply layout.block (coding layout).code (fresh_stamp me c.stamp.view now node.boot known) c from call reply in
       let apart_here = subst (ScrubApart s) (sym (at c refl)) apart in
       ap (carried_for (coding layout) me now (with_scrubbing s node) known c heard next (job_reading node.job c.call.seq)) (none_scrubs s c.call.seq apart_here)
-      ∙ either known heard next apart_here (job_reading node.job c.call.seq)
+      ∙ either known heard next apart_here (job_reading node.job c.call.seq) refl
       ∙ ap (λ (scrub : Option Scrub). beside_scrub s (carried_for (coding layout) me now node known c heard next (job_reading node.job c.call.seq)
       (scrub_of scrub c.call.seq))) (sym quiet)
     where
-      either : (known : ℕ) (heard : Coordinator) (next : Next) → ScrubApart s c.call.seq → (job : Option Job)
+      either : (known : ℕ) (heard : Coordinator) (next : Next) → ScrubApart s c.call.seq → (job : Option Job) → job_reading node.job c.call.seq ≡ job
           → carried_for (coding layout) me now (with_scrubbing s node) known c heard next job None
           ≡ beside_scrub s (carried_for (coding layout) me now node known c heard next job None)
-      either known heard next apart_here None = carried_beside_scrub node known c next apart_here
-      either known heard next apart_here (Some job) = carried_read_beside_scrub now node known job c next apart_here free
+      either known heard next apart_here None e = carried_beside_scrub node known c next apart_here
+      either known heard next apart_here (Some job) e =
+          carried_read_beside_scrub now node known job c next apart_here
+          (free job (subst (λ (k : ℕ). job_reading node.job k ≡ Some job) (at c refl) e))
 
   -- how it begins an operation
   pub began_beside_scrub : (now : ℕ) (node : Node) (ask : Ask) (group : Group) (view : View) → ScrubApart s (node.seq + 1)

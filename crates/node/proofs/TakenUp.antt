@@ -3,6 +3,7 @@ use Rattle.std.proofs.Common.{◌≡◌, ◌≤◌, ◌<◌, ◌+◌, ◌++◌, 
 use Rattle.std.specs.Option.{option_map}
 use Rattle.std.specs.Ordering.{nat_cmp}
 use Rattle.std.specs.BTreeMap.{BTreeMap, get}
+use Rattle.std.proofs.lemmas.Bool.Decides.{nat_tests}
 use Rattle.std.proofs.lemmas.List.{append-nil, append_assoc}
 use Rattle.fab_base.specs.declared.identities.BrickId.{BrickId}
 use Rattle.fab_base.specs.declared.identities.GroupId.{GroupId}
@@ -24,12 +25,14 @@ use Rattle.node.specs.declared.open_calls.OpenCalls.{OpenCalls}
 use Rattle.node.specs.declared.open_work.OpenWork.{OpenWork}
 use Rattle.node.specs.declared.operations.Operation.{Operation}
 use Rattle.node.specs.declared.outs.Tellings.{Tellings}
+use Rattle.node.specs.declared.scrubs.OpenScrub.{OpenScrub}
 use Rattle.node.specs.declared.tasks.Tasks.{Tasks}
 use Rattle.node.specs.Jobs.{IsOpenJobOf, begins_sync}
 use Rattle.node.specs.Operations.{coordinator_of}
 use Rattle.node.specs.Outcomes.{Outcome, told_list}
+use Rattle.node.specs.Scrubs.{scrub_seq}
 use Rattle.node.specs.States.{AreSameCalls, KeptParts, StepsAs, parts_with, state_in, state_with}
-use Rattle.node.specs.Tasks.{AreSameTasks, AreTasksOf, IsJobAt, read_seq, tasks_in}
+use Rattle.node.specs.Tasks.{AreSameTasks, AreTasksOf, IsJobAt, IsScrubIn, read_seq, tasks_in}
 use Rattle.node.proofs.Hearing.{none_of}
 
 -- no operation has the call of a new read, which is one of the brick
@@ -42,6 +45,19 @@ read_is_at layout before after held same last open_is next =
       apart = none_of (get nat_cmp after.operations (read_seq held))
           (ap (λ (operations : BTreeMap ℕ Operation). is_some (get nat_cmp operations (read_seq held))) same
           ∙ before.fresh (read_seq held) (omega (arith, next)));
+    }
+
+-- a scrub is of the brick still, and has another call than the new read
+pub scrub_goes : (layout : Layout) (before after : OpenCalls) (held : OpenJob) (scrub : Option OpenScrub) → after.operations ≡ before.operations
+    → before.seq ≤ after.seq → read_seq held ≡ before.seq + 1 → IsScrubIn layout before None scrub → IsScrubIn layout after (Some held) scrub
+scrub_goes layout before after held None same later next is = tt
+scrub_goes layout before after held (Some s) same later next is =
+    let made = is.made in
+    record {
+      scrub_is = is.scrub_is;
+      made = omega (arith, made, later);
+      apart = ap (λ (operations : BTreeMap ℕ Operation). get nat_cmp operations (scrub_seq s)) same ∙ is.apart;
+      aside = grind (arith, nat_tests, made, next);
     }
 
 -- a synchronisation begins, where this is learnt

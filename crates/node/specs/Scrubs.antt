@@ -1,7 +1,7 @@
 -- The scrub of a brick, as the machine sees it.
 use Rattle.std.specs.Prelude.{◌≡◌, ◌≤◌, ℕ, true, false, max, nat_eq, List, [], ◌∷◌, ◌++◌, Option, Some, None}
 use Rattle.std.specs.Option.{option_map}
-use Rattle.fab_base.specs.declared.answers.Answer.{Answer}
+use Rattle.fab_base.specs.declared.answers.Answer.TheVariants as answer
 use Rattle.fab_base.specs.declared.answers.Cause.{Cause}
 use Rattle.fab_base.specs.declared.identities.BrickId.{BrickId}
 use Rattle.fab_base.specs.declared.identities.CallId.{CallId}
@@ -22,15 +22,14 @@ use Rattle.protocol.specs.declared.tellings.ScrubAnswer.{ScrubAnswer}
 use Rattle.protocol.specs.declared.tellings.ScrubAnswer.TheVariants.{Clean, Repaired, Aborted}
 use Rattle.protocol.specs.Settings.{Setting}
 use Rattle.protocol.specs.Coordinators.{Coordinator, counts_at, hearing, on_reply}
-use Rattle.protocol.specs.Jobs.{abort_cause}
-use Rattle.protocol.specs.Scrubs.{Scrub, scrub_answer, scrub_ask}
+use Rattle.protocol.specs.Scrubs.{Scrub, scrub_ask}
 use Rattle.protocol.specs.Nodes.{Node, NodeStep, begun_aside, carried_scrub, coordinator_in, put, scrubbing, seen_told, with_known}
 use Rattle.stripe_code.specs.Codes.{block_code, coding}
 use Rattle.coord_phase.specs.Operations as phased
 use Rattle.coord_phase.specs.Operations.{counts, heard, scrub_op, with_state, without_last}
 use Rattle.coord_phase.specs.Messages.{packets_from, phase_messages}
-use Rattle.coord_recover.specs.Recoveries.{entered}
-use Rattle.scrub.specs.Scrubs.{members_of}
+use Rattle.coord_recover.specs.Recoveries.{entered, is_of_recovery}
+use Rattle.scrub.specs.Scrubs.{members_of, noted}
 use Rattle.node.specs.declared.operations.Operation.{Operation}
 use Rattle.node.specs.declared.scrubs.OpenScrub.{OpenScrub}
 use Rattle.node.specs.Operations.{shown_of, EndsOrWaits}
@@ -88,11 +87,12 @@ abbrev pub IsScrubAside : Option OpenScrub → ℕ → Type 0
 IsScrubAside None seq = Unit {0}
 IsScrubAside (Some held) seq = nat_eq (scrub_seq held) seq ≡ false
 
--- once its stripe is being recovered, that recovery is of its own call, and counts its own members
+-- once its stripe is being recovered, that is in a phase of a recovery, of the scrub's own call, and counts its own members
 abbrev pub GoesOnFrom : phased.Operation → Option Operation → Type 0
 GoesOnFrom look None = Unit {0}
 GoesOnFrom look (Some recovery) =
     ((shown_of recovery).block ≡ look.block) × ((shown_of recovery).state.call.seq ≡ look.state.call.seq) × ((shown_of recovery).state.only ≡ look.state.only)
+    × (is_of_recovery (shown_of recovery).state.phase ≡ true)
 
 -- a scrub of a brick of the layout
 pub record IsScrubOf (layout : Layout) (held : OpenScrub) : Type 0 where
@@ -127,23 +127,19 @@ cause_in Clean = None
 cause_in (Repaired stamp lagging) = None
 cause_in (Aborted cause) = Some cause
 
--- how it ends where its stripe's recovery ends with this answer
-abbrev pub answer_of : OpenScrub → Answer → ScrubAnswer
-answer_of held answer = scrub_answer held.scrub.lagging (abort_cause answer) (Some (scrub_coordinator_of held).stamp)
-
--- what is sent, told and reported as it ends so, with a version that it saw its members keep, if it did
-abbrev pub end_outs : OpenScrub → List (BrickId × Message) → Option Stamp → ScrubAnswer → Outcome
-end_outs held messages seen answer =
+-- what is sent, told and reported as it ends so in the phase of this call, with a version that it saw its members keep, if it did
+abbrev pub end_outs : OpenScrub → Call → List (BrickId × Message) → Option Stamp → ScrubAnswer → Outcome
+end_outs held call messages seen answer =
     record {
       messages = messages;
-      told = seen_told (scrub_seq held) seen ++ (Closed (scrub_seq held) (cause_in answer) ∷ []);
+      told = seen_told call.seq seen ++ (Closed call.seq (cause_in answer) ∷ []);
       answers = [];
-      reports = Report.Scrub (scrub_coordinator_of held).call (members_of held.scrub) answer ∷ [];
+      reports = Report.Scrub call (members_of held.scrub) answer ∷ [];
     }
 
--- Its recovery has begun, and sends its first phase: it goes on from the look. Its stamp is known from then on.
+-- Its recovery has begun, and sends its first phase: it goes on from the look, and it is noted who lagged. Its stamp is known from then on.
 pub record Recovers (before after : OpenScrub) (known later : ℕ) (outs : Outcome) : Type 0 where
-  pub scrub : after.scrub ≡ before.scrub
+  pub scrub : after.scrub ≡ noted before.scrub
   pub shown : scrub_shown after ≡ entered before.scrub.look Turn.Order
   pub sends : outs.messages ≡ phase_messages (scrub_shown after)
   pub told : outs.told ≡ []
@@ -163,11 +159,15 @@ abbrev pub left_scrub : List Report → OpenScrub → Option OpenScrub
 left_scrub [] held = Some held
 left_scrub (report ∷ reports) held = None
 
+-- it goes on, as a scrub of the same call, if nothing is reported
+abbrev pub KeepsScrub : Layout → List Report → OpenScrub → OpenScrub → Type 0
+KeepsScrub layout [] before after = (scrub_seq after ≡ scrub_seq before) × (IsScrubOf layout before → IsScrubOf layout after)
+KeepsScrub layout (report ∷ reports) before after = Unit {0}
+
 -- A message to it, which is a reply, comes to what the machine's brick does. The brick knew this time before, and knows this one later.
 pub record StepsScrub (layout : Layout) (before : OpenScrub) (from : BrickId) (told : Message) (fresh : Option Stamp) (known : ℕ) (outs : Outcome)
     (after : OpenScrub) (later : ℕ) : Type 0 where
   pub step : (me : BrickId) (node : Node) (call : Call) (reply : Reply) → told ≡ message.Reply call reply → node.calls (scrub_seq before) ≡ None
-      → (scrub_coordinator_of before).stamp.time ≤ known
       → scrub_step layout me fresh before node known from call reply
       ≡ record {
         node = with_scrubbing (scrubbing_in (left_scrub outs.reports after)) (with_known node later);
@@ -176,14 +176,13 @@ pub record StepsScrub (layout : Layout) (before : OpenScrub) (from : BrickId) (t
         answers = outs.answers;
         reports = outs.reports;
       }
-  pub seq : scrub_seq after ≡ scrub_seq before
-  pub of : IsScrubOf layout before → IsScrubOf layout after
+  pub goes_on : KeepsScrub layout outs.reports before after
 
--- what a member's reply that counts, and tells this later view, comes to: it ends, of which this is told and reported; or it waits for more
+-- what a member's reply that counts, and tells this later view, comes to: it is aborted by a cause, of which this is told and reported; or it waits for more
 abbrev pub MovesScrub : OpenScrub → BrickId → ViewNo → Option Outcome → Type 0
 MovesScrub held from view None = EndsOrWaits (scrub_coordinator_of held) from view None
 MovesScrub held from view (Some outs) =
-    (answer : Answer) × EndsOrWaits (scrub_coordinator_of held) from view (Some answer) × (outs ≡ end_outs held [] None (answer_of held answer))
+    (cause : Cause) × EndsOrWaits (scrub_coordinator_of held) from view (Some (answer.Aborted cause)) × (outs ≡ end_outs held (scrub_coordinator_of held).call [] None (Aborted cause))
 
 -- it has counted a message that counts, and waits for more
 pub record HasCountedScrub (from : BrickId) (message : Message) (before after : OpenScrub) : Type 0 where

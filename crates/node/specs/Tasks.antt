@@ -1,5 +1,5 @@
 -- All that a brick has under way, as the machine sees it.
-use Rattle.std.specs.Prelude.{◌≡◌, ◌≤◌, ℕ, nat_eq, Bool, true, false, if◌then◌else◌, length, Option, Some, None}
+use Rattle.std.specs.Prelude.{◌≡◌, ◌≤◌, ◌+◌, ℕ, nat_eq, Bool, true, false, if◌then◌else◌, length, Option, Some, None}
 use Rattle.std.specs.Ordering.{nat_cmp}
 use Rattle.std.specs.BTreeMap.{get}
 use Rattle.fab_base.specs.declared.identities.BrickId.{BrickId}
@@ -143,11 +143,12 @@ IsTaskTurn layout now from call reply before (turn.EndsScrub outs) after =
     (after ≡ before)
     × ((kept : KeptParts) → StepsAs before.work.calls.me (tasks_in kept (record before { scrub = None })) (step_on layout now from call reply before kept) outs)
 
--- if an operation is to end, it is open; and if another read begins, its call is the next
+-- if an operation is to end, it is open; and if another read begins, its call is the next, and not that of the scrub
 abbrev pub MayFinish : TaskTurn → ℕ → Tasks → Type 0
 MayFinish (turn.Work t) seq tasks = OpenIfEnds t (get nat_cmp tasks.work.calls.operations seq)
 MayFinish turn.CountedRead seq tasks = Unit {0}
 MayFinish (turn.Follows group told next) seq tasks =
     (layout : Layout) × FollowsFrom layout tasks.work.calls.seq group next × (told.begun ≡ None) × (sent_in next ≤ 64)
+    × IsScrubAside tasks.scrub (tasks.work.calls.seq + 1)
 MayFinish turn.CountedScrub seq tasks = Unit {0}
 MayFinish (turn.EndsScrub outs) seq tasks = length outs.messages ≤ 64

@@ -7,6 +7,7 @@ pub mod call_sources;
 pub mod faults;
 pub mod jobs;
 mod learnt_views;
+mod movers;
 pub mod nodes;
 mod numbered;
 pub mod open_calls;

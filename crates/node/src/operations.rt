@@ -1,11 +1,9 @@
 //! The open operations of a brick.
 
-ghost use Rattle.std.specs.Prelude.{◌≡◌, [], ◌∷◌, ◌++◌, Some};
-ghost use Rattle.protocol.specs.declared.phases.Counted.{Counted};
-ghost use Rattle.protocol.specs.Coordinators.{mover_of, lowest_mover};
+ghost use Rattle.std.specs.Prelude.{◌≡◌};
 ghost use Rattle.node.specs.Kinds.{shown_in};
-ghost use Rattle.node.specs.Operations.{EndsOrWaits};
 
+use crate::movers::moved_cause;
 use crate::outs::{Outs, Tellings};
 use crate::sending::{messages_in, put_collects};
 use crate::teaching::teaching;
@@ -13,61 +11,12 @@ use coord_block::BlockOp;
 use coord_phase::{News, Stage};
 use coord_recover::Recovery;
 use coord_stripe::StripeOp;
-use fab_base::{Answer, Ask, BrickId, CallId, Cause, Members, NoMem, Op, Stamp, View, ViewNo};
+use fab_base::{Answer, Ask, BrickId, CallId, Members, NoMem, Op, Stamp, View, ViewNo};
 use layout::{Group, Layout};
-use messages::{Call, Message, Messages, Next, Reply, Turn};
-use protocol::{Answered, Counted, Mover, Told};
+use messages::{Call, Message, Messages, Next, Turn};
+use protocol::{Answered, Told};
 use stamp_store::StampSource;
 use std::alloc::Global;
-
-/// The member that told a later view, where this reply tells one.
-fn mover_of(counted: &Counted) -> Option<Mover>
-    ensures { result ≡ mover_of counted.now }
-{
-    match &counted.reply {
-        Reply::Moved { view, .. } => Some(Mover {
-            seat: counted.seat,
-            brick: counted.brick,
-            view: *view,
-        }),
-        _ => None,
-    }
-}
-
-/// The member of the lowest seat that told a later view, of those whose replies count and of one that tells it last.
-fn lowest_mover(counted: &[Counted], last: Mover) -> Mover
-    ensures { (c : Counted) → mover_of c ≡ Some last → lowest_mover (counted.now ++ (c ∷ [])) ≡ Some result }
-{
-    let Some((first, others)) = counted.split_first() else {
-        return last;
-    };
-    let later = lowest_mover(others, last);
-    match mover_of(first) {
-        Some(mover) if later.seat >= mover.seat => mover,
-        _ => later,
-    }
-}
-
-/// How an operation ends on a member's reply that counts and tells this later view: it is aborted by the mover of the lowest seat. None where it waits for more
-/// replies.
-pub(crate) fn moved_end(op: &coord_phase::Operation, from: BrickId, view: ViewNo) -> Option<Answer>
-    ensures { EndsOrWaits op.now.state from view result }
-{
-    let Some(seat) = op.asked().seat_of(from) else {
-        return None;
-    };
-    let counted = op.counted();
-    if counted.len() + 1 < op.needed() {
-        return None;
-    }
-    let last = Mover {
-        seat,
-        brick: from,
-        view,
-    };
-    let Mover { brick, view, .. } = lowest_mover(counted, last);
-    Some(Answer::Aborted(Cause::Moved { brick, view }))
-}
 
 /// An operation at the coordinator of its kind.
 #[derive(Drop)]
@@ -228,7 +177,7 @@ impl Operation {
     ) -> Result<(Operation, Messages), NoMem>
         requires phase { op.now.state.call.phase < 2 ^ 32 - 1 }
         ensures operation { IfOk result (λ begun. shown_of begun.0 ≡ entered op.now Turn.Order) }
-        ensures sends { IfOk result (λ begun. (layout : Layout) → op.now.block ≡ layout.block → SendsPhase layout begun.0 begun.1.items) }
+        ensures sends { IfOk result (λ begun. begun.1.items ≡ phase_messages (shown_of begun.0)) }
         ensures few { IfOk result (λ begun. vec_len begun.1 ≤ 32) }
     {
         let (recovery, next) = coord_recover::follow(alloc, op, Turn::Order)?;
@@ -448,6 +397,7 @@ impl Operation {
         ensures few { IfOk result (λ outs. length outs.messages ≤ 32) }
         ensures boot { stamps.new.boot ≡ stamps.old.boot }
         ensures group { OnOk result ((coordinator_of self.new).group ≡ (coordinator_of self.old).group) }
+        ensures only { OnOk result ((coordinator_of self.new).only ≡ (coordinator_of self.old).only) }
         ensures same { OnErr result (coordinator_of self.new ≡ coordinator_of self.old) }
         ensures block { OnErr result ((shown_of self.new).block ≡ (shown_of self.old).block) }
     {
@@ -496,6 +446,9 @@ impl Operation {
     pub(crate) fn ended_by(&self, from: BrickId, view: ViewNo) -> Option<Answer>
         ensures { EndsOrWaits (coordinator_of self.now) from view result }
     {
-        moved_end(self.shown(), from, view)
+        match moved_cause(self.shown(), from, view) {
+            None => None,
+            Some(cause) => Some(Answer::Aborted(cause)),
+        }
     }
 }

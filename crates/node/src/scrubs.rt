@@ -1,10 +1,11 @@
 //! The scrub of a brick: some members of a stripe are brought to one version.
 
 ghost use Rattle.std.specs.Prelude.{◌≡◌};
-ghost use Rattle.node.specs.Scrubs.{answer_of, cause_in};
+ghost use Rattle.node.specs.Scrubs.{cause_in};
 
 use crate::jobs::closed;
-use crate::operations::{Operation, moved_end};
+use crate::movers::moved_cause;
+use crate::operations::Operation;
 use crate::outs::Outs;
 use crate::teaching::teaching;
 use fab_base::{
@@ -13,6 +14,7 @@ use fab_base::{
 use layout::Layout;
 use messages::{Call, Message, Messages};
 use protocol::{Answered, Report, ScrubAnswer, Told};
+use coord_phase::Stage;
 use scrub::{Scrub, ScrubNext};
 use stamp_store::StampSource;
 use std::alloc::Global;
@@ -47,6 +49,8 @@ impl OpenScrub {
     ghost use Rattle.stripe_code.specs.Codes.{coding};
     ghost use Rattle.protocol.specs.Nodes.{resent, view_in};
     ghost use Rattle.fab_base.specs.declared.stamps.Stamp as machine_stamp;
+    ghost use Rattle.protocol.specs.Jobs.{abort_cause};
+    ghost use Rattle.protocol.specs.Scrubs.{scrub_answer};
     ghost use Rattle.scrub.specs.Scrubs.{taken_back};
     ghost use Rattle.node.specs.Scrubs.{BeginsScrub, HasCountedScrub, IsScrubOf, IsScrubAsBefore, MovesScrub, Recovers, StepsScrub, end_outs, scrub_coordinator_of, scrub_shown, without_reply};
 
@@ -126,13 +130,21 @@ impl OpenScrub {
         self.shown().counts(from, message)
     }
 
-    /// What is sent, told and reported as it ends so, with a version that it saw its members keep, if it did.
-    fn end(&self, messages: Messages, seen: Option<Stamp>, answer: ScrubAnswer) -> Outs
-        ensures { result ≡ end_outs self.now messages.items seen answer }
+    /// What is sent, told and reported as it ends so in the phase of this call, with a version that it saw its members keep, if it did.
+    fn end(
+        &self,
+        call: Call,
+        messages: Messages,
+        seen: Option<Stamp>,
+        answer: ScrubAnswer,
+    ) -> Outs
+        ensures { result ≡ end_outs self.now call messages.items seen answer }
     {
-        let call = self.call();
         let seq = call.seq;
-        let version = seen.map(|stamp| Told::Seen { seq, stamp });
+        let version = match seen {
+            Some(stamp) => Some(Told::Seen { seq, stamp }),
+            None => None,
+        };
         Outs {
             messages,
             told: closed(seq, version, cause_in(&answer)),
@@ -158,6 +170,7 @@ impl OpenScrub {
         match Operation::recovering(alloc, self.scrub.look()) {
             Ok((recovery, messages)) => {
                 stamps.saw(self.scrub.look().stage().stamp);
+                self.scrub.note_lagging();
                 self.recovery = Some(recovery);
                 Ok(Outs::sending(messages))
             }
@@ -183,24 +196,25 @@ impl OpenScrub {
         ensures boot { stamps.new.boot ≡ stamps.old.boot }
         ensures same { (layout : layouts.Layout) → OnErr result (IsScrubAsBefore layout self.old self.new) }
     {
+        let call = self.call();
         match self.scrub.on_reply(from, message)? {
             ScrubNext::Wait => Ok(Outs::nothing(alloc)),
             ScrubNext::Recover => self.recover(alloc, stamps),
             ScrubNext::End(answer) => {
                 let seen = self.scrub.clean_version();
-                Ok(self.end(Vec::new(alloc), seen, answer))
+                Ok(self.end(call, Vec::new(alloc), seen, answer))
             }
             ScrubNext::Send(_) => unreachable!(),
         }
     }
 
-    /// How it ends, once the recovery of its stripe has ended with this answer.
-    fn answer(&self, answer: Answer) -> ScrubAnswer
-        ensures { result ≡ answer_of self.now answer }
+    /// How it ends, once the recovery of its stripe has ended with this answer, its version having this stamp.
+    fn answer(&self, stamp: Stamp, answer: &Answer) -> ScrubAnswer
+        ensures { result ≡ scrub_answer self.now.scrub.lagging (abort_cause answer.now) (Some stamp) }
     {
         match answer {
-            Answer::Aborted(cause) => ScrubAnswer::Aborted { cause },
-            Answer::Data(_) | Answer::Done => self.scrub.on_stored(self.shown().stage().stamp),
+            Answer::Aborted(cause) => ScrubAnswer::Aborted { cause: *cause },
+            Answer::Data(_) | Answer::Done => self.scrub.on_stored(stamp),
         }
     }
 
@@ -225,13 +239,17 @@ impl OpenScrub {
         ensures boot { stamps.new.boot ≡ stamps.old.boot }
         ensures same { (layout : layouts.Layout) → OnErr result (IsScrubAsBefore layout self.old self.new) }
     {
+        // What tells its end is of the phase in which the message comes.
+        let Stage { stamp, call, .. } = self.shown().stage();
         let Some(recovery) = &mut self.recovery else {
             return self.on_look_reply(alloc, from, message, stamps);
         };
         let outs = recovery.on_reply(alloc, from, message, fresh, stamps)?;
         let (messages, told, answer, _) = outs.into_parts();
         match answer {
-            Some(Answered { answer, .. }) => Ok(self.end(messages, None, self.answer(answer))),
+            Some(Answered { answer, .. }) => {
+                Ok(self.end(call, messages, None, self.answer(stamp, &answer)))
+            }
             None => Ok(Outs {
                 messages,
                 told,
@@ -246,8 +264,8 @@ impl OpenScrub {
     pub(crate) fn moved(&self, alloc: Global, from: BrickId, view: ViewNo) -> Option<Outs>
         ensures { MovesScrub self.now from view result }
     {
-        let answer = moved_end(self.shown(), from, view)?;
-        Some(self.end(Vec::new(alloc), None, self.answer(answer)))
+        let cause = moved_cause(self.shown(), from, view)?;
+        Some(self.end(self.call(), Vec::new(alloc), None, ScrubAnswer::Aborted { cause }))
     }
 
     /// Counts a reply on which it waits for more.
@@ -290,6 +308,8 @@ impl OpenScrub {
         if let Some(recovery) = &self.recovery {
             return recovery.on_tick(alloc);
         }
+        // There is at most a message for each member that is asked, and these are few.
+        let _ = self.scrub.look().asked().policy().n();
         match self.scrub.on_tick()? {
             ScrubNext::Send(messages) => {
                 teaching(alloc, self.call().group, &self.view(), messages)

@@ -58,7 +58,7 @@ impl Tasks {
     ghost use Rattle.node.specs.declared.tasks.Tasks.{Tasks};
     ghost use Rattle.node.specs.States.{KeptParts, fresh_node, state_in, BeginsAs, StepsAs};
     ghost use Rattle.node.specs.Moves.{IsMoved};
-    ghost use Rattle.node.specs.Jobs.{FollowsFrom, IsKeptBy, followed_step, then_told, sent_in};
+    ghost use Rattle.node.specs.Jobs.{FollowsFrom, IsKeptBy, followed_step, reading_in, then_told, sent_in, with_reading};
     ghost use Rattle.node.specs.Scrubs.{IsScrubAside, ScrubsAt, scrubbed_by};
     ghost use Rattle.node.specs.Tasks.{tasks_in, counts_at, step_on, AreTasksOf, AreSameTasks, IsAside, IsTaskTurn, MayFinish, ReadsAt};
 
@@ -210,6 +210,7 @@ impl Tasks {
         now: u64,
     ) -> Result<Outs, NoMem>
         requires idle { self.old.job ≡ None }
+        requires of { AreTasksOf layout.now self.old }
         requires keeps { IsKeptBy layout.now group view (kept_by view.members kept.now) }
         ensures step { (parts : KeptParts) → parts.learnt group.0 ≡ record { view = view; synced = synced } → IfOk result (StepsAs self.old.work.calls.me
             (tasks_in parts self.new) (synced_at (coding layout.now) self.old.work.calls.me now (tasks_in parts self.old) group)) }
@@ -225,12 +226,13 @@ impl Tasks {
     /// The synchronisation of a group goes on so, where its read, if it had one, has ended, of which this is told. What is sent, told and reported.
     fn take_up(&mut self, group: GroupId, told: Tellings, next: Followed) -> Outs
         requires begun { told.begun ≡ None }
+        requires apart { IsScrubAside self.old.scrub (self.old.work.calls.seq + 1) }
         requires from { (layout : layouts.Layout) × FollowsFrom layout self.old.work.calls.seq group next }
         ensures step { (kept : KeptParts) → StepsAs self.old.work.calls.me (tasks_in kept self.new)
-            (then_told told (followed_step self.old.work.calls.me group (state_in kept self.old.work) next)) result }
+            (then_told told (followed_step self.old.work.calls.me group (tasks_in kept (record self.old { job = None })) next)) result }
         ensures few { length result.messages ≡ sent_in next }
         ensures same { (layout : layouts.Layout) → FollowsFrom layout self.old.work.calls.seq group next
-            → AreSameTasks layout (record { work = self.old.work; job = None }) self.new }
+            → AreSameTasks layout (record self.old { job = None }) self.new }
     {
         match next {
             Followed::Reads(messages, open) => {
@@ -274,6 +276,7 @@ impl Tasks {
         now: u64,
     ) -> Result<Option<Outs>, NoMem>
         requires idle { self.old.scrub ≡ None }
+        requires of { AreTasksOf layout.now self.old }
         requires limits { IsWithinLimits (group_in_view layout.now view.members group.0).m (length view.members) }
         requires prior { PriorIsWithinLimits (group_in_view layout.now view.members group.0).m view.number view.prior }
         requires enough { AreEnough (group_in_view layout.now view.members group.0) (Some members) }
@@ -400,9 +403,10 @@ impl Tasks {
         let outs = open.on_reply(alloc, packet.from, &packet.message, fresh, &mut stamps)?;
         self.work.heard(&packet.message, reply);
         self.work.calls.knows(stamps.known);
-        if outs.report.is_some() {
-            self.scrub = None;
+        if outs.report.is_none() {
+            return Ok(outs);
         }
+        self.scrub = None;
         Ok(outs)
     }
 
@@ -567,6 +571,22 @@ impl Tasks {
         }
     }
 
+    /// What all but the scrub sends again at a tick: the operations and the proposal, and last the read of the synchronisation.
+    fn others_again(&self, alloc: Global) -> Result<Messages, NoMem>
+        ensures packets { IfOk result (λ messages. (layout : layouts.Layout) (kept : KeptParts) → AreTasksOf layout self.now
+            → packets_from self.now.work.calls.me messages.items
+            ≡ ticked (coding layout) self.now.work.calls.me (with_reading (reading_in self.now.job) (state_in kept self.now.work))) }
+        ensures few { IfOk result (λ messages. vec_len messages ≤ 4224) }
+    {
+        let mut messages = self.work.on_tick(alloc)?;
+        let Some(open) = &self.job else {
+            return Ok(messages);
+        };
+        let mut last = open.on_tick(alloc)?;
+        messages.append(&mut last)?;
+        Ok(messages)
+    }
+
     /// At a tick of the brick's clock each open operation, in the order of beginning, sends its present phase again to each member without a reply that
     /// counts, then the proposal, the read of the synchronisation, and last the scrub. Each message of a later view than view 1 goes right after one that teaches its
     /// receiver that view.
@@ -575,15 +595,12 @@ impl Tasks {
             → packets_from self.now.work.calls.me messages.items ≡ ticked (coding layout) self.now.work.calls.me (tasks_in kept self.now)) }
         ensures few { IfOk result (λ messages. vec_len messages ≤ 4288) }
     {
-        let mut messages = self.work.on_tick(alloc)?;
-        if let Some(open) = &self.job {
-            let mut again = open.on_tick(alloc)?;
-            messages.append(&mut again)?;
-        }
-        if let Some(open) = &self.scrub {
-            let mut last = open.on_tick(alloc)?;
-            messages.append(&mut last)?;
-        }
+        let mut messages = self.others_again(alloc)?;
+        let Some(open) = &self.scrub else {
+            return Ok(messages);
+        };
+        let mut last = open.on_tick(alloc)?;
+        messages.append(&mut last)?;
         Ok(messages)
     }
 }

@@ -1,5 +1,5 @@
 -- As its scrub's next phase begins, a brick notes who lagged: the world that its step leaves is as if it had noted that first.
-use Rattle.std.proofs.Common.{◌≡◌, ℕ, Option, Some, None, refl, sym, ap, ◌∙◌, subst, arith}
+use Rattle.std.proofs.Common.{◌≡◌, ℕ, Option, Some, None, refl, sym, ap, ◌∙◌, subst, arith, true, false}
 use Rattle.std.specs.Option.{option_map}
 use Rattle.fab_base.specs.declared.identities.BrickId.{BrickId}
 use Rattle.messages.specs.declared.calls.Call.{Call}
@@ -7,16 +7,21 @@ use Rattle.messages.specs.declared.replies.Reply.{Reply}
 use Rattle.protocol.specs.Settings.{Setting}
 use Rattle.protocol.specs.Coordinators.{Coordinator, Next, Ignores, Waits, Sends, Makes, Ends, hearing, counts_at, on_reply}
 use Rattle.protocol.specs.Jobs.{Job}
-use Rattle.protocol.specs.Scrubs.{Scrub, lagging_after}
+use Rattle.protocol.specs.Scrubs.{Scrub, lagging_after, is_look, lagging_of}
 use Rattle.protocol.specs.Nodes.{Node, NodeStep, with_known, known_after, fresh_stamp, with_scrub, carried_for, job_reading, scrub_of, replied_ballot, replied_at}
 use Rattle.protocol.specs.Worlds.{World, world_stepped}
 use Rattle.protocol.proofs.Tables.{put_same}
-use Rattle.protocol_laws.proofs.Books.{ForScrub, own_seq}
-use Rattle.protocol_laws.proofs.BooksKept.{KeepsCalls, keeps_itself, scrub_is}
+use Rattle.protocol_laws.proofs.Books.{ForScrub, own_seq, Books}
+use Rattle.protocol_laws.proofs.BooksKept.{KeepsCalls, keeps_itself, scrub_is, reading_is, job_seq, scrub_seq}
 use Rattle.protocol_laws.proofs.Closing.{carried_noted}
 use Rattle.protocol_laws.proofs.Hearing.{kept_world, stepped_after}
 use Rattle.protocol_laws.proofs.Teaching.{IsAtRest, replied_rests}
 use Rattle.protocol_laws.proofs.Tops.{KeepsPlaces}
+use Rattle.std.specs.Prelude.{nat_eq}
+use Rattle.std.proofs.lemmas.Bool.{cond-true, cond-false, eq-eqb}
+use Rattle.std.proofs.lemmas.Option.{same_Some}
+use Rattle.protocol.specs.declared.phases.Phase.{Phase}
+use Rattle.fab_base.specs.Layouts.{Group}
 
 -- a brick that notes who lagged by the replies of this coordinator, where this is decided, and its scrub is this
 abbrev pub noting : Node → Coordinator → Next → Option Job → Option Scrub → Node
@@ -158,3 +163,102 @@ noting_each P setting w me now from call reply found handles =
     ))
     (subst (λ (n : Node). P (world_stepped setting (kept_world w me noted) me (replied_noted setting me now from n call reply found)))
     (put_same w.nodes me.0 noted) handles))
+
+-- Where a scrub's next phase begins upon its look, its brick has noted who lagged by the replies of that.
+abbrev pub IsNoted : Setting → BrickId → ℕ → BrickId → Node → Call → Reply → Coordinator → Type 0
+IsNoted setting me now from node call reply c =
+    (s : Scrub) (d : Coordinator) → decision_on setting me now from node call reply c ≡ Sends d → node.scrub ≡ Some s → s.seq ≡ c.call.seq
+    → is_look c.phase ≡ true → s.lagging ≡ lagging_of c.group.members (heard_by setting from call reply c).counted
+
+-- a coordinator that heard a reply is in its phase, and of its group
+heard_same : (c : Coordinator) (from : BrickId) (reply : Reply) (z : Option ℕ)
+    → ((hearing c from reply z).phase ≡ c.phase) × ((hearing c from reply z).group ≡ c.group)
+heard_same c from reply None = (refl, refl)
+heard_same c from reply (Some seat) = (refl, refl)
+
+-- the scrub of this number is found by that
+scrub_found : (scrub : Option Scrub) (s : Scrub) (seq : ℕ) → scrub ≡ Some s → s.seq ≡ seq → scrub_of scrub seq ≡ Some s
+scrub_found None s seq is same = absurd (let never : None ≡ Some s = is in cc)
+scrub_found (Some r) s seq is same =
+    let one : r ≡ s = same_Some r s is in
+    cond-true (nat_eq r.seq seq) (Some r) None (eq-eqb r.seq seq (ap (λ (z : Scrub). z.seq) one ∙ same)) ∙ is
+
+module _ (setting : Setting) (w : World) (books : Books setting w) (me : BrickId) (now : ℕ) (from : BrickId) (call : Call) (reply : Reply) where
+  abbrev node : Node
+  node = w.nodes me.0
+
+  -- the call of a scrub is no read of a synchronisation
+  no_reading : (s : Scrub) (seq : ℕ) → (w.nodes me.0).scrub ≡ Some s → s.seq ≡ seq → (job : Job) → job_reading (w.nodes me.0).job seq ≡ Some job → ⊥
+  no_reading s seq is same job reads =
+      let mine = reading_is (w.nodes me.0).job seq job reads in
+      books.apart me.0 seq (job_seq (w.nodes me.0).job job seq mine.0 mine.1) (scrub_seq (w.nodes me.0).scrub s seq is same)
+
+  -- so it has noted it
+  pub noted_is : (c : Coordinator) → IsNoted setting me now from (noted_by setting me now from node call reply (Some c)) call reply c
+  noted_is c s d decides has seq look =
+      by (decision_on setting me now from node call reply c)
+      (sym (noted_each setting me now from node call reply
+      (λ (n : Node). decision_on setting me now from n call reply c ≡ decision_on setting me now from node call reply c) (Some c) refl
+      (λ r later is same. refl)) ∙ decides)
+      (job_reading node.job c.call.seq) refl (scrub_of node.scrub c.call.seq) refl has
+    where
+      heard : Coordinator
+      heard = heard_by setting from call reply c
+
+      same : (heard.phase ≡ c.phase) × (heard.group ≡ c.group)
+      same = heard_same c from reply (counts_at setting.layout.block c from.0 call reply)
+
+      by : (next : Next) → next ≡ Sends d → (reading : Option Job) → job_reading node.job c.call.seq ≡ reading → (scrub : Option Scrub)
+          → scrub_of node.scrub c.call.seq ≡ scrub → (noting node heard next reading scrub).scrub ≡ Some s
+          → s.lagging ≡ lagging_of c.group.members heard.counted
+      by (Sends e) is None reads (Some r) scrubs now' =
+          ap (λ (z : Scrub). z.lagging) (sym (same_Some (record r { lagging = lagging_after r heard }) s now'))
+          ∙ cond-true (is_look heard.phase) (lagging_of heard.group.members heard.counted) r.lagging (ap (λ (p : Phase). is_look p) same.0 ∙ look)
+          ∙ ap (λ (g : Group). lagging_of g.members heard.counted) same.1
+      by (Sends e) is None reads None scrubs now' =
+          absurd (let never : None ≡ Some s = sym scrubs ∙ scrub_found node.scrub s c.call.seq now' seq in cc)
+      by (Sends e) is (Some job) reads scrub scrubs now' = absurd (no_reading s c.call.seq now' seq job reads)
+      by Ignores is reading reads scrub scrubs now' = absurd (let never : Ignores ≡ Sends d = is in cc)
+      by (Waits e) is reading reads scrub scrubs now' = absurd (let never : Waits e ≡ Sends d = is in cc)
+      by (Makes e) is reading reads scrub scrubs now' = absurd (let never : Makes e ≡ Sends d = is in cc)
+      by (Ends answer seen stored) is reading reads scrub scrubs now' = absurd (let never : Ends answer seen stored ≡ Sends d = is in cc)
+
+  -- and nothing else, where no look has ended
+  pub noted_lags : (found : Option Coordinator) (c : Coordinator) → node.calls call.seq ≡ found → node.calls c.call.seq ≡ Some c
+      → (s : Scrub) → (noted_by setting me now from node call reply found).scrub ≡ Some s → s.seq ≡ c.call.seq → is_look c.phase ≡ false
+      → (r : Scrub) × (node.scrub ≡ Some r) × (r.seq ≡ s.seq) × (s.lagging ≡ r.lagging)
+  noted_lags None c is at s has seq look = (s, has, refl, refl)
+  noted_lags (Some d) c is at s has seq look =
+      by (decision_on setting me now from node call reply d) (job_reading node.job d.call.seq) (scrub_of node.scrub d.call.seq)
+      (scrub_is node.scrub d.call.seq) has
+    where
+      heard : Coordinator
+      heard = heard_by setting from call reply d
+
+      same : (heard.phase ≡ d.phase) × (heard.group ≡ d.group)
+      same = heard_same d from reply (counts_at setting.layout.block d from.0 call reply)
+
+      Was : Type 0
+      Was = (r : Scrub) × (node.scrub ≡ Some r) × (r.seq ≡ s.seq) × (s.lagging ≡ r.lagging)
+
+      by : (next : Next) (reading : Option Job) (scrub : Option Scrub) → ((r : Scrub) → scrub ≡ Some r → (node.scrub ≡ Some r) × (r.seq ≡ d.call.seq))
+          → (noting node heard next reading scrub).scrub ≡ Some s → Was
+      by (Sends e) None (Some r) scrubs now' =
+          let its = scrubs r refl in
+          let one : record r { lagging = lagging_after r heard } ≡ s = same_Some (record r { lagging = lagging_after r heard }) s now' in
+          let call_is : d.call.seq ≡ c.call.seq = sym its.1 ∙ ap (λ (z : Scrub). z.seq) one ∙ seq in
+          let both : d ≡ c
+          = same_Some d c (sym is ∙ ap (λ (k : ℕ). node.calls k) (sym (books.calls me.0 call.seq d is).call_seq ∙ call_is) ∙ at) in (
+            r,
+            its.0,
+            ap (λ (z : Scrub). z.seq) one,
+            ap (λ (z : Scrub). z.lagging) (sym one)
+                ∙ cond-false (is_look heard.phase) (lagging_of heard.group.members heard.counted) r.lagging
+                (ap (λ (p : Phase). is_look p) (same.0 ∙ ap (λ (z : Coordinator). z.phase) both) ∙ look),
+          )
+      by (Sends e) None None scrubs now' = (s, now', refl, refl)
+      by (Sends e) (Some job) scrub scrubs now' = (s, now', refl, refl)
+      by Ignores reading scrub scrubs now' = (s, now', refl, refl)
+      by (Waits e) reading scrub scrubs now' = (s, now', refl, refl)
+      by (Makes e) reading scrub scrubs now' = (s, now', refl, refl)
+      by (Ends answer seen stored) reading scrub scrubs now' = (s, now', refl, refl)

@@ -14,14 +14,13 @@ use Rattle.protocol.specs.declared.phases.Phase.TheVariants.{Looks}
 use Rattle.protocol.specs.declared.tellings.ScrubAnswer.TheVariants as answer
 use Rattle.protocol.specs.Coordinators as machine
 use Rattle.protocol.specs.Coordinators.{answered_fast, answers_phase, fast_version, lowest_mover, pieces_of}
-use Rattle.protocol.specs.Scrubs.{lagging_of}
 use Rattle.stripe_code.specs.Codes.{block_code}
 use Rattle.coord_phase.specs.Operations.{Operation, counts, heard, heard_at}
 use Rattle.coord_phase.proofs.Answered.{after_hearing, decided_with, ignored, is_full}
 use Rattle.scrub.specs.declared.answers.ScrubNext.{ScrubNext}
 use Rattle.scrub.specs.declared.answers.ScrubNext.TheVariants as next
 use Rattle.scrub.specs.Scrubs.{Scrubbing}
-use Rattle.scrub.specs.Decisions.{Hears, KeepsLagging, StandsFor}
+use Rattle.scrub.specs.Decisions.{Hears, StandsFor}
 use Rattle.scrub.proofs.Looking.{look_answered, look_moved, moved_none}
 
 -- the replies of an operation all answer this phase
@@ -50,7 +49,7 @@ module _ (before after : Scrubbing) (from : BrickId) (told : Message) (is : afte
 
   -- after one that counts it does what stands for the machine's decision, by whether all have replied
   hears_so : (done : ScrubNext) (full : Bool) → counts before.look from told ≡ true → full ≡ is_full after.look
-      → ((fresh : Option Stamp) → StandsFor after done (after_hearing fresh after.look full)) → KeepsLagging before done after
+      → ((fresh : Option Stamp) → StandsFor after done (after_hearing fresh after.look full)) → after.lagging ≡ before.lagging
       → Hears before from told done after
   hears_so done full some all stands kept =
       record {
@@ -101,7 +100,7 @@ module _ (before after : Scrubbing) (from : BrickId) (told : Message) (is : afte
           )) kept
 
       pub hears_apart : lowest_mover after.look.state.counted ≡ None → fast_version after.look.state.counted ≡ None
-          → after.lagging ≡ lagging_of after.look.state.group.members after.look.state.counted → after.look.state.call.phase < 2 ^ 32 - 1
+          → after.lagging ≡ before.lagging → after.look.state.call.phase < 2 ^ 32 - 1
           → Hears before from told next.Recover after
-      hears_apart none version lagging few =
-          hears_so next.Recover true some (sym all) (λ fresh. (by_version fresh None none version, lagging, few)) tt
+      hears_apart none version kept few =
+          hears_so next.Recover true some (sym all) (λ fresh. (by_version fresh None none version, few, looks)) kept

@@ -8,9 +8,10 @@ use Rattle.fab_base.specs.declared.member_lists.View.{View}
 use Rattle.fab_base.specs.declared.stamps.Stamp.{Stamp}
 use Rattle.fab_base.specs.Layouts.{Layout}
 use Rattle.protocol.specs.Nodes.{members_alone}
+use Rattle.protocol.specs.Scrubs.{lagging_of}
 use Rattle.coord_phase.specs.Operations.{Operation, scrub_op, with_state, without_last}
 
--- the operation that looks, and who lagged, once that found its members to be kept apart
+-- the operation that looks, and who lagged, once that is noted
 pub record Scrubbing : Type 0 where
   pub look : Operation
   pub lagging : List BrickId
@@ -32,6 +33,10 @@ CountsSome look = counts_some look.state.only
     counts_some None = ⊥
     counts_some (Some only) = Unit {0}
 
--- it, without the last reply that counts in its look, upon which it was found who lagged
+-- it, once it is known who of its view's members lagged, by the replies that count in its look
+abbrev pub noted : Scrubbing → Scrubbing
+noted scrub = record scrub { lagging = lagging_of scrub.look.state.group.members scrub.look.state.counted }
+
+-- it, without the last reply that counts in its look
 abbrev pub taken_back : Scrubbing → Scrubbing
-taken_back scrub = record { look = with_state scrub.look (without_last scrub.look.state); lagging = [] }
+taken_back scrub = record scrub { look = with_state scrub.look (without_last scrub.look.state) }

@@ -91,7 +91,7 @@ impl Scrub {
     ghost use Rattle.protocol.specs.Coordinators.{AreEnough, fast_version};
     ghost use Rattle.protocol.specs.Scrubs.{scrub_answer};
     ghost use Rattle.coord_phase.specs.Operations.{PriorIsWithinLimits, counts, group_in_view};
-    ghost use Rattle.scrub.specs.Scrubs.{Scrubbing, begun_scrub, members_of, taken_back};
+    ghost use Rattle.scrub.specs.Scrubs.{Scrubbing, begun_scrub, members_of, noted, taken_back};
     ghost use Rattle.scrub.specs.Decisions.{Hears, SendsLook};
 
     /// Begins a scrub of these members of a stripe of the layout, with its stamp of the view: it looks. All members of the view are asked, whose number and that of
@@ -150,7 +150,7 @@ impl Scrub {
     }
 
     /// What its look does with a message. Once all its members have replied, one that serves the view no more aborts it, the one of the lowest seat; it is clean if
-    /// all told one newest version, and no order above that; and else their stripe is to be recovered, and it is known who lags.
+    /// all told one newest version, and no order above that; and else their stripe is to be recovered.
     ///
     /// # Errors
     ///
@@ -169,9 +169,6 @@ impl Scrub {
         if self.clean_version().is_some() {
             return Ok(ScrubNext::End(ScrubAnswer::Clean));
         }
-        let members = self.look.group().members();
-        let newest = self.look.greatest_version();
-        self.lagging = lagging_of(members.as_slice(), newest, self.look.counted());
         Ok(ScrubNext::Recover)
     }
 
@@ -182,12 +179,20 @@ impl Scrub {
         self.look.fast_version()
     }
 
-    /// Takes the last reply that counted back: after one upon which its stripe was to be recovered, the scrub is as it was before.
+    /// Notes who lags by the replies of its look, once the recovery of its stripe has begun.
+    pub fn note_lagging(&mut self)
+        ensures { self.new ≡ noted self.old }
+    {
+        let members = self.look.group().members();
+        let newest = self.look.greatest_version();
+        self.lagging = lagging_of(members.as_slice(), newest, self.look.counted());
+    }
+
+    /// Takes the last reply that counted back.
     pub fn take_back(&mut self)
         ensures { self.new ≡ taken_back self.old }
     {
         self.look.take_back();
-        self.lagging = Members::none();
     }
 
     /// Its look again, to each member of the view without a counted reply, those among them that it does not count too.

@@ -163,7 +163,7 @@ may_open_never state openings boot is most =
 restarted_again : (node : machine.Node) (openings : ℕ) → machine.restarted 1 (opened_more openings node) ≡ machine.restarted (openings + 1) node
 unfolding machine.restarted
 restarted_again node openings =
-    ap (λ (k : ℕ). record node { boot = k; seq = 0; known = 0; round = 0; busy = 0; calls = machine.no_calls; proposal = None; job = None }) (omega arith)
+    ap (λ (k : ℕ). record node { boot = k; seq = 0; known = 0; round = 0; busy = 0; calls = machine.no_calls; proposal = None; job = None; scrub = None }) (omega arith)
 
 -- how long the list of a brick's disk is, by what its store says
 listed_by : (layout : Layout) (me : BrickId) (node : Running MemDisk) (listed : ℕ) → node.layout ≡ layout → node.me ≡ me

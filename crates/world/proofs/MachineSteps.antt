@@ -374,7 +374,10 @@ ballot_few layout me node p (Ended call ended) = omega arith
 replied_few : (setting : Setting) (me : BrickId) (now : ℕ) (from : BrickId) (node : Node) (call : Call) (reply : Reply) (found : Option Coordinator)
     → FewReads (replied_at setting me now from node call reply found)
 replied_few setting me now from node call reply (Some c) =
-    carried_for_few setting me now node _ c _ _ (job_reading node.job c.call.seq) (scrub_of node.scrub c.call.seq)
+    let known : ℕ = known_after node.known reply in
+    carried_for_few setting me now node known c (hearing c from reply (counts_at setting.layout.block c from.0 call reply))
+    (on_reply setting.layout.block setting.code (fresh_stamp me c.stamp.view now node.boot known) c from call reply) (job_reading node.job c.call.seq)
+    (scrub_of node.scrub c.call.seq)
 replied_few setting me now from node call reply None = by_proposal node.proposal
   where
     known : Node

@@ -18,7 +18,7 @@ use Rattle.protocol.specs.declared.tellings.Report.{Report}
 use Rattle.protocol.specs.Worlds.{World, Event, Stops, Starts, Before, first_world, number_of, reports_of, world_stepped, run}
 use Rattle.protocol_laws.proofs.Books.{Books}
 use Rattle.world.specs.Runs.{Course, Run, Step, world_of, all_events, brick_of, with_events, world_at}
-use Rattle.world.specs.Faults.{IsEventsOf, IsStartOf, StaysDown, IsStarted, IsNoStart}
+use Rattle.world.specs.Faults.{IsStartOf, StaysDown, IsStarted, IsNoStart}
 use Rattle.world.specs.Disks.{ShowsDiskOf, ShowsDisks}
 use Rattle.world.specs.Shown.{IsNumbered, GoesOn, StaysAs, StopsShort, Shows, ShowsBricks, ShowsPower, ComesTo, StopsAt, disk_in, disks_of, came_to, world_in}
 use Rattle.protocol.proofs.Events.{run-append, EventCases, step_on, world_counting, stepped_each, started_each, run_each}

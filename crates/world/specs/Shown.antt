@@ -180,7 +180,7 @@ pub record IsNodeOf (layout : Layout) (i : ℕ) (power : Power) : Type 0 where
 abbrev pub AreNodesOf : Layout → List Brick → Type 0
 AreNodesOf layout bricks = (i : ℕ) (brick : Brick) → slice_get bricks i ≡ Some brick → IsNodeOf layout i brick.power
 
--- so it is, and there is one for each number of that
+-- so it is, and there is one for each number of the layout
 pub record AreBricksOf (layout : Layout) (bricks : List Brick) : Type 0 where
   pub count : length bricks ≡ layout.bricks
   pub each : AreNodesOf layout bricks
@@ -309,8 +309,8 @@ pub record IsFirst (layout : Layout) (state : Simulation) : Type 0 where
   pub shows : Shows layout state (first_world layout)
   pub course : state.trail.course ≡ record { steps = []; events = [] }
 
--- how many messages a step of a brick sends at most, on a message or as an operation, a proposal or a synchronisation begins: one to each member of a view, and
--- one to each brick of a layout
+-- how many messages a step of a brick sends at most, on a message or as an operation, a proposal, a synchronisation or a scrub begins: one to each member of a
+-- view, and one to each brick of a layout
 abbrev pub most_sent : ℕ
 most_sent = 96
 

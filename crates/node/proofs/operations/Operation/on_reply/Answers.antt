@@ -106,3 +106,18 @@ pub returns-in-End-clause-group : goal.returns-in-End-clause-group
 returns-in-End-clause-group c =
     (answers_as c.args.fresh (shown_of c.args.self.now) c.args.from c.args.message.now _ (End c.in-End.answer) (shown_of c.take_reply.new.self) c.in-End.is
     c.in_ok-take_reply.ensures.answers).stays.group
+
+pub returns-in-Wait-clause-only : goal.returns-in-Wait-clause-only
+returns-in-Wait-clause-only c =
+    (answers_as c.args.fresh (shown_of c.args.self.now) c.args.from c.args.message.now _ Wait (shown_of c.take_reply.new.self) c.in-Wait.is
+    c.in_ok-take_reply.ensures.answers).stays.only
+
+pub returns-in-Send-clause-only : goal.returns-in-Send-clause-only
+returns-in-Send-clause-only c =
+    (answers_as c.args.fresh (shown_of c.args.self.now) c.args.from c.args.message.now _ (Send c.in-Send.messages) (shown_of c.take_reply.new.self) c.in-Send.is
+    c.in_ok-take_reply.ensures.answers).stays.only
+
+pub returns-in-End-clause-only : goal.returns-in-End-clause-only
+returns-in-End-clause-only c =
+    (answers_as c.args.fresh (shown_of c.args.self.now) c.args.from c.args.message.now _ (End c.in-End.answer) (shown_of c.take_reply.new.self) c.in-End.is
+    c.in_ok-take_reply.ensures.answers).stays.only

@@ -47,7 +47,7 @@ returns-in-Scrub-clause-ok c =
     (λ outcome. takes_runs c.args.layout.now c.args.self.now c.scrub.new.self (Scrub c.in-Scrub.brick c.in-Scrub.group c.in-Scrub.stripe c.in-Scrub.members)
     (Scrubs (brick_of c.in-Scrub.brick) (group_no c.in-Scrub.group) (stripe_no c.in-Scrub.stripe) (map member_no c.in-Scrub.members)) outcome refl tt)
     (subst (λ (members : List ℕ). IfOk c.scrub.result (TakesEvent c.args.layout.now c.args.self.now c.scrub.new.self
-    (Scrubs (brick_of c.in-Scrub.brick) (group_no c.in-Scrub.group) (stripe_no c.in-Scrub.stripe) (map member_no members)))) c.as_slice-SCRUB.ensures
+    (Scrubs (brick_of c.in-Scrub.brick) (group_no c.in-Scrub.group) (stripe_no c.in-Scrub.stripe) (map member_no members)))) c.as_slice-in-Scrub.ensures
     c.scrub.ensures.ok))
 
 pub returns-in-Tick-clause-ok : goal.returns-in-Tick-clause-ok

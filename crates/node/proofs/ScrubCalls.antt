@@ -1,0 +1,244 @@
+-- The scrub of a brick, beside the synchronisation.
+use Rattle.std.proofs.Common.{◌≡◌, ◌≤◌, ◌+◌, ℕ, Bool, true, false, cond, if◌then◌else◌, nat_eq, List, [], ◌∷◌, ◌++◌, Option, Some, None, is_some, option_to_list, refl, sym, ◌∙◌, ap, subst, arith}
+use Rattle.std.specs.Option.{option_map}
+use Rattle.std.specs.Ordering.{nat_cmp}
+use Rattle.std.specs.BTreeMap.{BTreeMap, get}
+use Rattle.std.proofs.lemmas.Bool.Decides.{nat_tests}
+use Rattle.fab_base.specs.declared.answers.Answer.TheVariants.{Aborted}
+use Rattle.fab_base.specs.declared.answers.Cause.{Cause}
+use Rattle.fab_base.specs.declared.identities.BrickId.{BrickId}
+use Rattle.fab_base.specs.declared.identities.ViewNo.{ViewNo}
+use Rattle.fab_base.specs.declared.stamps.Stamp.{Stamp}
+use Rattle.fab_base.specs.Layouts.{Layout}
+use Rattle.messages.specs.declared.calls.Call.{Call}
+use Rattle.messages.specs.declared.packets.Message.{Message}
+use Rattle.messages.specs.declared.packets.Message.TheVariants as message
+use Rattle.messages.specs.declared.replies.Lineage.{Lineage}
+use Rattle.messages.specs.declared.replies.Reply.{Reply}
+use Rattle.messages.specs.declared.replies.Reply.TheVariants.{Moved}
+use Rattle.protocol.specs.declared.tellings.Report.{Report}
+use Rattle.protocol.specs.declared.tellings.ScrubAnswer.TheVariants as answer
+use Rattle.protocol.specs.declared.tellings.Told.{Told}
+use Rattle.protocol.specs.declared.tellings.Told.TheVariants.{Closed}
+use Rattle.protocol.specs.Coordinators as machine
+use Rattle.protocol.specs.Coordinators.{Coordinator, Next, counts_at, hearing, on_reply, with_reply}
+use Rattle.protocol.specs.Jobs.{Job}
+use Rattle.protocol.specs.Nodes.{Node, NodeStep, carried_for, fresh_stamp, job_reading, known_after, members_alone, no_step, replied_at, with_known}
+use Rattle.stripe_code.specs.Codes.{block_code, coding}
+use Rattle.coord_phase.specs.Operations as phased
+use Rattle.coord_phase.specs.Operations.{counts, heard, heard_at, seat_told}
+use Rattle.coord_phase.specs.Decisions.{decided_on}
+use Rattle.node.specs.declared.jobs.OpenJob.{OpenJob}
+use Rattle.node.specs.declared.open_calls.OpenCalls.{OpenCalls}
+use Rattle.node.specs.declared.open_work.OpenWork.{OpenWork}
+use Rattle.node.specs.declared.operations.Operation.{Operation}
+use Rattle.node.specs.declared.scrubs.OpenScrub.{OpenScrub}
+use Rattle.node.specs.declared.tasks.Tasks.{Tasks}
+use Rattle.node.specs.Jobs.{Reading, reading_in, with_reading}
+use Rattle.node.specs.Moves as moves
+use Rattle.node.specs.Operations.{EndsOrWaits, coordinator_of, shown_of}
+use Rattle.node.specs.Scrubs.{GoesOnFrom, HasCountedScrub, IsScrubAside, IsScrubOf, ScrubsAt, end_outs, phase_of, scrub_at, scrub_coordinator_of, scrub_seq, scrub_shown, scrub_step, scrubbing_in, scrubbing_of, with_scrubbing}
+use Rattle.node.specs.States.{KeptParts, state_in, state_with}
+use Rattle.node.specs.Tasks.{ApartFromJob, IsJobAt, IsScrubAt, IsScrubIn, counts_among, counts_at as counts_here, counts_beside, read_seq}
+use Rattle.node.proofs.Beside.{ApartFrom, calls_apart, eq_same, eq_turned}
+use Rattle.node.proofs.Hearing.{none_of}
+use Rattle.node.proofs.ScrubReplies.{hearing_is}
+use Rattle.node.proofs.ScrubSteps.{carried, scrub_ends, scrub_waits, scrubbed}
+use Rattle.node.proofs.ScrubsBeside.{JobApart, ScrubApart}
+use Rattle.node.proofs.Turns.{there}
+
+-- ---- its call
+
+-- it is not that of the read
+pub read_other : (job : Option OpenJob) (held : OpenScrub) → ApartFromJob job held → ApartFrom (reading_in job) (scrub_seq held)
+read_other None held aside = tt
+read_other (Some j) held aside = aside
+
+pub job_other : (job : Option OpenJob) (held : OpenScrub) → ApartFromJob job held → JobApart (option_map (λ (r : Reading). r.job) (reading_in job)) (scrub_seq held)
+job_other None held aside = tt
+job_other (Some j) held aside = aside
+
+pub scrub_other : (layout : Layout) (calls : OpenCalls) (job : OpenJob) (scrub : Option OpenScrub) → IsScrubIn layout calls (Some job) scrub
+    → ScrubApart (scrubbing_in scrub) (read_seq job)
+scrub_other layout calls job None is = tt
+scrub_other layout calls job (Some held) is = eq_turned (scrub_seq held) (read_seq job) ∙ is.aside
+
+-- nor that of an operation
+pub scrub_free : (layout : Layout) (work : OpenWork) (job : Option OpenJob) (held : OpenScrub) (kept : KeptParts) → IsScrubAt layout work.calls job held
+    → (with_reading (reading_in job) (state_in kept work)).calls (scrub_seq held) ≡ None
+unfolding state_with
+scrub_free layout work job held kept is =
+    calls_apart (reading_in job) (state_in kept work).calls (scrub_seq held) (read_other job held is.aside) ∙ ap (option_map coordinator_of) is.apart
+
+-- the brick's next call is another than a scrub's
+pub aside_next : (layout : Layout) (calls : OpenCalls) (job : Option OpenJob) (scrub : Option OpenScrub) → IsScrubIn layout calls job scrub
+    → IsScrubAside scrub (calls.seq + 1)
+aside_next layout calls job None is = tt
+aside_next layout calls job (Some held) is = let made = is.made in grind (arith, nat_tests)
+
+-- no operation, and no read, has the call of a new scrub, which is one of the brick
+pub scrub_is_at : (layout : Layout) (before after : OpenCalls) (job : Option OpenJob) (held : OpenScrub) → after.operations ≡ before.operations
+    → after.seq ≡ scrub_seq held → IsScrubOf layout held → scrub_seq held ≡ before.seq + 1
+    → ((j : OpenJob) → job ≡ Some j → read_seq j ≤ before.seq) → IsScrubAt layout after job held
+scrub_is_at layout before after job held same last of next made =
+    record {
+      scrub_is = of;
+      made = omega (arith, last);
+      apart = none_of (get nat_cmp after.operations (scrub_seq held))
+          (ap (λ (operations : BTreeMap ℕ Operation). is_some (get nat_cmp operations (scrub_seq held))) same
+          ∙ before.fresh (scrub_seq held) (omega (arith, next)));
+      aside = by job made;
+    }
+  where
+    by : (j : Option OpenJob) → ((x : OpenJob) → j ≡ Some x → read_seq x ≤ before.seq) → ApartFromJob j held
+    by None made = tt
+    by (Some x) made = let first = made x refl in grind (arith, nat_tests, first, next)
+
+-- ---- a reply to it
+
+-- the call is that of the scrub
+pub scrubs_call : (scrub : Option OpenScrub) (held : OpenScrub) (seq : ℕ) → scrub ≡ Some held → ScrubsAt scrub seq → nat_eq (scrub_seq held) seq ≡ true
+scrubs_call scrub held seq e scrubs = subst (λ (o : Option OpenScrub). ScrubsAt o seq) e scrubs
+
+pub scrub_there : (held : OpenScrub) (node : Node) (seq : ℕ) → nat_eq (scrub_seq held) seq ≡ true
+    → (with_scrubbing (Some (scrubbing_of held)) node).calls seq ≡ Some (scrub_coordinator_of held)
+scrub_there held node seq same =
+    ap (λ (b : Bool). cond b (Some (scrub_coordinator_of held)) (node.calls seq)) (eq_turned seq (scrub_seq held) ∙ same)
+
+-- what the brick does is what the machine does with a reply to the scrub
+pub replied_scrub : (layout : Layout) (me : BrickId) (now : ℕ) (from : BrickId) (held : OpenScrub) (node : Node) (call : Call) (reply : Reply)
+    → nat_eq (scrub_seq held) call.seq ≡ true → job_reading node.job (scrub_seq held) ≡ None
+    → replied_at (coding layout) me now from (with_scrubbing (Some (scrubbing_of held)) node) call reply
+    ((with_scrubbing (Some (scrubbing_of held)) node).calls call.seq)
+    ≡ scrub_step layout me (fresh_stamp me (scrub_coordinator_of held).stamp.view now node.boot (known_after node.known reply)) held node
+    (known_after node.known reply) from call reply
+replied_scrub layout me now from held node call reply same none =
+    let c = scrub_coordinator_of held in
+    let known = known_after node.known reply in
+    let N : Node = with_scrubbing (Some (scrubbing_of held)) node in
+    let h = hearing c from reply (counts_at layout.block c from.0 call reply) in
+    let next = on_reply layout.block (block_code layout.block) (fresh_stamp me c.stamp.view now node.boot known) c from call reply in
+    ap (replied_at (coding layout) me now from N call reply) (scrub_there held node call.seq same)
+    ∙ (λ i. carried_for (coding layout) me now N known c h next (none i) (if eq_same (scrub_seq held) i then Some (scrub_at held) else None))
+
+-- ---- a reply that counts, and tells a later view
+
+-- its operation is of the layout
+pub shown_block : (layout : Layout) (held : OpenScrub) → IsScrubOf layout held → (scrub_shown held).block ≡ layout.block
+shown_block layout held is = by held.recovery is.goes_on
+  where
+    by : (o : Option Operation) → GoesOnFrom held.scrub.look o → (phase_of held.scrub.look o).block ≡ layout.block
+    by None goes = is.block
+    by (Some recovery) goes = goes.0 ∙ is.block
+
+module _ (layout : Layout) (held : OpenScrub) (is : IsScrubOf layout held) (from : BrickId) (call : Call) (view : ViewNo) (lineage : Lineage)
+    (counted : counts (scrub_shown held) from (message.Reply call (Moved view (Some lineage))) ≡ true) where
+  abbrev moved : Reply
+  moved = Moved view (Some lineage)
+
+  abbrev c : Coordinator
+  c = scrub_coordinator_of held
+
+  -- the reply counts at some seat
+  seat_found : (seat : ℕ) × (counts_at (scrub_shown held).block c from.0 call moved ≡ Some seat)
+  unfolding seat_told
+  seat_found = there (counts_at (scrub_shown held).block c from.0 call moved) counted
+
+  -- so it is heard there
+  heard_is : (heard (scrub_shown held) from (message.Reply call moved)).state ≡ with_reply c seat_found.0 from moved
+  unfolding seat_told
+  heard_is = ap (λ (seat : Option ℕ). (heard_at (scrub_shown held) from (message.Reply call moved) seat).state) seat_found.1
+
+  -- where the scrub waits for more, that is what is decided
+  pub scrub_waits_so : EndsOrWaits c from view None
+      → decided_on None (scrub_shown held) from (message.Reply call moved) ≡ machine.Waits (heard (scrub_shown held) from (message.Reply call moved)).state
+  scrub_waits_so ends =
+      let block = (scrub_shown held).block in
+      ends block (block_code block) None call (Some lineage) seat_found.0 seat_found.1 ∙ ap (λ (d : Coordinator). machine.Waits d) (sym heard_is)
+
+  counts_so : counts_at layout.block c from.0 call moved ≡ Some seat_found.0
+  counts_so = ap (λ (block : ℕ). counts_at block c from.0 call moved) (sym (shown_block layout held is)) ∙ seat_found.1
+
+  module _ (me : BrickId) (now : ℕ) (node : Node) (same : nat_eq (scrub_seq held) call.seq ≡ true) (none : job_reading node.job (scrub_seq held) ≡ None) where
+    abbrev scrubs : Node
+    scrubs = with_scrubbing (Some (scrubbing_of held)) node
+
+    abbrev decides : Option Stamp
+    decides = fresh_stamp me c.stamp.view now node.boot node.known
+
+    -- it waits as the machine's does
+    pub scrub_moved_waits : EndsOrWaits c from view None → (after : OpenScrub) → HasCountedScrub from (message.Reply call moved) held after
+        → replied_at (coding layout) me now from scrubs call moved (scrubs.calls call.seq) ≡ no_step (with_scrubbing (Some (scrubbing_of after)) node)
+    scrub_moved_waits ends after has =
+        let h = hearing c from moved (counts_at layout.block c from.0 call moved) in
+        let d : scrub_coordinator_of after ≡ with_reply c seat_found.0 from moved = has.now_is ∙ heard_is in
+        replied_scrub layout me now from held node call moved same none
+        ∙ ap (carried (coding layout) me node node.known held.scrub.lagging c h)
+        (ends layout.block (block_code layout.block) decides call (Some lineage) seat_found.0 counts_so)
+        ∙ scrub_waits (coding layout) me node node.known held.scrub.lagging c h (with_reply c seat_found.0 from moved) refl
+        ∙ (λ i. no_step (with_scrubbing (Some (scrubbed (sym has.lagging i) (sym d i))) node))
+
+    -- so does one that ends
+    pub scrub_moved_ends : (cause : Cause) → EndsOrWaits c from view (Some (Aborted cause)) → node.calls (scrub_seq held) ≡ None
+        → held.scrub.look.state.only ≡ c.only
+        → replied_at (coding layout) me now from scrubs call moved (scrubs.calls call.seq)
+        ≡ record {
+          node = with_scrubbing None node;
+          packets = [];
+          told = Closed (scrub_seq held) (Some cause) ∷ [];
+          answers = [];
+          reports = Report.Scrub c.call (members_alone held.scrub.look.state.only) (answer.Aborted cause) ∷ [];
+        }
+    scrub_moved_ends cause ends free only =
+        let h = hearing c from moved (counts_at layout.block c from.0 call moved) in
+        replied_scrub layout me now from held node call moved same none
+        ∙ ap (carried (coding layout) me node node.known held.scrub.lagging c h)
+        (ends layout.block (block_code layout.block) decides call (Some lineage) seat_found.0 counts_so)
+        ∙ scrub_ends (coding layout) me node node.known held.scrub.lagging c h (Aborted cause) None None free
+        ∙ (λ i. record {
+          node = with_scrubbing None node;
+          packets = [];
+          told = Closed (scrub_seq held) (Some cause) ∷ [];
+          answers = [];
+          reports = Report.Scrub c.call (members_alone (sym only i)) (answer.Aborted cause) ∷ [];
+        })
+
+-- its members are those of its look
+pub only_same : (layout : Layout) (held : OpenScrub) → IsScrubOf layout held → held.scrub.look.state.only ≡ (scrub_coordinator_of held).only
+only_same layout held is = by held.recovery is.goes_on
+  where
+    by : (o : Option Operation) → GoesOnFrom held.scrub.look o → held.scrub.look.state.only ≡ (phase_of held.scrub.look o).state.only
+    by None goes = refl
+    by (Some recovery) goes = sym goes.2
+
+-- ---- at a brick
+
+-- a message that counts counts in it, where the read has another call
+pub counts_scrub : (tasks : Tasks) (held : OpenScrub) (seq : ℕ) (from : BrickId) (told : Message) → tasks.scrub ≡ Some held → nat_eq (scrub_seq held) seq ≡ true
+    → ((j : OpenJob) → tasks.job ≡ Some j → nat_eq (read_seq j) seq ≡ false) → counts_here tasks seq from told ≡ true
+    → counts (scrub_shown held) from told ≡ true
+counts_scrub tasks held seq from told e same other counted =
+    sym (ap (λ (b : Bool). if b then counts (scrub_shown held) from told else moves.counts_at tasks.work seq from told) same)
+    ∙ ap (λ (o : Option OpenScrub). counts_beside tasks o seq from told) (sym e)
+    ∙ sym (unread tasks.job other)
+    ∙ counted
+  where
+    unread : (job : Option OpenJob) → ((j : OpenJob) → job ≡ Some j → nat_eq (read_seq j) seq ≡ false)
+        → counts_among tasks job seq from told ≡ counts_beside tasks tasks.scrub seq from told
+    unread None other = refl
+    unread (Some j) other =
+        ap (λ (b : Bool). if b then counts (shown_of j.read) from told else counts_beside tasks tasks.scrub seq from told) (other j refl)
+
+-- what was told of a read that ended, and that another began
+told_by : (version ended : Option Told) (last : Told)
+    → option_to_list version ++ (option_to_list ended ++ (last ∷ [])) ≡ (option_to_list version ++ (option_to_list ended ++ [])) ++ (last ∷ [])
+told_by None None last = refl
+told_by None (Some e) last = refl
+told_by (Some v) None last = refl
+told_by (Some v) (Some e) last = refl
+
+pub told_then : (version ended begun : Option Told) (last : Told) → begun ≡ None
+    → option_to_list version ++ (option_to_list ended ++ (last ∷ [])) ≡ (option_to_list version ++ (option_to_list ended ++ option_to_list begun)) ++ (last ∷ [])
+told_then version ended begun last none =
+    told_by version ended last
+    ∙ ap (λ (o : Option Told). (option_to_list version ++ (option_to_list ended ++ option_to_list o)) ++ (last ∷ [])) (sym none)
