@@ -92,7 +92,8 @@ fn look_at_report(report: &Report)
             look_at_sync_answer(answer);
         }
         Report::Scrub { call, answer, .. } => {
-            let _call = value_at(call);
+            let _group = value_at(&call.group);
+            let _stripe = value_at(&call.stripe);
             look_at_scrub_answer(answer);
         }
     }
