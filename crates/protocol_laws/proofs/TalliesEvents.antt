@@ -539,7 +539,7 @@ unfolding request_of
 asks_old code c bound now seat = ap (λ (p : Phase). request_of code (record c { phase = p }) seat) now
 
 -- what is said of a world is what its messages should show
-messages_show : (setting : Setting) (views : Views) (w : World) (stamps : Stamping) → Books setting w → Said setting views w stamps → MessagesShow w
+pub messages_show : (setting : Setting) (views : Views) (w : World) (stamps : Stamping) → Books setting w → Said setting views w stamps → MessagesShow w
 messages_show setting views w stamps books said = record {
   later = λ call from to x sent. said.packets sent.0 (record { from = from; to = to; message = Message.Reply call (Reply.Later x) }) sent.1;
   orders_alone = orders_alone setting views w stamps books said;
