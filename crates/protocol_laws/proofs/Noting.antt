@@ -11,11 +11,11 @@ use Rattle.protocol.specs.Scrubs.{Scrub, lagging_after, is_look, lagging_of}
 use Rattle.protocol.specs.Nodes.{Node, NodeStep, with_known, known_after, fresh_stamp, with_scrub, carried_for, job_reading, scrub_of, replied_ballot, replied_at}
 use Rattle.protocol.specs.Worlds.{World, world_stepped}
 use Rattle.protocol.proofs.Tables.{put_same}
-use Rattle.protocol_laws.proofs.Books.{ForScrub, own_seq, Books}
+use Rattle.protocol_laws.proofs.Books.{Books}
 use Rattle.protocol_laws.proofs.BooksKept.{KeepsCalls, keeps_itself, scrub_is, reading_is, job_seq, scrub_seq}
 use Rattle.protocol_laws.proofs.Closing.{carried_noted}
 use Rattle.protocol_laws.proofs.Hearing.{kept_world, stepped_after}
-use Rattle.protocol_laws.proofs.Teaching.{IsAtRest, replied_rests}
+use Rattle.protocol_laws.proofs.Teaching.{replied_rests}
 use Rattle.protocol_laws.proofs.Tops.{KeepsPlaces}
 use Rattle.std.specs.Prelude.{nat_eq}
 use Rattle.std.proofs.lemmas.Bool.{cond-true, cond-false, eq-eqb}

@@ -1,15 +1,13 @@
 -- How a scrub ended: by the replies that counted, who told what.
-use Rattle.std.proofs.Common.{◌≡◌, ◌≢◌, ℕ, zero, suc, ◌+◌, ◌<◌, ◌≤◌, ◌⊎◌, inl, inr, ⊎_elim, Bool, true, false, List, [], ◌∷◌, ◌++◌, length, Option, Some, None, is_some, refl, sym, ap, ◌∙◌, subst, arith, nat_lt, ltb-false}
+use Rattle.std.proofs.Common.{◌≡◌, ◌≢◌, ℕ, zero, suc, ◌+◌, ◌≤◌, ◌⊎◌, inl, inr, ⊎_elim, Bool, true, false, List, [], ◌∷◌, length, Option, Some, None, is_some, refl, sym, ap, ◌∙◌, subst, arith, nat_lt, ltb-false}
 use Rattle.std.specs.Prelude.{slice_get, nat_eq, ◌||◌, if◌then◌else◌}
 use Rattle.std.specs.Option.{option_map}
-use Rattle.std.proofs.lemmas.Bool.{cond_both, cases_Bool, cases_eq, and_parts, or_cases, or_parts, false≢true, eqb-true, eqb-false, eq-eqb, ltb-false}
+use Rattle.std.proofs.lemmas.Bool.{cond_both, cases_Bool, and_parts, or_cases, false≢true, eqb-true, eq-eqb, ltb-false}
 use Rattle.std.proofs.lemmas.Option.{same_Some}
 use Rattle.fab_base.specs.declared.identities.BrickId.{BrickId}
 use Rattle.fab_base.specs.declared.answers.Answer.{Answer}
 use Rattle.fab_base.specs.declared.answers.Answer.TheVariants.{Aborted}
 use Rattle.fab_base.specs.declared.answers.Cause.{Cause}
-use Rattle.fab_base.specs.declared.answers.Cause.TheVariants as Cause
-use Rattle.fab_base.specs.declared.asks.Op.{Op}
 use Rattle.fab_base.specs.declared.asks.Op.TheVariants.{ReadBlock, ReadStripe, WriteBlock, WriteStripe}
 use Rattle.fab_base.specs.declared.stamps.Stamp.{Stamp}
 use Rattle.fab_base.specs.Layouts.{seat_in}
@@ -23,7 +21,6 @@ use Rattle.protocol.specs.declared.phases.Dropper.{Dropper}
 use Rattle.protocol.specs.declared.phases.FullMember.{FullMember}
 use Rattle.protocol.specs.Jobs.{abort_cause}
 use Rattle.protocol.specs.Coordinators.{Coordinator, Next, Waits, Sends, Makes, Ends, decided, once_full, needed, tells, all_tell, told_by_all, told_stamp, fast_version, greatest_refuser, greatest_found, lowest_mover, lowest_dropper, lowest_full, unless_told_moved, unless_told_gone, unless_told_full, unless_refused, once_ordered, ordered_again, answered_fast, read_back, has_seat, most_rounds, reordering, may_look_back, in_phase, lower_phase, forgetting, pieces_at, restoring, aborted_by}
-use Rattle.protocol_laws.specs.ScrubEnds.{HasTold}
 use Rattle.protocol_laws.proofs.Counting.{NoneStops}
 use Rattle.protocol_laws.proofs.Said.{EachCounted, AreOnce, FitsPhase}
 

@@ -1,12 +1,10 @@
 -- What a scrub shows by the reply upon which it ends.
-use Rattle.std.proofs.Common.{◌≡◌, ℕ, suc, ◌+◌, ◌<◌, ◌≤◌, ◌⊎◌, inl, inr, ⊎_elim, Bool, true, false, List, [], ◌∷◌, ◌++◌, length, Option, Some, None, is_some, refl, sym, ap, ◌∙◌, subst, arith, not}
-use Rattle.std.specs.Prelude.{slice_get, ◌&&◌}
-use Rattle.std.proofs.lemmas.Bool.{and_parts, false≢true, true≢false}
+use Rattle.std.proofs.Common.{◌≡◌, ℕ, suc, ◌≤◌, inl, inr, ⊎_elim, true, false, List, [], ◌∷◌, ◌++◌, length, Option, Some, None, is_some, refl, sym, ap, ◌∙◌, subst, arith, not}
+use Rattle.std.specs.Prelude.{slice_get}
+use Rattle.std.proofs.lemmas.Bool.{and_parts, false≢true}
 use Rattle.std.proofs.lemmas.List.{append-nil}
 use Rattle.std.proofs.lemmas.Option.{same_Some}
 use Rattle.fab_base.specs.declared.identities.BrickId.{BrickId}
-use Rattle.fab_base.specs.declared.identities.GroupId.{GroupId}
-use Rattle.fab_base.specs.declared.identities.StripeNo.{StripeNo}
 use Rattle.fab_base.specs.declared.answers.Answer.{Answer}
 use Rattle.fab_base.specs.declared.answers.Cause.{Cause}
 use Rattle.fab_base.specs.declared.asks.Ask.{Ask}
@@ -15,7 +13,7 @@ use Rattle.fab_base.specs.declared.asks.Op.TheVariants.{ReadStripe}
 use Rattle.fab_base.specs.declared.stamps.Stamp.{Stamp}
 use Rattle.fab_base.specs.Stamps.{stamp_below, stamp_same}
 use Rattle.fab_base.proofs.StampOrder.{stamp_same_true}
-use Rattle.fab_base.specs.Layouts.{Group, seat_in}
+use Rattle.fab_base.specs.Layouts.{seat_in}
 use Rattle.messages.specs.declared.calls.Call.{Call}
 use Rattle.messages.specs.declared.packets.Message.TheVariants as Message
 use Rattle.messages.specs.declared.packets.Packet.{Packet}
@@ -27,28 +25,27 @@ use Rattle.protocol.specs.declared.phases.Counted.{Counted}
 use Rattle.protocol.specs.declared.phases.Phase.{Phase}
 use Rattle.protocol.specs.declared.phases.Phase.TheVariants.{Looks, LooksBack, Stores}
 use Rattle.protocol.specs.declared.tellings.ScrubAnswer.{ScrubAnswer}
-use Rattle.protocol.specs.declared.tellings.ScrubAnswer.TheVariants.{Clean, Repaired, Aborted}
 use Rattle.protocol.specs.Jobs.{abort_cause}
-use Rattle.protocol.specs.Scrubs.{Scrub, scrub_answer, is_look, lagging_of, scrub_ask}
-use Rattle.protocol.specs.Coordinators.{Coordinator, Ends, with_reply, once_full, asked_group, looks_back, needed, needed_of, fast_version, tells, has_seat, answers_phase, may_count, greatest_refuser}
+use Rattle.protocol.specs.Scrubs.{Scrub, scrub_answer, is_look}
+use Rattle.protocol.specs.Coordinators.{Coordinator, Ends, with_reply, once_full, asked_group, looks_back, needed, needed_of, tells, answers_phase}
 use Rattle.protocol.specs.Nodes.{members_alone}
 use Rattle.protocol.specs.Worlds.{World, Operation, number_of, with_counted}
 use Rattle.protocol.proofs.CountsAt.{CountsAt}
 use Rattle.protocol.proofs.Needed.{needs_quorum}
 use Rattle.protocol.proofs.Tables.{get_added}
-use Rattle.protocol_laws.specs.Laws.{WasSent, stamp_stored}
-use Rattle.protocol_laws.specs.ScrubEnds.{IsScrub, HasTold, EachTold, CleanTold, RepairedTold, ScrubTold, AskedOld, CountedAlone, EndsIn}
-use Rattle.protocol_laws.proofs.Books.{Books, CallBooks, OwnBooks, IsCall, InRound, ForScrub, own_seq}
+use Rattle.protocol_laws.specs.Laws.{WasSent}
+use Rattle.protocol_laws.specs.ScrubEnds.{IsScrub, EachTold, CleanTold, RepairedTold, ScrubTold, CountedAlone, EndsIn}
+use Rattle.protocol_laws.proofs.Books.{Books, CallBooks, OwnBooks, IsCall, InRound}
 use Rattle.protocol_laws.proofs.BooksKept.{scrub_seq}
 use Rattle.protocol_laws.proofs.BooksEvents.{brick_of}
-use Rattle.protocol_laws.proofs.Counting.{each_then, each_both, each_more, once_more, NoneStops}
+use Rattle.protocol_laws.proofs.Counting.{each_then, each_both, each_more, once_more}
 use Rattle.protocol_laws.proofs.Decisions.{each_allows, write_answered, stored_by}
 use Rattle.protocol_laws.proofs.Outcomes.{SameOperation}
 use Rattle.protocol_laws.proofs.Said.{Stamping, Said, CallSays, CountedSays, EachCounted, AreOnce, FitsPhase, ReplySays, RequestSays, OldReadSays}
 use Rattle.protocol_laws.proofs.ScrubEnds.{SeesOne, StoresOne, whole_end, each_tells, all_replied, each_at, SeatedIn}
 use Rattle.protocol_laws.proofs.Stampings.{begun_once}
-use Rattle.protocol_laws.proofs.Tallies.{Tallied, CallTallied, MessagesShow, AskedBack, CountsAlone, NotedLagging, IsAmong}
-use Rattle.protocol_laws.proofs.TalliesCounts.{alone_now, look_replies, replies_now, replies_later, lagged_on}
+use Rattle.protocol_laws.proofs.Tallies.{Tallied, CallTallied, MessagesShow, AskedBack, CountsAlone, IsAmong}
+use Rattle.protocol_laws.proofs.TalliesCounts.{alone_now, replies_now, replies_later, lagged_on}
 use Rattle.protocol_laws.proofs.TalliesEvents.{messages_show}
 
 -- what the scrub at this coordinator shows as it ends so: its operation is open

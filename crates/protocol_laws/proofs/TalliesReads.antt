@@ -17,8 +17,8 @@ use Rattle.reg_model.specs.declared.marks.Mark.TheVariants.{End}
 use Rattle.protocol.specs.declared.tellings.Report.{Report}
 use Rattle.protocol.specs.Settings.{Setting}
 use Rattle.protocol.specs.Coordinators.{Coordinator}
-use Rattle.protocol.specs.Jobs.{Job, JobNext, job_ask, synced_answer}
-use Rattle.protocol.specs.Nodes.{Node, NodeStep, put, coordinator_in, reading, read_begun_by, with_job, phase_packets, synced_packets, top_at, begun_aside, scrubbing, scrub_coordinator, scrub_ended}
+use Rattle.protocol.specs.Jobs.{Job, JobNext, synced_answer}
+use Rattle.protocol.specs.Nodes.{Node, NodeStep, put, reading, read_begun_by, with_job, phase_packets, synced_packets, top_at, begun_aside, scrubbing, scrub_coordinator, scrub_ended}
 use Rattle.protocol.specs.Worlds.{World, Operation, Choices, number_of, world_stepped, with_held, choices_after}
 use Rattle.protocol.proofs.Puts.{put_other}
 use Rattle.protocol.proofs.Tables.{put_each, get_kept, put_same}

@@ -1,5 +1,5 @@
 -- What is reported of the reads of a brick's own. The reads of synchronisations, try by try: of the stripe that one reads each earlier read was aborted, and of one that it gave up all were.
-use Rattle.std.proofs.Common.{◌≡◌, ◌≢◌, ℕ, ◌+◌, ◌-◌, ◌<◌, ◌≤◌, ⊎_elim, true, not, List, Option, Some, None, is_some, refl, sym, ap, ◌∙◌, subst, arith, inl, inr, ◌⊎◌}
+use Rattle.std.proofs.Common.{◌≡◌, ◌≢◌, ℕ, ◌+◌, ◌-◌, ◌<◌, ◌≤◌, ⊎_elim, true, not, List, Option, Some, None, is_some, refl, sym, ap, ◌∙◌, subst, arith, inl, inr}
 use Rattle.std.specs.Prelude.{slice_get}
 use Rattle.std.proofs.lemmas.Bool.{cases_eq}
 use Rattle.fab_base.specs.declared.identities.BrickId.{BrickId}
@@ -12,7 +12,7 @@ use Rattle.fab_base.specs.declared.stamps.Stamp.{Stamp}
 use Rattle.protocol.specs.declared.tellings.Report.{Report}
 use Rattle.protocol.specs.declared.tellings.SyncAnswer.TheVariants.{Stopped}
 use Rattle.protocol.specs.Jobs.{Job, most_tries}
-use Rattle.protocol.specs.Nodes.{Node, put}
+use Rattle.protocol.specs.Nodes.{put}
 use Rattle.protocol.specs.Worlds.{World, Operation, with_made, with_seen, with_answer, with_closed, is_answer}
 use Rattle.protocol.proofs.Puts.{put_other}
 use Rattle.protocol.proofs.Tables.{put_same}

@@ -29,8 +29,8 @@ use Rattle.protocol.specs.Coordinators.{Coordinator, Next, Ignores, Waits, Sends
 use Rattle.protocol.specs.Proposals.{Proposal, Voting, Ignored, Waited, Asks, Ended, ballot_packets, voted}
 use Rattle.protocol.specs.Jobs.{Job, JobNext, Reads, Finishes, GivesUp, most_tries, begun_job, job_after, abort_cause, job_ask}
 use Rattle.protocol.specs.Nodes.{Node, NodeStep, put, sending, reporting, with_known, with_round, with_call, with_job, with_proposal, known_after, full_at, replica_at, vote_at, fresh_stamp, phase_packets, carried_out, carried_ballot, replied_ballot, ended_packets, replied_at, job_reading, read_begun, read_begun_in, read_begun_by, reading, job_goes, synced_packets, is_spent, coordinator_in, node_learnt, node_synced, view_counted, requested, heard, received, invoked, began, group_at, new_proposal, proposing, proposed_in, proposed, synced_at, stopped, restarted, reply_packets, with_replica, scrub_of, scrub_ended, members_alone, with_scrub, scrubbed_at, scrub_coordinator, scrubbing, begun_aside, then_does, lists_fit, ticked}
-use Rattle.protocol.specs.Worlds.{World, Operation, Event, Found, Before, After, first_world, number_of, with_seen, with_closed, reports_of, world_began, world_stepped, world_stopped, world_found, world_started, happens, run, with_held, replies_at, replies_with, counted_after, with_counted, world_ticked}
-use Rattle.protocol.proofs.Events.{EventCases, world_handled, world_counting, happens_each, run_along}
+use Rattle.protocol.specs.Worlds.{World, Operation, Event, Found, Before, After, first_world, number_of, with_seen, with_closed, reports_of, world_began, world_stepped, world_stopped, world_found, world_started, run, with_held, replies_at, replies_with, counted_after, with_counted, world_ticked}
+use Rattle.protocol.proofs.Events.{EventCases, world_handled, world_counting, run_along}
 use Rattle.protocol.proofs.Puts.{put_other}
 use Rattle.protocol.proofs.Served.{request_each}
 use Rattle.protocol.proofs.Tables.{put_each, put_same, get_grown, get_one, get_kept}

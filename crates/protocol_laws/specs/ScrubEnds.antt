@@ -7,7 +7,6 @@ use Rattle.fab_base.specs.declared.answers.Cause.{Cause}
 use Rattle.fab_base.specs.Layouts.{Group, seat_in}
 use Rattle.messages.specs.declared.calls.Call.{Call}
 use Rattle.messages.specs.declared.replies.Reply.{Reply}
-use Rattle.messages.specs.declared.replies.Reply.TheVariants as Reply
 use Rattle.messages.specs.declared.requests.Request.TheVariants as Request
 use Rattle.protocol.specs.declared.phases.Counted.{Counted}
 use Rattle.protocol.specs.declared.tellings.Report.{Report}
