@@ -3,13 +3,12 @@ use Rattle.std.proofs.Common.{Bool, List, None, Option, [], ap, arith, cond, fal
 use Rattle.std.proofs.lemmas.Bool.Decides.{nat_tests}
 use Rattle.std.specs.Prelude.{nat_lt, ◌-◌, ◌^◌}
 use Rattle.calm_laws.proofs.Scenes.{Closes, Each, Outcome, Scene, Stage, decision, heard, hears, replying, with_queue}
-use Rattle.fab_base.specs.Layouts.{seat_in}
 use Rattle.fab_base.specs.declared.identities.BrickId.{BrickId}
 use Rattle.messages.specs.declared.calls.Call.{Call}
 use Rattle.messages.specs.declared.packets.Message.{Message}
 use Rattle.messages.specs.declared.packets.Packet.{Packet}
 use Rattle.messages.specs.declared.replies.Reply.{Reply}
-use Rattle.protocol.specs.Coordinators.{Coordinator, Ignores, Next, answering_seat, call_same, counted_at, counts_at, new_seat, on_reply, asked_group, counting_seat}
+use Rattle.protocol.specs.Coordinators.{Coordinator, Ignores, Next, answering_seat, call_same, counted_at, counts_at, new_seat, on_reply, counting_seat}
 use Rattle.protocol.specs.Views.{view_told}
 use Rattle.protocol.specs.Nodes.{fresh_stamp, known_after}
 

@@ -20,7 +20,7 @@ use Rattle.messages.specs.declared.replies.Reply.{Reply}
 use Rattle.messages.specs.declared.requests.Request.{Request}
 use Rattle.protocol.specs.Calms.{goes_among, is_left, open_at, operation_of}
 use Rattle.protocol.specs.Coordinators.{Coordinator, Ends, Ignores, Makes, Next, Sends, Waits, on_reply, request_of, asked_group, hearing, counts_at}
-use Rattle.protocol.specs.Nodes.{NodeStep, carried_for, job_reading, read_closed, read_begun_by, then_does, with_job, synced_packets, Node, carried_out, fresh_stamp, known_after, phase_packets, put, received, replica_at, replied, replied_at, to_members, with_call, with_known, with_round, may_teach, no_step, then_taught, counts_here, collect_packets, scrub_of, with_scrub, scrub_ended, members_alone}
+use Rattle.protocol.specs.Nodes.{NodeStep, carried_for, job_reading, read_closed, read_begun_by, then_does, synced_packets, Node, carried_out, fresh_stamp, known_after, phase_packets, put, received, replica_at, replied, replied_at, to_members, with_call, with_known, with_round, may_teach, no_step, then_taught, counts_here, collect_packets, scrub_of, with_scrub, scrub_ended, members_alone}
 use Rattle.protocol.specs.Replicas.{Replica}
 use Rattle.protocol.specs.Settings.{Setting}
 use Rattle.protocol.specs.Jobs.{Job, abort_cause, synced_answer}

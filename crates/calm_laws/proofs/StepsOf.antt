@@ -24,7 +24,7 @@ use Rattle.protocol.specs.Replicas.{handle}
 use Rattle.protocol.specs.declared.phases.Counted.{Counted}
 use Rattle.protocol.specs.Coordinators.{Coordinator, Next, Ignores, Waits, Sends, Makes, Ends, counts_at, counted_at, once_full, with_reply, request_of, on_reply, asked_group, hearing}
 use Rattle.protocol.specs.declared.tellings.Report.{Report}
-use Rattle.protocol.specs.Nodes.{carried_for, job_reading, read_closed, read_begun_by, synced_packets, then_does, with_job, Node, NodeStep, put, no_step, with_known, with_round, with_replica, replica_at, full_at, known_after, fresh_stamp, reply_packets, requested, replied_at, carried_out, received, heard, collect_packets, to_members, vote_at, voted_on, node_taught_by, node_learnt, view_counted, node_synced, scrub_of, members_alone}
+use Rattle.protocol.specs.Nodes.{carried_for, job_reading, read_closed, read_begun_by, synced_packets, then_does, Node, NodeStep, put, no_step, with_known, with_round, with_replica, replica_at, full_at, known_after, fresh_stamp, reply_packets, requested, replied_at, carried_out, received, heard, collect_packets, to_members, vote_at, voted_on, node_taught_by, node_learnt, view_counted, node_synced, scrub_of, members_alone}
 use Rattle.protocol.proofs.Packets.{OfEach, each_both, each_collect, each_member, each_none, each_reply}
 use Rattle.protocol_laws.proofs.Proposing.{IsOfViews, ballot_each}
 use Rattle.protocol_laws.proofs.Teaching.{heard_each, told_each, learnt_each}

@@ -25,8 +25,8 @@ use Rattle.protocol.specs.Replicas.{top_of, Replica}
 use Rattle.protocol.specs.declared.phases.Phase.{Phase}
 use Rattle.protocol.specs.declared.phases.Phase.TheVariants.{Looks, LooksAt, Orders, OrdersAt, Recovers, Descends, Modifies, Bases, Stores, LooksBack}
 use Rattle.protocol.specs.Coordinators.{Coordinator, request_of, asked_group}
-use Rattle.protocol.specs.Jobs.{Job, job_ask}
-use Rattle.protocol.specs.Nodes.{Node, NodeStep, put, first_phase, coordinator_in, new_coordinator, began_in, read_begun_by, phase_packets, top_at, view_at, view_floor, begun_aside, reading_aside, scrubbing, scrub_coordinator}
+use Rattle.protocol.specs.Jobs.{Job}
+use Rattle.protocol.specs.Nodes.{Node, NodeStep, put, first_phase, new_coordinator, began_in, read_begun_by, phase_packets, top_at, view_at, view_floor, begun_aside, reading_aside, scrubbing, scrub_coordinator}
 use Rattle.protocol.specs.Worlds.{World, Operation, Choices, world_began, world_stepped, with_call_number, with_held, choices_after}
 use Rattle.view_laws.proofs.SyncReads.{read_call}
 use Rattle.protocol_laws.proofs.Blocking.{PartsStay, NewIsLogged, stands_stays}

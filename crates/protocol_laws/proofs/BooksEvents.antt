@@ -961,7 +961,8 @@ module _ (setting : Setting) (w : World) where
       hearing_each (Books setting) setting w me now from call reply
       (books_silent setting w w.replies me (with_known (with_round (w.nodes me.0) reply) (known_after (w.nodes me.0).known reply)) [] [] books
       (record { boot = refl; seq = omega arith; known = known_grows (w.nodes me.0).known reply }, λ l. refl, refl, refl))
-      (let node : Node = taught_by setting w me from call reply in
+      (λ fit.
+      let node : Node = taught_by setting w me from call reply in
       let keeps = hearing_keeps setting w me from call reply in
       let x : World = kept_world w me node in
       books_replied_at setting x me now from call reply ((w.nodes me.0).calls call.seq) (books_kept setting w me node books keeps)

@@ -10,7 +10,7 @@ use Rattle.protocol.specs.Coordinators.{Coordinator}
 use Rattle.protocol.specs.Jobs.{Job}
 use Rattle.protocol.specs.Nodes.{Node, with_known, with_call, job_reading, scrub_of}
 use Rattle.protocol.specs.Worlds.{World, Operation, number_of}
-use Rattle.protocol_laws.proofs.Books.{Books, OperationBooks, LifeBooks, CallBooks, JobBooks, IsOperation, IsCall, Own, ForJob, ForScrub, own_seq, IsOwnCall, OwnBooks, AreApart}
+use Rattle.protocol_laws.proofs.Books.{Books, OperationBooks, LifeBooks, CallBooks, JobBooks, IsOperation, IsCall, Own, ForJob, ForScrub, own_seq, OwnBooks, AreApart}
 use Rattle.protocol_laws.proofs.MarkNumbers.{cases_marked}
 use Rattle.reg_model.proofs.GrowingLives.{Stays, Stays-refl, LifeStays, EndingStays-answered, EndingStays-answered_before, EndingStays-open, EndingStays-open_before}
 use Rattle.protocol.specs.Scrubs.{Scrub}

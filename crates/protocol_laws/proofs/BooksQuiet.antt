@@ -1,7 +1,7 @@
 -- The books of a world where a brick changed its part of a stripe, or learnt of a time, where a clock was set or ticks, or where a stopped brick was
 -- started again.
 use Rattle.fab_base.specs.declared.stamps.Stamp.{Stamp}
-use Rattle.std.proofs.Common.{◌≡◌, ◌≢◌, ℕ, ◌+◌, ◌≤◌, ⊎_elim, inl, Bool, true, false, None, Some, refl, sym, ap, ◌∙◌, subst, arith, List}
+use Rattle.std.proofs.Common.{◌≡◌, ◌≢◌, ℕ, ◌+◌, ◌≤◌, ⊎_elim, Bool, true, false, None, Some, refl, sym, ap, ◌∙◌, subst, arith, List}
 use Rattle.std.specs.Prelude.{nat_eq, if◌then◌else◌}
 use Rattle.std.proofs.lemmas.Bool.{cases_eq, both_ways, ne_eqb}
 use Rattle.std.proofs.lemmas.Option.{same_Some}

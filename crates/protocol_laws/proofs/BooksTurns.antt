@@ -1,5 +1,5 @@
 -- The books of a world where an open operation went on at its coordinator.
-use Rattle.std.proofs.Common.{◌≡◌, ◌≢◌, ℕ, ◌<◌, ◌≤◌, ⊎_elim, inl, false, Option, Some, None, refl, sym, ap, ◌∙◌, subst, arith, List, Bool, is_some}
+use Rattle.std.proofs.Common.{◌≡◌, ◌≢◌, ℕ, ◌<◌, ◌≤◌, ⊎_elim, false, Option, Some, None, refl, sym, ap, ◌∙◌, subst, arith, List, Bool, is_some}
 use Rattle.std.proofs.lemmas.Option.{same_Some}
 use Rattle.std.proofs.lemmas.Bool.{cases_eq, both_ways}
 use Rattle.fab_base.specs.declared.stamps.Stamp.{Stamp}

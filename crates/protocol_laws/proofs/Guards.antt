@@ -1,6 +1,6 @@
 -- A request to store a version is sent while a quorum takes nothing below it, and while its operation is open: an event that sends one lowers and raises no
 -- brick, and sends it for a call that is open.
-use Rattle.protocol.specs.Jobs.{Job, job_ask, begun_job}
+use Rattle.protocol.specs.Jobs.{Job, begun_job}
 use Rattle.view_laws.proofs.SyncReads.{carried_each, synced_at_each, each_tick, each_synced, read_call, scrubbed_at_each}
 use Rattle.std.proofs.Common.{◌≡◌, ℕ, Bool, true, false, ⊎_elim, not, List, [], ◌∷◌, ◌++◌, length, Option, Some, None, refl, sym, ap, ◌∙◌, subst, arith}
 use Rattle.std.specs.Prelude.{slice_get, nat_lt, if◌then◌else◌}

@@ -45,6 +45,8 @@ pub mod SaidAlways
 pub mod SaidQuiet
 pub mod SaidReads
 pub mod Sendings
+pub mod ScrubEnds
+pub mod ScrubShows
 pub mod Sends
 pub mod Sorting
 pub mod StampViews

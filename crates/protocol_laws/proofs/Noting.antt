@@ -11,17 +11,19 @@ use Rattle.protocol.specs.Scrubs.{Scrub, lagging_after, is_look, lagging_of}
 use Rattle.protocol.specs.Nodes.{Node, NodeStep, with_known, known_after, fresh_stamp, with_scrub, carried_for, job_reading, scrub_of, replied_ballot, replied_at}
 use Rattle.protocol.specs.Worlds.{World, world_stepped}
 use Rattle.protocol.proofs.Tables.{put_same}
-use Rattle.protocol_laws.proofs.Books.{ForScrub, own_seq, Books}
+use Rattle.protocol_laws.proofs.Books.{Books}
 use Rattle.protocol_laws.proofs.BooksKept.{KeepsCalls, keeps_itself, scrub_is, reading_is, job_seq, scrub_seq}
 use Rattle.protocol_laws.proofs.Closing.{carried_noted}
 use Rattle.protocol_laws.proofs.Hearing.{kept_world, stepped_after}
-use Rattle.protocol_laws.proofs.Teaching.{IsAtRest, replied_rests}
+use Rattle.protocol_laws.proofs.Teaching.{replied_rests}
 use Rattle.protocol_laws.proofs.Tops.{KeepsPlaces}
 use Rattle.std.specs.Prelude.{nat_eq}
 use Rattle.std.proofs.lemmas.Bool.{cond-true, cond-false, eq-eqb}
 use Rattle.std.proofs.lemmas.Option.{same_Some}
 use Rattle.protocol.specs.declared.phases.Phase.{Phase}
 use Rattle.fab_base.specs.Layouts.{Group}
+use Rattle.fab_base.specs.declared.answers.Answer.{Answer}
+use Rattle.fab_base.specs.declared.stamps.Stamp.{Stamp}
 
 -- a brick that notes who lagged by the replies of this coordinator, where this is decided, and its scrub is this
 abbrev pub noting : Node → Coordinator → Next → Option Job → Option Scrub → Node
@@ -225,10 +227,10 @@ module _ (setting : Setting) (w : World) (books : Books setting w) (me : BrickId
 
   -- and nothing else, where no look has ended
   pub noted_lags : (found : Option Coordinator) (c : Coordinator) → node.calls call.seq ≡ found → node.calls c.call.seq ≡ Some c
-      → (s : Scrub) → (noted_by setting me now from node call reply found).scrub ≡ Some s → s.seq ≡ c.call.seq → is_look c.phase ≡ false
-      → (r : Scrub) × (node.scrub ≡ Some r) × (r.seq ≡ s.seq) × (s.lagging ≡ r.lagging)
-  noted_lags None c is at s has seq look = (s, has, refl, refl)
-  noted_lags (Some d) c is at s has seq look =
+      → (s : Scrub) → (noted_by setting me now from node call reply found).scrub ≡ Some s → s.seq ≡ c.call.seq
+      → (r : Scrub) × (node.scrub ≡ Some r) × (r.seq ≡ s.seq) × (is_look c.phase ≡ false → s.lagging ≡ r.lagging)
+  noted_lags None c is at s has seq = (s, has, refl, λ look. refl)
+  noted_lags (Some d) c is at s has seq =
       by (decision_on setting me now from node call reply d) (job_reading node.job d.call.seq) (scrub_of node.scrub d.call.seq)
       (scrub_is node.scrub d.call.seq) has
     where
@@ -239,7 +241,7 @@ module _ (setting : Setting) (w : World) (books : Books setting w) (me : BrickId
       same = heard_same d from reply (counts_at setting.layout.block d from.0 call reply)
 
       Was : Type 0
-      Was = (r : Scrub) × (node.scrub ≡ Some r) × (r.seq ≡ s.seq) × (s.lagging ≡ r.lagging)
+      Was = (r : Scrub) × (node.scrub ≡ Some r) × (r.seq ≡ s.seq) × (is_look c.phase ≡ false → s.lagging ≡ r.lagging)
 
       by : (next : Next) (reading : Option Job) (scrub : Option Scrub) → ((r : Scrub) → scrub ≡ Some r → (node.scrub ≡ Some r) × (r.seq ≡ d.call.seq))
           → (noting node heard next reading scrub).scrub ≡ Some s → Was
@@ -252,13 +254,28 @@ module _ (setting : Setting) (w : World) (books : Books setting w) (me : BrickId
             r,
             its.0,
             ap (λ (z : Scrub). z.seq) one,
-            ap (λ (z : Scrub). z.lagging) (sym one)
+            λ look. ap (λ (z : Scrub). z.lagging) (sym one)
                 ∙ cond-false (is_look heard.phase) (lagging_of heard.group.members heard.counted) r.lagging
                 (ap (λ (p : Phase). is_look p) (same.0 ∙ ap (λ (z : Coordinator). z.phase) both) ∙ look),
           )
-      by (Sends e) None None scrubs now' = (s, now', refl, refl)
-      by (Sends e) (Some job) scrub scrubs now' = (s, now', refl, refl)
-      by Ignores reading scrub scrubs now' = (s, now', refl, refl)
-      by (Waits e) reading scrub scrubs now' = (s, now', refl, refl)
-      by (Makes e) reading scrub scrubs now' = (s, now', refl, refl)
-      by (Ends answer seen stored) reading scrub scrubs now' = (s, now', refl, refl)
+      by (Sends e) None None scrubs now' = (s, now', refl, λ look. refl)
+      by (Sends e) (Some job) scrub scrubs now' = (s, now', refl, λ look. refl)
+      by Ignores reading scrub scrubs now' = (s, now', refl, λ look. refl)
+      by (Waits e) reading scrub scrubs now' = (s, now', refl, λ look. refl)
+      by (Makes e) reading scrub scrubs now' = (s, now', refl, λ look. refl)
+      by (Ends answer seen stored) reading scrub scrubs now' = (s, now', refl, λ look. refl)
+
+-- what is decided does not depend on who lagged
+pub noted_decides : (setting : Setting) (me : BrickId) (now : ℕ) (from : BrickId) (node : Node) (call : Call) (reply : Reply) (found : Option Coordinator)
+    (c : Coordinator) → decision_on setting me now from (noted_by setting me now from node call reply found) call reply c
+    ≡ decision_on setting me now from node call reply c
+noted_decides setting me now from node call reply found c =
+    noted_each setting me now from node call reply
+    (λ (n : Node). decision_on setting me now from n call reply c ≡ decision_on setting me now from node call reply c) found refl (λ r later is same. refl)
+
+-- where the operation ends nothing is noted
+pub noted_end : (setting : Setting) (me : BrickId) (now : ℕ) (from : BrickId) (node : Node) (call : Call) (reply : Reply) (c : Coordinator) (answer : Answer)
+    (seen stored : Option Stamp) → decision_on setting me now from node call reply c ≡ Ends answer seen stored
+    → noted_by setting me now from node call reply (Some c) ≡ node
+noted_end setting me now from node call reply c answer seen stored is =
+    ap (λ (z : Next). noting node (heard_by setting from call reply c) z (job_reading node.job c.call.seq) (scrub_of node.scrub c.call.seq)) is

@@ -11,7 +11,6 @@ use Rattle.fab_base.specs.declared.identities.BrickId.{BrickId}
 use Rattle.fab_base.specs.declared.identities.ViewNo.{ViewNo}
 use Rattle.fab_base.specs.declared.stamps.Stamp.{Stamp}
 use Rattle.fab_base.specs.declared.asks.Ask.{Ask}
-use Rattle.fab_base.specs.declared.answers.Answer.{Answer}
 use Rattle.fab_base.specs.Stamps.{stamp_below, stamp_same, first_stamp}
 use Rattle.fab_base.proofs.StampOrder.{stamp_same_refl, stamp_same_true, stamp_below_first}
 use Rattle.messages.specs.declared.calls.Call.{Call}
@@ -315,7 +314,8 @@ module _ (setting : Setting) (views : Views) (w : World) (stamps : Stamping) (bo
             (refl, refl, refl) (record { boot = refl; seq = omega arith; known = known_grows (w.nodes me.0).known reply }, λ l. refl, refl, refl)
             (each_none (PacketSays setting views _ stamps)),
       )
-      (let node : Node = taught_by setting w me from call reply in
+      (λ fit.
+      let node : Node = taught_by setting w me from call reply in
       let keeps = hearing_keeps setting w me from call reply in
       replied_said setting views (kept_world w me node) stamps (books_kept setting w me node books keeps)
       (said_kept setting views w stamps me books said node

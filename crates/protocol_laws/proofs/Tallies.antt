@@ -70,13 +70,14 @@ NotedLagging replies c s = (2 ≤ c.call.phase) × (s.lagging ≡ lagging_of c.g
 
 -- The open operation of number n at coordinator c of brick i, which has this scrub: in its present phase those replies counted that c has, but for those that it forgot, and
 -- none in a later one; each round of ordering before the present one had counted a later stamp; and where it looks back, it had begun so. Where some members alone
--- count, the replies are theirs; and where it is the scrub, and looks no longer for what all keep, it is noted who lagged.
+-- count, the replies are theirs; and where it is the scrub, some do, and once it looks no longer for what all keep, it is noted who lagged.
 pub record CallTallied (packets : List Packet) (replies : Replies) (i n : ℕ) (scrub : Option Scrub) (c : Coordinator) : Type 0 where
   pub now : IsTally c.phase (replies n c.call.phase) c.counted
   pub later : (p : ℕ) → c.call.phase < p → replies n p ≡ []
   pub refused : IsRound c.phase → (p : ℕ) → first_round c.phase ≤ p → p < c.call.phase → is_some (greatest_refuser (replies n p)) ≡ true
   pub back : looks_back c.phase ≡ true → BeganBack packets (replies n) i c.call
   pub alone : (only : List BrickId) → c.only ≡ Some only → CountsAlone packets (replies n) i c.call only
+  pub named : (s : Scrub) → scrub ≡ Some s → s.seq ≡ c.call.seq → is_some c.only ≡ true
   pub lagged : (s : Scrub) → scrub ≡ Some s → s.seq ≡ c.call.seq → is_look c.phase ≡ false → NotedLagging (replies n 1) c s
 
 -- a reply that counted in a phase of operation n was sent to it

@@ -227,14 +227,14 @@ module _ (setting : Setting) (w : World) (me : BrickId) (now known : ℕ) (c : C
       ap (λ (f : ℕ → List Counted). f p) (put_same w.replies n (put (w.replies n) c.call.phase (w.replies n c.call.phase ++ (one ∷ []))))
 
   -- in another phase they stay
-  replies_else : (p : ℕ) → p ≢ c.call.phase → replies n p ≡ w.replies n p
+  pub replies_else : (p : ℕ) → p ≢ c.call.phase → replies n p ≡ w.replies n p
   replies_else p other = own_replies p ∙ put_other (w.replies n) c.call.phase (w.replies n c.call.phase ++ (one ∷ [])) p other
 
-  replies_later : (p : ℕ) → c.call.phase < p → replies n p ≡ []
+  pub replies_later : (p : ℕ) → c.call.phase < p → replies n p ≡ []
   replies_later p above = replies_else p (λ same. omega arith) ∙ its.later p above
 
   -- in the present phase it is one more
-  replies_now : IsTally c.phase (replies n c.call.phase) (c.counted ++ (one ∷ []))
+  pub replies_now : IsTally c.phase (replies n c.call.phase) (c.counted ++ (one ∷ []))
   replies_now = record {
     forgotten = its.now.forgotten;
     are = own_replies c.call.phase ∙ put_same (w.replies n) c.call.phase (w.replies n c.call.phase ++ (one ∷ []))
@@ -305,7 +305,7 @@ module _ (setting : Setting) (w : World) (me : BrickId) (now known : ℕ) (c : C
   is_open = is
 
   -- where some members alone count, the replies are theirs, or the phase looks back
-  alone_now : (more : List Packet) (d : Coordinator) → SameOperation (with_reply c seat from reply) d → (only : List BrickId) → d.only ≡ Some only
+  pub alone_now : (more : List Packet) (d : Coordinator) → SameOperation (with_reply c seat from reply) d → (only : List BrickId) → d.only ≡ Some only
       → CountsAlone (w.packets ++ more) (replies n) i d.call only
   alone_now more d same only is p j x at = ⊎_elim
       (λ (old : slice_get (w.replies n p) j ≡ Some x). ⊎_elim
@@ -341,15 +341,20 @@ module _ (setting : Setting) (w : World) (me : BrickId) (now known : ℕ) (c : C
           (get_grown (w.replies n c.call.phase) (one ∷ []) a z there))
           (λ b other there. inl there) q (ap (λ (l : List Counted). slice_get l a) (sym (own_replies q)) ∙ here)
 
+  -- a scrub names members in each phase
+  named_on : (d : Coordinator) → SameOperation (with_reply c seat from reply) d → (s : Scrub) → node.scrub ≡ Some s → s.seq ≡ d.call.seq
+      → is_some d.only ≡ true
+  named_on d same s is seq = ap (λ (z : Option (List BrickId)). is_some z) same.only ∙ its.named s is (seq ∙ same.seq)
+
   -- the replies of its look, where it looks for what all keep; and it stays as it was noted who lagged, once it looks for that no longer
-  look_replies : is_look c.phase ≡ true → replies n 1 ≡ c.counted ++ (one ∷ [])
+  pub look_replies : is_look c.phase ≡ true → replies n 1 ≡ c.counted ++ (one ∷ [])
   look_replies look =
       let first : (c.call.phase ≡ 1) × (c.round ≡ 1) = look_first c c.phase (look_of c.phase look) mine.in_round in
       ap (λ (p : ℕ). replies n p) (sym first.0) ∙ replies_now.are
       ∙ ap (λ (l : List Counted). l ++ (c.counted ++ (one ∷ []))) (replies_now.whole (look_of c.phase look))
 
   -- it was noted, and is so in a later phase
-  lagged_on : (d : Coordinator) (s : Scrub) → SameOperation (with_reply c seat from reply) d → c.call.phase ≤ d.call.phase → NotedLagging (w.replies n 1) c s
+  pub lagged_on : (d : Coordinator) (s : Scrub) → SameOperation (with_reply c seat from reply) d → c.call.phase ≤ d.call.phase → NotedLagging (w.replies n 1) c s
       → NotedLagging (replies n 1) d s
   lagged_on d s same later noted =
       let two = noted.0 in (
@@ -1004,6 +1009,7 @@ module _ (setting : Setting) (w : World) (me : BrickId) (now known : ℕ) (c : C
         refused = λ round p low high. refused_before (subst (λ (x : Phase). IsRound x) fits.phase round) p (omega arith) (omega arith);
         back = λ looks. back_on [] d.call fits.same.boot fits.same.seq (omega (arith, phase)) (its.back (sym (ap (λ (p : Phase). looks_back p) fits.phase) ∙ looks));
         alone = alone_now [] d fits.same;
+        named = named_on d fits.same;
         lagged = λ s at seq isnt.
             lagged_on d s fits.same (omega (arith, phase)) (its.lagged s at (seq ∙ fits.same.seq) (ap (λ (p : Phase). is_look p) (sym fits.phase) ∙ isnt));
       }))
@@ -1020,6 +1026,7 @@ module _ (setting : Setting) (w : World) (me : BrickId) (now known : ℕ) (c : C
         refused = refused_sends d fits phase;
         back = back_sends (phase_packets setting me d) d fits (later.asks_back i k d (at_next (max known d.stamp.time) node.busy d) None);
         alone = alone_now (phase_packets setting me d) d fits.same;
+        named = named_on d fits.same;
         lagged = lagged_begins d fits.same phase (λ s. noted s d refl);
       }))
       unbegun (counted_next (after (Sends d)) on) (λ a p m cause at. inl at) (λ m e cause at ended. inl (e, at, ended))
@@ -1035,6 +1042,7 @@ module _ (setting : Setting) (w : World) (me : BrickId) (now known : ℕ) (c : C
         refused = λ round p low high. absurd (making_unordered d fits.phase round);
         back = λ looks. absurd (false≢true (sym (making_ahead d fits.phase) ∙ looks));
         alone = alone_now (phase_packets setting me d) d fits.same;
+        named = named_on d fits.same;
         lagged = lagged_begins d fits.same phase (λ s at seq look. absurd (fits.later (look_of c.phase look)));
       }))
       unbegun (counted_next (after (Makes d)) on) (λ a p m cause at. inl at)

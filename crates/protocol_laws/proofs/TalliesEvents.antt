@@ -6,7 +6,6 @@ use Rattle.std.proofs.lemmas.Bool.{cases_eq, and_parts, false≢true}
 use Rattle.fab_base.specs.declared.identities.BrickId.{BrickId}
 use Rattle.fab_base.specs.declared.asks.Ask.{Ask}
 use Rattle.fab_base.specs.declared.stamps.Stamp.{Stamp}
-use Rattle.fab_base.specs.declared.answers.Answer.{Answer}
 use Rattle.fab_base.specs.declared.answers.Answer.TheVariants.{Aborted}
 use Rattle.messages.specs.declared.calls.Call.{Call}
 use Rattle.messages.specs.declared.packets.Message.{Message}
@@ -52,11 +51,11 @@ use Rattle.protocol.proofs.Tables.{put_each, put_same, get_kept, get_grown, get_
 use Rattle.protocol_laws.proofs.Tallies.{Tallied, MessagesShow}
 use Rattle.protocol_laws.proofs.TalliesKept.{call_tallied_on, known_kept, tallied_on, LagsAs, lags_same}
 use Rattle.protocol_laws.proofs.TalliesReads.{tallied_quiet, tallied_opened, tallied_read, tallied_idle, tallied_after_close, tallied_scrub, tallied_after_scrub}
-use Rattle.protocol_laws.proofs.Closing.{ClosesNone, closing_each, closed_world, closed_no_read, carried_noted}
+use Rattle.protocol_laws.proofs.Closing.{closing_each, closed_world, closed_no_read, carried_noted}
 use Rattle.view_laws.proofs.SyncReads.{synced_at_each, scrubbed_at_each}
 use Rattle.protocol_laws.proofs.TalliesCounts.{dropper_ahead, tallied_counted, tallied_closed}
 use Rattle.protocol.proofs.Events.{EventCases, world_handled, run_along}
-use Rattle.protocol.specs.Scrubs.{Scrub, scrub_answer, is_look, lagging_of}
+use Rattle.protocol.specs.Scrubs.{Scrub, scrub_answer, lagging_of}
 use Rattle.fab_base.specs.declared.identities.StripeNo.{StripeNo}
 use Rattle.protocol_laws.proofs.Noting.{noted_by, replied_noted, noting_each, noted_keeps, IsNoted, noted_is, noted_lags}
 use Rattle.std.specs.Option.{option_map}
@@ -539,7 +538,7 @@ unfolding request_of
 asks_old code c bound now seat = ap (λ (p : Phase). request_of code (record c { phase = p }) seat) now
 
 -- what is said of a world is what its messages should show
-messages_show : (setting : Setting) (views : Views) (w : World) (stamps : Stamping) → Books setting w → Said setting views w stamps → MessagesShow w
+pub messages_show : (setting : Setting) (views : Views) (w : World) (stamps : Stamping) → Books setting w → Said setting views w stamps → MessagesShow w
 messages_show setting views w stamps books said = record {
   later = λ call from to x sent. said.packets sent.0 (record { from = from; to = to; message = Message.Reply call (Reply.Later x) }) sent.1;
   orders_alone = orders_alone setting views w stamps books said;

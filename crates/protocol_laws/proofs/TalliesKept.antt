@@ -72,15 +72,15 @@ alone_on packets more replies later i call next only sent same boot seq alone p 
     (λ (back : AskedBack packets i call p). inr (asked_on_back packets more i call next p sent boot seq back))
     (alone p j x (ap (λ (l : List Counted). slice_get l j) (sym (same p)) ∙ at))
 
--- A brick's scrub, if it has this call, was one of the call as well, with the same members that lagged, where the call looks no longer for what all keep.
+-- A brick's scrub, if it has this call, was one of the call as well, with the same members that lagged, once the call looks no longer for what all keep.
 abbrev pub LagsAs : Option Scrub → Option Scrub → Coordinator → Type 0
 LagsAs scrub later c =
-    (s : Scrub) → later ≡ Some s → s.seq ≡ c.call.seq → is_look c.phase ≡ false
-    → (r : Scrub) × (scrub ≡ Some r) × (r.seq ≡ s.seq) × (s.lagging ≡ r.lagging)
+    (s : Scrub) → later ≡ Some s → s.seq ≡ c.call.seq
+    → (r : Scrub) × (scrub ≡ Some r) × (r.seq ≡ s.seq) × (is_look c.phase ≡ false → s.lagging ≡ r.lagging)
 
 -- it is the same
 pub lags_same : (scrub later : Option Scrub) (c : Coordinator) → later ≡ scrub → LagsAs scrub later c
-lags_same scrub later c same s is seq look = (s, sym same ∙ is, refl, refl)
+lags_same scrub later c same s is seq = (s, sym same ∙ is, refl, λ look. refl)
 
 -- an operation whose replies stay
 pub call_tallied_on : (packets more : List Packet) (replies later : Replies) (i n m : ℕ) (scrub other : Option Scrub) (c : Coordinator)
@@ -100,11 +100,12 @@ call_tallied_on packets more replies later i n m scrub other c sent number same 
       refused = λ round p low high. ap (λ (l : List Counted). is_some (greatest_refuser l)) (same p) ∙ tallied.refused round p low high;
       back = λ looks. began_on packets more (replies n) (later n) i c.call c.call sent (λ p less. same p) refl refl (omega arith) (tallied.back looks);
       alone = λ only is. alone_on packets more (replies n) (later n) i c.call c.call only sent same refl refl (tallied.alone only is);
+      named = λ s is seq. (let was = lags s is seq in tallied.named was.0 was.1 (was.2 ∙ seq));
       lagged = λ s is seq look.
-          (let was = lags s is seq look in
+          (let was = lags s is seq in
           let noted : NotedLagging (replies n 1) c was.0 = tallied.lagged was.0 was.1 (was.2 ∙ seq) look in (
             noted.0,
-            was.3 ∙ noted.1 ∙ ap (λ (l : List Counted). lagging_of c.group.members l) (sym (same 1)),
+            was.3 look ∙ noted.1 ∙ ap (λ (l : List Counted). lagging_of c.group.members l) (sym (same 1)),
           ));
     })
 

@@ -1,5 +1,5 @@
 -- The history of replies where nothing is told of operations, where one begins, and where a read of a brick's own was closed.
-use Rattle.std.proofs.Common.{◌≡◌, ℕ, ◌+◌, ◌⊎◌, inl, inr, ⊎_elim, Bool, Option, Some, None, List, [], ◌∷◌, ◌++◌, refl, sym, ap, ◌∙◌, subst, arith, true}
+use Rattle.std.proofs.Common.{◌≡◌, ℕ, ◌+◌, ◌⊎◌, inl, inr, ⊎_elim, Bool, Option, Some, None, List, [], ◌∷◌, ◌++◌, refl, sym, ap, ◌∙◌, subst, arith, true, is_some}
 use Rattle.std.specs.Prelude.{slice_get}
 use Rattle.std.proofs.lemmas.Bool.{false≢true}
 use Rattle.std.proofs.lemmas.Option.{same_Some}
@@ -17,15 +17,15 @@ use Rattle.reg_model.specs.declared.marks.Mark.TheVariants.{End}
 use Rattle.protocol.specs.declared.tellings.Report.{Report}
 use Rattle.protocol.specs.Settings.{Setting}
 use Rattle.protocol.specs.Coordinators.{Coordinator}
-use Rattle.protocol.specs.Jobs.{Job, JobNext, job_ask, synced_answer}
-use Rattle.protocol.specs.Nodes.{Node, NodeStep, put, coordinator_in, reading, read_begun_by, with_job, phase_packets, synced_packets, top_at, begun_aside, scrubbing, scrub_coordinator, scrub_ended}
+use Rattle.protocol.specs.Jobs.{Job, JobNext, synced_answer}
+use Rattle.protocol.specs.Nodes.{Node, NodeStep, put, reading, read_begun_by, with_job, phase_packets, synced_packets, top_at, begun_aside, scrubbing, scrub_coordinator, scrub_ended}
 use Rattle.protocol.specs.Worlds.{World, Operation, Choices, number_of, world_stepped, with_held, choices_after}
 use Rattle.protocol.proofs.Puts.{put_other}
 use Rattle.protocol.proofs.Tables.{put_each, get_kept, put_same}
 use Rattle.view_laws.proofs.SyncReads.{read_call}
 use Rattle.protocol_laws.specs.Laws.{WasSent, Evidence, order_of}
 use Rattle.protocol_laws.proofs.Books.{Books, IsCall, IsOperation, ForJob, ForScrub}
-use Rattle.protocol_laws.proofs.BooksKept.{KeepsNumbers, HasNoRead, cases_call}
+use Rattle.protocol_laws.proofs.BooksKept.{KeepsNumbers, HasNoRead, cases_call, own_called}
 use Rattle.protocol_laws.proofs.BooksQuiet.{quiet_world}
 use Rattle.protocol_laws.proofs.BooksBegins.{Opens, opened_world, opened_operation, new_call, old_calls, boots_stay, new_at, old_at, times, coordinator_of, reading_opens, scrubbing_opens}
 use Rattle.protocol_laws.proofs.BooksEvents.{keeps_put}
@@ -40,6 +40,7 @@ use Rattle.fab_base.specs.declared.identities.StripeNo.{StripeNo}
 use Rattle.fab_base.specs.declared.identities.GroupId.{GroupId}
 use Rattle.messages.specs.declared.calls.Call.{Call}
 use Rattle.protocol.specs.declared.phases.Counted.{Counted}
+use Rattle.std.specs.Option.{option_map}
 
 module _ (setting : Setting) (w : World) (books : Books setting w) (tallied : Tallied w) where
   -- a step that changes no operation
@@ -82,7 +83,7 @@ module _ (setting : Setting) (w : World) (books : Books setting w) (tallied : Ta
     abbrev n : ℕ
     n = w.begun + 1
 
-    new_tallied : ((s : Scrub) → after.scrub ≡ Some s → s.seq ≡ k → is_look c.phase ≡ true) → CallTallied packets w.replies brick.0 n after.scrub c
+    new_tallied : ((s : Scrub) → after.scrub ≡ Some s → s.seq ≡ k → (is_look c.phase ≡ true) × (is_some only ≡ true)) → CallTallied packets w.replies brick.0 n after.scrub c
     new_tallied looks_first = record {
       now = record {
         whole = λ look. refl;
@@ -97,11 +98,12 @@ module _ (setting : Setting) (w : World) (books : Books setting w) (tallied : Ta
       back = λ looks. absurd (false≢true (sym (first_ahead ask.op) ∙ looks));
       alone = λ members is p j x at.
           absurd (let never : None ≡ Some x = ap (λ (l : List Counted). slice_get l j) (sym (tallied.unbegun n p (omega arith))) ∙ at in cc);
-      lagged = λ s is seq isnt. absurd (false≢true (sym isnt ∙ looks_first s is seq));
+      named = λ s is seq. (looks_first s is seq).1;
+      lagged = λ s is seq isnt. absurd (false≢true (sym isnt ∙ (looks_first s is seq).0));
     }
 
     -- the brick has the scrub that it had, but for a new one, whose call it is
-    pub tallied_opened : OrdersAlone next → ((s : Scrub) → after.scrub ≡ Some s → s.seq ≡ k → is_look c.phase ≡ true)
+    pub tallied_opened : OrdersAlone next → ((s : Scrub) → after.scrub ≡ Some s → s.seq ≡ k → (is_look c.phase ≡ true) × (is_some only ≡ true))
         → ((s : Scrub) → after.scrub ≡ Some s → ((w.nodes brick.0).scrub ≡ Some s) ⊎ (s.seq ≡ k)) → StaySent w.packets packets
         → ((a p m : ℕ) (cause : Cause) → slice_get marks a ≡ Some (End p m (Aborted cause)) → slice_get w.marks a ≡ Some (End p m (Aborted cause)))
         → Tallied next
@@ -136,8 +138,8 @@ module _ (setting : Setting) (w : World) (books : Books setting w) (tallied : Ta
         (old_at setting w brick now ask kept view only after held packets marks marked mark floor choices opens j l other)
         (λ p. refl)
         (put_each (λ x (y : Node). (x ≡ brick.0 → e.call.seq ≡ k → ⊥) → LagsAs (w.nodes x).scrub y.scrub e) w.nodes brick.0 after
-        (λ unlike s is seq look. ⊎_elim
-        (λ (was : (w.nodes brick.0).scrub ≡ Some s). (s, was, refl, refl))
+        (λ unlike s is seq. ⊎_elim
+        (λ (was : (w.nodes brick.0).scrub ≡ Some s). (s, was, refl, λ look. refl))
         (λ (fresh : s.seq ≡ k). absurd (unlike refl (sym seq ∙ fresh)))
         (scrubs s is))
         (λ x unlike apart. lags_same (w.nodes x).scrub (w.nodes x).scrub e refl) j
@@ -157,13 +159,14 @@ module _ (setting : Setting) (w : World) (books : Books setting w) (tallied : Ta
   tallied_aside : (me : BrickId) (now : ℕ) (number : GroupId) (stripe : StripeNo) (kept : Group) (view : View) (only : Option (List BrickId)) (later : Node)
       → (let its = coordinator_of kept view only me now (w.nodes me.0) (scrub_ask number stripe) in
       Opens (w.nodes me.0) later its
+      → ((s : Scrub) → later.scrub ≡ Some s → s.seq ≡ (w.nodes me.0).seq + 1 → is_some only ≡ true)
       → ((s : Scrub) → later.scrub ≡ Some s → ((w.nodes me.0).scrub ≡ Some s) ⊎ (s.seq ≡ (w.nodes me.0).seq + 1))
       → (let next : World = world_stepped setting w me (begun_aside setting me later its) in OrdersAlone next → Tallied next))
-  tallied_aside me now number stripe kept view only later opens scrubs alone =
+  tallied_aside me now number stripe kept view only later opens named scrubs alone =
       let its : Coordinator = coordinator_of kept view only me now (w.nodes me.0) (scrub_ask number stripe) in
       tallied_opened me now (scrub_ask number stripe) kept view only later (with_held w.held me.0 later) (w.packets ++ phase_packets setting me its) w.marks w.marked 0
       (λ i. top_at (put w.nodes me.0 later i) number.0 stripe.0) (choices_after w.choices me later []) opens alone
-      (λ s is seq. refl) scrubs
+      (λ s is seq. (refl, named s is seq)) scrubs
       (λ packet sent. (sent.0, get_kept w.packets (phase_packets setting me its) sent.0 packet sent.1)) (λ a p m cause is. is)
 
   -- one of a synchronisation
@@ -173,7 +176,10 @@ module _ (setting : Setting) (w : World) (books : Books setting w) (tallied : Ta
   tallied_read me now job group none =
       let its : Coordinator = read_call group job me now (w.nodes me.0) in
       tallied_aside me now job.group (record { 0 = job.attempt.stripe }) group job.view None (reading (w.nodes me.0) job its)
-      (reading_opens (w.nodes me.0) job its none refl) (λ s is. inl is)
+      (reading_opens (w.nodes me.0) job its none refl)
+      (λ s is seq.
+      absurd (let made = own_called setting w me.0 s.seq books (books.scrubs me.0 s.seq (ap (option_map (λ (z : Scrub). z.seq)) is)) in omega (arith, made, seq)))
+      (λ s is. inl is)
 
   -- a scrub
   pub tallied_scrub : (me : BrickId) (now : ℕ) (number : GroupId) (stripe : StripeNo) (members : List BrickId) (group : Group)
@@ -183,7 +189,7 @@ module _ (setting : Setting) (w : World) (books : Books setting w) (tallied : Ta
   tallied_scrub me now number stripe members group none =
       let its : Coordinator = scrub_coordinator group me now (w.nodes me.0) number stripe members in
       tallied_aside me now number stripe group ((w.nodes me.0).learnt number.0).view (Some members) (scrubbing (w.nodes me.0) its)
-      (scrubbing_opens (w.nodes me.0) its none refl) (λ s is. inr (ap (λ (z : Scrub). z.seq) (sym (same_Some (record { seq = its.call.seq; lagging = [] }) s is))))
+      (scrubbing_opens (w.nodes me.0) its none refl) (λ s is seq. refl) (λ s is. inr (ap (λ (z : Scrub). z.seq) (sym (same_Some (record { seq = its.call.seq; lagging = [] }) s is))))
 
   -- a brick's synchronisation ends, or its scrub, or it does nothing
   pub tallied_idle : (me : BrickId) (job : Option Job) (scrub : Option Scrub) (packets : List Packet) (reports : List Report)
@@ -195,7 +201,7 @@ module _ (setting : Setting) (w : World) (books : Books setting w) (tallied : Ta
       tallied_quiet (put w.nodes me.0 node) (with_held w.held me.0 node) w.clocks (w.packets ++ packets) w.reached _ alone
       (keeps_put w me.0 node (record { boot = refl; seq = omega arith; known = omega arith }))
       (λ j l. put_each (λ (x : ℕ) (y : Node). y.calls l ≡ (w.nodes x).calls l) w.nodes me.0 node refl (λ x other. refl) j)
-      (λ j l c is. put_each (λ (x : ℕ) (y : Node). LagsAs (w.nodes x).scrub y.scrub c) w.nodes me.0 node (λ s at seq look. (s, had s at, refl, refl))
+      (λ j l c is. put_each (λ (x : ℕ) (y : Node). LagsAs (w.nodes x).scrub y.scrub c) w.nodes me.0 node (λ s at seq. (s, had s at, refl, λ look. refl))
       (λ x other. lags_same (w.nodes x).scrub (w.nodes x).scrub c refl) j)
       (λ packet sent. (sent.0, get_kept w.packets packets sent.0 packet sent.1))
 
