@@ -27,6 +27,7 @@ pub mod ScrubsBeside
 pub mod ScrubSteps
 pub mod ScrubReplies
 pub mod ScrubCalls
+pub mod NamedQuorums
 pub mod Following
 pub mod Reading
 pub mod Underway

@@ -171,21 +171,27 @@ impl Tasks {
     pub(crate) fn is_open(&self, seq: u64) -> bool
         ensures { (kept : KeptParts) → result ≡ is_some ((tasks_in kept self.now).calls seq) }
     {
-        self.reads(seq) || self.is_scrub(seq) || self.work.calls.is_open(seq)
+        if self.is_scrub(seq) {
+            return true;
+        }
+        if self.reads(seq) {
+            return true;
+        }
+        self.work.calls.is_open(seq)
     }
 
     /// The view of the open operation of a call, of the read of the synchronisation, or of the scrub. None where there is none.
     pub(crate) fn view_of(&self, seq: u64) -> Option<View>
         ensures { (kept : KeptParts) → result ≡ option_map view_in ((tasks_in kept self.now).calls seq) }
     {
-        if self.reads(seq) {
-            return match &self.job {
+        if self.is_scrub(seq) {
+            return match &self.scrub {
                 Some(open) => Some(open.view()),
                 None => unreachable!(),
             };
         }
-        if self.is_scrub(seq) {
-            return match &self.scrub {
+        if self.reads(seq) {
+            return match &self.job {
                 Some(open) => Some(open.view()),
                 None => unreachable!(),
             };
