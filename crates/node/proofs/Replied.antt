@@ -33,9 +33,9 @@ waits_is layout me node known c (Sends d) held = refl
 waits_is layout me node known c (Makes d) held = refl
 waits_is layout me node known c (Ends answer seen stored) held = refl
 
--- what a brick does with a reply to an open operation that no synchronisation reads by
+-- what a brick without a scrub does with a reply to an open operation that no synchronisation reads by
 pub replied_is : (layout : Layout) (me : BrickId) (now : ℕ) (from : BrickId) (node : Node) (call : Call) (reply : Reply) (c : Coordinator)
-    → node.calls call.seq ≡ Some c → c.call.seq ≡ call.seq → job_reading node.job c.call.seq ≡ None
+    → node.calls call.seq ≡ Some c → c.call.seq ≡ call.seq → job_reading node.job c.call.seq ≡ None → node.scrub ≡ None
     → (let known = known_after node.known reply in
     replied_at (coding layout) me now from node call reply (node.calls call.seq)
     ≡ carried_out (coding layout) me node known c

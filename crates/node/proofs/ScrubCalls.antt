@@ -329,3 +329,15 @@ pub open_scrub : (scrub : Option OpenScrub) (f : ℕ → Option Coordinator) (se
 open_scrub None f seq scrubs = absurd scrubs
 open_scrub (Some s) f seq scrubs =
     ap (λ (b : Bool). is_some (cond b (Some (scrub_coordinator_of s)) (f seq))) (eq_turned seq (scrub_seq s) ∙ scrubs)
+
+-- a synchronisation is of the brick still, where a call was made of something else
+pub job_made : (layout : Layout) (before after : OpenCalls) (job : Option OpenJob) → after.operations ≡ before.operations → before.seq ≤ after.seq
+    → IsJobIn layout before job → IsJobIn layout after job
+job_made layout before after None same later is = tt
+job_made layout before after (Some held) same later is =
+    let made = is.made in
+    record {
+      open_is = is.open_is;
+      made = omega (arith, made, later);
+      apart = ap (λ (operations : BTreeMap ℕ Operation). get nat_cmp operations (read_seq held)) same ∙ is.apart;
+    }

@@ -97,7 +97,7 @@ returns c =
           c.close_answered.ensures.calls in
           let f = λ (q : ℕ). option_map coordinator_of (get nat_cmp m q) in
           steps_as me _ _ _ outs
-          (replied_is layout me c.args.now from before call reply k (ap (option_map coordinator_of) held) at.seq refl)
+          (replied_is layout me c.args.now from before call reply k (ap (option_map coordinator_of) held) at.seq refl refl)
           (record {
             packets = carried.packets me ∙ sym (does_send layout me before known k next);
             told = carried.told ∙ sym (does_tell layout me before known k next);
