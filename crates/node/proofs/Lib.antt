@@ -40,4 +40,5 @@ pub mod Ballots
 pub mod CountsHere
 pub mod Proposed
 pub mod Syncing
+pub mod ScrubBegins
 pub mod KeptBricks
