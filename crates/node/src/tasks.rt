@@ -619,8 +619,8 @@ impl Tasks {
         let Some(open) = &self.job else {
             return Ok(messages);
         };
-        let mut last = open.on_tick(alloc)?;
-        messages.append(&mut last)?;
+        let mut read = open.on_tick(alloc)?;
+        messages.append(&mut read)?;
         Ok(messages)
     }
 
