@@ -1,6 +1,6 @@
 -- The brick begins the scrub that is under way then.
 use Rattle.std.proofs.Common.{◌≡◌, ◌≤◌, true, false, not, length, List, Option, Some, None, refl, sym, ◌∙◌, ap, subst, rules}
-use Rattle.std.specs.Option.{option_copied, option_map}
+use Rattle.std.specs.Option.{IfSome, option_copied, option_map}
 use Rattle.fab_base.specs.declared.answers.Refusal.{Refusal}
 use Rattle.fab_base.specs.Layouts.{Group, group_of}
 use Rattle.quorum.specs.Quorums.{IsWithinLimits}
@@ -9,6 +9,8 @@ use Rattle.protocol.specs.Views.{kept_by}
 use Rattle.protocol.specs.Nodes.{Node, NodeStep, scrub_refusal, scrub_refusal_in, scrubbed_at}
 use Rattle.stripe_code.specs.Codes.{coding}
 use Rattle.coord_phase.specs.Operations.{PriorIsWithinLimits, group_in_view}
+use Rattle.node.specs.Outcomes.{Outcome}
+use Rattle.node.specs.Scrubs.{scrubbed_by}
 use Rattle.node.specs.States.{StepsAs, parts_in}
 use Rattle.node.specs.Running.{Running, running, state_of}
 use Rattle.node.specs.Tasks.{tasks_in}
@@ -85,4 +87,6 @@ returns-in-Some-outs-clause-step g c =
     (λ (n : Node). scrubbed_at (coding x.layout) me now n c.args.group c.args.stripe c.args.members.now) c.in-Some-outs.outs c.scrub.ensures.same.boot
     (subst (λ (step : NodeStep). StepsAs me (tasks_in (parts_in x.layout x.store.state) c.scrub.new.self) step c.in-Some-outs.outs)
     (sym (scrubbed_so x.layout me now node c.args.group c.args.stripe c.args.members.now c.in-Some.kept.now view (c.learnt_view-view.ensures.view x.layout found) found))
-    ?))
+    (subst (λ (o : Option Outcome). IfSome o (StepsAs me (tasks_in (parts_in x.layout x.store.state) c.scrub.new.self)
+    (scrubbed_by (coding x.layout) (group_in_view x.layout view.members c.args.group.0) view now c.args.group c.args.stripe c.args.members.now me node)))
+    c.in-Some-outs.is (c.in_ok-scrub.ensures.step (parts_in x.layout x.store.state)))))
