@@ -27,6 +27,7 @@ pub mod ScrubsBeside
 pub mod ScrubSteps
 pub mod ScrubReplies
 pub mod ScrubCalls
+pub mod NamedQuorums
 pub mod Following
 pub mod Reading
 pub mod Underway
@@ -39,4 +40,5 @@ pub mod Ballots
 pub mod CountsHere
 pub mod Proposed
 pub mod Syncing
+pub mod ScrubBegins
 pub mod KeptBricks

@@ -1,5 +1,5 @@
 -- The scrub of a brick, beside the synchronisation.
-use Rattle.std.proofs.Common.{◌≡◌, ◌≤◌, ◌+◌, ℕ, Bool, true, false, cond, if◌then◌else◌, nat_eq, List, [], ◌∷◌, ◌++◌, Option, Some, None, is_some, option_to_list, refl, sym, ◌∙◌, ap, subst, arith}
+use Rattle.std.proofs.Common.{◌≡◌, ◌≤◌, ◌+◌, ℕ, Bool, true, false, cond, if◌then◌else◌, nat_eq, List, [], ◌∷◌, ◌++◌, Option, Some, None, is_some, not, option_to_list, refl, sym, ◌∙◌, ap, subst, arith}
 use Rattle.std.specs.Option.{option_map}
 use Rattle.std.specs.Ordering.{nat_cmp}
 use Rattle.std.specs.BTreeMap.{BTreeMap, get}
@@ -34,12 +34,12 @@ use Rattle.node.specs.declared.open_work.OpenWork.{OpenWork}
 use Rattle.node.specs.declared.operations.Operation.{Operation}
 use Rattle.node.specs.declared.scrubs.OpenScrub.{OpenScrub}
 use Rattle.node.specs.declared.tasks.Tasks.{Tasks}
-use Rattle.node.specs.Jobs.{Reading, reading_in, with_reading}
+use Rattle.node.specs.Jobs.{Reading, calls_with, reading_in, with_reading}
 use Rattle.node.specs.Moves as moves
 use Rattle.node.specs.Operations.{EndsOrWaits, coordinator_of, shown_of}
-use Rattle.node.specs.Scrubs.{GoesOnFrom, HasCountedScrub, IsScrubAside, IsScrubOf, ScrubsAt, end_outs, phase_of, scrub_at, scrub_coordinator_of, scrub_seq, scrub_shown, scrub_step, scrubbing_in, scrubbing_of, with_scrubbing}
+use Rattle.node.specs.Scrubs.{GoesOnFrom, HasCountedScrub, IsScrubAside, IsScrubOf, ScrubsAt, calls_with_scrub, phase_of, scrub_at, scrub_coordinator_of, scrub_seq, scrub_shown, scrub_step, scrubbing_in, scrubbing_of, with_scrubbing}
 use Rattle.node.specs.States.{KeptParts, state_in, state_with}
-use Rattle.node.specs.Tasks.{ApartFromJob, IsJobAt, IsScrubAt, IsScrubIn, counts_among, counts_at as counts_here, counts_beside, read_seq}
+use Rattle.node.specs.Tasks.{ApartFromJob, IsJobAt, IsJobIn, IsScrubAt, IsScrubIn, ReadsAt, counts_among, counts_at as counts_here, counts_beside, read_seq}
 use Rattle.node.proofs.Beside.{ApartFrom, calls_apart, eq_same, eq_turned}
 use Rattle.node.proofs.Hearing.{none_of}
 use Rattle.node.proofs.ScrubReplies.{hearing_is}
@@ -75,6 +75,30 @@ pub aside_next : (layout : Layout) (calls : OpenCalls) (job : Option OpenJob) (s
     → IsScrubAside scrub (calls.seq + 1)
 aside_next layout calls job None is = tt
 aside_next layout calls job (Some held) is = let made = is.made in grind (arith, nat_tests)
+
+-- it is of the brick still, where the operations are as they were, and the synchronisation
+pub scrub_heard : (layout : Layout) (before after : OpenCalls) (job : Option OpenJob) (scrub : Option OpenScrub) → after.operations ≡ before.operations
+    → after.seq ≡ before.seq → IsScrubIn layout before job scrub → IsScrubIn layout after job scrub
+scrub_heard layout before after job None same last is = tt
+scrub_heard layout before after job (Some held) same last is =
+    record {
+      scrub_is = is.scrub_is;
+      made = subst (λ (n : ℕ). scrub_seq held ≤ n) (sym last) is.made;
+      apart = ap (λ (operations : BTreeMap ℕ Operation). get nat_cmp operations (scrub_seq held)) same ∙ is.apart;
+      aside = is.aside;
+    }
+
+-- and where the read has the same call
+pub scrub_stays : (layout : Layout) (before after : OpenCalls) (held now : OpenJob) (scrub : Option OpenScrub) → after.operations ≡ before.operations
+    → after.seq ≡ before.seq → read_seq now ≡ read_seq held → IsScrubIn layout before (Some held) scrub → IsScrubIn layout after (Some now) scrub
+scrub_stays layout before after held now None same last seq is = tt
+scrub_stays layout before after held now (Some s) same last seq is =
+    record {
+      scrub_is = is.scrub_is;
+      made = subst (λ (n : ℕ). scrub_seq s ≤ n) (sym last) is.made;
+      apart = ap (λ (operations : BTreeMap ℕ Operation). get nat_cmp operations (scrub_seq s)) same ∙ is.apart;
+      aside = ap (λ (n : ℕ). nat_eq n (scrub_seq s)) seq ∙ is.aside;
+    }
 
 -- no operation, and no read, has the call of a new scrub, which is one of the brick
 pub scrub_is_at : (layout : Layout) (before after : OpenCalls) (job : Option OpenJob) (held : OpenScrub) → after.operations ≡ before.operations
@@ -242,3 +266,78 @@ pub told_then : (version ended begun : Option Told) (last : Told) → begun ≡ 
 told_then version ended begun last none =
     told_by version ended last
     ∙ ap (λ (o : Option Told). (option_to_list version ++ (option_to_list ended ++ option_to_list o)) ++ (last ∷ [])) (sym none)
+
+-- a scrub that goes on is of the brick still
+pub scrub_goes_on : (layout : Layout) (before after : OpenCalls) (job : Option OpenJob) (held now : OpenScrub) → after.operations ≡ before.operations
+    → after.seq ≡ before.seq → scrub_seq now ≡ scrub_seq held → IsScrubOf layout now → IsScrubAt layout before job held → IsScrubAt layout after job now
+scrub_goes_on layout before after job held now same last seq of is =
+    record {
+      scrub_is = of;
+      made = subst (λ (n : ℕ). n ≤ after.seq) (sym seq) (subst (λ (n : ℕ). scrub_seq held ≤ n) (sym last) is.made);
+      apart = (λ i. get nat_cmp (same i) (seq i)) ∙ is.apart;
+      aside = by job is.aside;
+    }
+  where
+    by : (j : Option OpenJob) → ApartFromJob j held → ApartFromJob j now
+    by None aside = tt
+    by (Some j) aside = ap (λ (n : ℕ). nat_eq (read_seq j) n) seq ∙ aside
+
+-- nothing is reported
+pub none_reported : (o : Option Report) (b : Bool) → b ≡ not (is_some o) → b ≡ true → option_to_list o ≡ []
+none_reported None b is none = refl
+none_reported (Some x) b is none = absurd cc
+
+-- something is
+pub one_reported : (o : Option Report) (b : Bool) → b ≡ not (is_some o) → b ≡ false → (x : Report) × (option_to_list o ≡ x ∷ [])
+one_reported None b is some = absurd cc
+one_reported (Some x) b is some = (x, refl)
+
+-- a synchronisation is of the brick still, where the operations are as they were
+pub job_heard : (layout : Layout) (before after : OpenCalls) (job : Option OpenJob) → after.operations ≡ before.operations → after.seq ≡ before.seq
+    → IsJobIn layout before job → IsJobIn layout after job
+job_heard layout before after None same last is = tt
+job_heard layout before after (Some held) same last is =
+    record {
+      open_is = is.open_is;
+      made = subst (λ (n : ℕ). read_seq held ≤ n) (sym last) is.made;
+      apart = ap (λ (operations : BTreeMap ℕ Operation). get nat_cmp operations (read_seq held)) same ∙ is.apart;
+    }
+
+-- numbers that test the same are equal
+pub eq_so : (a b : ℕ) → nat_eq a b ≡ true → a ≡ b
+eq_so a b e = grind (arith, nat_tests, e)
+
+-- ---- what is open
+
+-- a call is open where the read has it
+some_either : (b : Bool) (c : Coordinator) (o : Option Coordinator) → is_some o ≡ true → is_some (cond b (Some c) o) ≡ true
+some_either true c o e = refl
+some_either false c o e = e
+
+pub open_read : (job : Option OpenJob) (scrub : Option OpenScrub) (f : ℕ → Option Coordinator) (seq : ℕ) → ReadsAt job seq
+    → is_some (calls_with_scrub (scrubbing_in scrub) (calls_with (reading_in job) f) seq) ≡ true
+open_read None scrub f seq reads = absurd reads
+open_read (Some held) None f seq reads =
+    ap (λ (b : Bool). is_some (cond b (Some (coordinator_of held.read)) (f seq))) (eq_turned seq (read_seq held) ∙ reads)
+open_read (Some held) (Some s) f seq reads =
+    some_either (nat_eq seq (scrub_seq s)) (scrub_coordinator_of s) _
+    (ap (λ (b : Bool). is_some (cond b (Some (coordinator_of held.read)) (f seq))) (eq_turned seq (read_seq held) ∙ reads))
+
+-- or the scrub
+pub open_scrub : (scrub : Option OpenScrub) (f : ℕ → Option Coordinator) (seq : ℕ) → ScrubsAt scrub seq
+    → is_some (calls_with_scrub (scrubbing_in scrub) f seq) ≡ true
+open_scrub None f seq scrubs = absurd scrubs
+open_scrub (Some s) f seq scrubs =
+    ap (λ (b : Bool). is_some (cond b (Some (scrub_coordinator_of s)) (f seq))) (eq_turned seq (scrub_seq s) ∙ scrubs)
+
+-- a synchronisation is of the brick still, where a call was made of something else
+pub job_made : (layout : Layout) (before after : OpenCalls) (job : Option OpenJob) → after.operations ≡ before.operations → before.seq ≤ after.seq
+    → IsJobIn layout before job → IsJobIn layout after job
+job_made layout before after None same later is = tt
+job_made layout before after (Some held) same later is =
+    let made = is.made in
+    record {
+      open_is = is.open_is;
+      made = omega (arith, made, later);
+      apart = ap (λ (operations : BTreeMap ℕ Operation). get nat_cmp operations (read_seq held)) same ∙ is.apart;
+    }

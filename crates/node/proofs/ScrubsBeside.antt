@@ -268,3 +268,9 @@ ticked_beside_scrub setting me s node quiet free aside =
         sym (puts_apart (put node.calls s.scrub.seq (Some s.call)) s.scrub.seq job.seq None None (eq_turned s.scrub.seq job.seq ∙ aside))
         ∙ ap (λ (f : ℕ → Option Coordinator). put f job.seq None)
         (put_twice node.calls s.scrub.seq (Some s.call) None ∙ put_same node.calls s.scrub.seq None free)
+
+-- why an operation does not begin
+pub refusal_beside_both : (layout : Layout) (s : Option Scrubbing) (r : Option Reading) (node : Node) (ask : Ask)
+    → refusal_of layout (with_scrubbing s (with_reading r node)) ask ≡ refusal_of layout node ask
+unfolding refusal_of
+refusal_beside_both layout s r node ask = refl

@@ -48,7 +48,7 @@ restarts_so layout me tasks store boot node image own same fresh shows counted =
     (λ g e. ap (λ (st : StateOf Version). live_at st g e) is ∙ sym (shows.parts.live_in g e))
     (λ g. ap (λ (st : StateOf Version). learnt_in layout st g) is ∙ sym (shows.parts.learnt g))
     (λ g. ap (λ (st : StateOf Version). ballots_in st g) is ∙ sym (shows.parts.ballots g))
-    (λ g e s. ap (λ (st : StateOf Version). part_in layout.block st g e s) is ∙ sym (shows.parts.replicas g e s)) (λ k. refl) refl refl
+    (λ g e s. ap (λ (st : StateOf Version). part_in layout.block st g e s) is ∙ sym (shows.parts.replicas g e s)) (λ k. refl) refl refl refl
 
 module _ {D : Type 0} (d : on_disk.Ghosts D) (layout : Layout) (me : BrickId) (old new : D) where
   before_shows : (node : Node) (first : List ℕ) (shows : ImageShows layout me node first) (image : List ℕ)

@@ -105,7 +105,7 @@ module _ (layout : Layout) (before : OpenWork) (from : BrickId) (call : Call) (o
       (λ k. shown_after coordinator_of before.calls.operations after.calls.operations call.seq (Some has.now) has.others k
       ∙ ap (λ (c : Coordinator). put f call.seq (Some c) k) now_is
       ∙ ap (λ (seq : ℕ). put f seq (Some (with_it seat_found.0)) k) (sym at.seq))
-      (ap (λ (proposals : Proposals). proposal_in proposals.under_way) same) refl))
+      (ap (λ (proposals : Proposals). proposal_in proposals.under_way) same) refl refl))
 
 -- a reply that tells a later view is to the proposal, where no operation of its call is open
 pub goes_is : (layout : Layout) (now : ℕ) (from : BrickId) (call : Call) (told : Reply) (work : OpenWork) (kept : KeptParts) (view : ViewNo) (lineage : Lineage)

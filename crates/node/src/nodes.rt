@@ -33,12 +33,11 @@ ghost use Rattle.node.specs.Teaching.{is_taught};
 use crate::faults::NodeFault;
 use crate::learnt_views::{do_lists_stand, is_synced, learnt_number, learnt_view};
 use crate::outs::{Begun, Outs};
-use crate::refusals::quorum_named;
 use crate::sending::answer_messages;
 use crate::tasks::Tasks;
 use crate::teaching::{is_view, view_told};
 use brick_store::{BrickStore, OpenFault, State};
-use fab_base::{Ask, BrickId, GroupId, Refusal, StripeNo, View};
+use fab_base::{Ask, BrickId, GroupId, Members, Refusal, StripeNo, View};
 use fab_disk::{Armed, Disk, Plan};
 use layout::Layout;
 use messages::{Call, Message, Messages, Packet, Reply};
@@ -266,19 +265,22 @@ impl<D: Disk> Node<D> {
         let Some(kept) = self.layout.group(group) else {
             return Err(NodeFault::Refused(Refusal::NoStripe));
         };
-        if stripe.0 >= kept.stripes() {
-            return Err(NodeFault::Refused(Refusal::NoStripe));
-        }
         let view = learnt_view(&self.store, group, kept);
-        let Some(members) = quorum_named(kept.m(), &view.members, members) else {
-            return Err(NodeFault::Refused(Refusal::NoQuorum));
-        };
-        if self.tasks.scrubs() {
-            return Err(NodeFault::Refused(Refusal::Busy));
+        if let Some(refusal) = self
+            .tasks
+            .scrub_refusal(kept, &view.members, stripe, members)
+        {
+            return Err(NodeFault::Refused(refusal));
         }
-        match self.tasks.scrub(self.alloc, &self.layout, group, view, stripe, members, now)? {
+        let Some(members) = Members::new(members) else {
+            unreachable!()
+        };
+        match self
+            .tasks
+            .scrub(self.alloc, &self.layout, group, view, stripe, members, now)?
+        {
             Some(outs) => Ok(outs),
-            None => Err(NodeFault::Refused(Refusal::Spent)),
+            None => unreachable!(),
         }
     }
 

@@ -1,9 +1,10 @@
 //! What a brick must find to begin an operation, or a scrub.
 
-ghost use Rattle.std.specs.Prelude.{◌≡◌, ◌&&◌, nat_eq, length, Some, None, if◌then◌else◌, is_some};
+ghost use Rattle.std.specs.Prelude.{◌≡◌, ◌≤◌, ◌&&◌, ℕ, true, nat_eq, length, Some, is_some};
 ghost use Rattle.std.specs.List.{list_all};
 ghost use Rattle.fab_base.specs.Layouts.{seat_in};
 ghost use Rattle.quorum.specs.Quorums.{IsWithinLimits};
+ghost use Rattle.protocol.specs.Coordinators.{AreEnough};
 ghost use Rattle.protocol.specs.Scrubs.{names_quorum};
 ghost use Rattle.protocol.specs.Settings.{are_bytes};
 ghost use Rattle.protocol.specs.Nodes.{has_block, has_length, has_later_time};
@@ -55,19 +56,21 @@ fn are_members(members: &[BrickId], bricks: &[BrickId]) -> bool
         .all(|brick| members.iter().any(|member| member.0 == brick.0))
 }
 
-/// The members that a list names, where these are distinct members of a group of `m` data blocks, and at least a quorum of it. None where they are not.
-pub(crate) fn quorum_named(m: u8, members: &Members, named: &[BrickId]) -> Option<Members>
+/// Whether a list names distinct members of a group of `m` data blocks, and at least a quorum of it: then it is no longer than the group.
+#[tactic(auto, using(crate::proofs::NamedQuorums::named_few))]
+pub(crate) fn names_quorum(m: u8, members: &Members, named: &[BrickId]) -> bool
     requires { IsWithinLimits m (length members.now) }
-    ensures { (stripes : _) → result ≡ (if names_quorum (record { members = members.now; m = m; stripes = stripes }) named.now then Some named.now else None) }
+    ensures value { (stripes : ℕ) → result ≡ names_quorum (record { members = members.now; m = m; stripes = stripes }) named.now }
+    ensures few { result ≡ true → length named.now ≤ 32 }
+    ensures enough { (stripes : ℕ) → result ≡ true → AreEnough (record { members = members.now; m = m; stripes = stripes }) (Some named.now) }
 {
     let members = members.as_slice();
-    let policy = Policy::new(m, members.len() as u8)?;
-    if !are_distinct(named) || !are_members(members, named) {
-        return None;
+    match Policy::new(m, members.len() as u8) {
+        Some(policy) => {
+            are_distinct(named)
+                && are_members(members, named)
+                && named.len() >= usize::from(policy.q())
+        }
+        None => unreachable!(),
     }
-    if named.len() < usize::from(policy.q()) {
-        return None;
-    }
-    // Distinct members of a view are no more than it has.
-    Members::new(named)
 }

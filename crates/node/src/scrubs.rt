@@ -8,13 +8,13 @@ use crate::movers::moved_cause;
 use crate::operations::Operation;
 use crate::outs::Outs;
 use crate::teaching::teaching;
+use coord_phase::Stage;
 use fab_base::{
     Answer, BrickId, CallId, Cause, GroupId, Members, NoMem, Stamp, StripeNo, View, ViewNo,
 };
 use layout::Layout;
 use messages::{Call, Message, Messages};
 use protocol::{Answered, Report, ScrubAnswer, Told};
-use coord_phase::Stage;
 use scrub::{Scrub, ScrubNext};
 use stamp_store::StampSource;
 use std::alloc::Global;

@@ -4,8 +4,9 @@ use crate::jobs::{Followed, OpenJob, ReadTurn, start};
 use crate::open_calls::fresh_stamp;
 use crate::open_work::{OpenWork, Turn};
 use crate::outs::{Begun, Outs, Tellings};
+use crate::refusals::{has_later_time, names_quorum};
 use crate::scrubs::OpenScrub;
-use fab_base::{Ask, BrickId, GroupId, Members, NoMem, StripeNo, View, ViewNo};
+use fab_base::{Ask, BrickId, GroupId, Members, NoMem, Refusal, StripeNo, View, ViewNo};
 use layout::{Group, Layout};
 use messages::{Call, Message, Messages, Packet, Reply};
 use protocol::{Report, Told};
@@ -51,7 +52,7 @@ impl Tasks {
     ghost use Rattle.quorum.specs.Quorums.{IsWithinLimits};
     ghost use Rattle.stripe_code.specs.Codes.{coding};
     ghost use Rattle.protocol.specs.Views.{kept_by};
-    ghost use Rattle.protocol.specs.Nodes.{has_block, has_length, began_in, coordinator_in, is_spent, proposed_in, replied_at, synced_at, ticked, view_in, with_round};
+    ghost use Rattle.protocol.specs.Nodes.{has_block, has_length, began_in, coordinator_in, is_spent, proposed_in, replied_at, scrub_refusal_in, synced_at, ticked, view_in, with_round};
     ghost use Rattle.coord_phase.specs.Operations.{PriorIsWithinLimits, group_in_view};
     ghost use Rattle.protocol.specs.Coordinators.{AreEnough};
     ghost use Rattle.coord_phase.specs.Messages.{packets_from};
@@ -171,21 +172,27 @@ impl Tasks {
     pub(crate) fn is_open(&self, seq: u64) -> bool
         ensures { (kept : KeptParts) → result ≡ is_some ((tasks_in kept self.now).calls seq) }
     {
-        self.reads(seq) || self.is_scrub(seq) || self.work.calls.is_open(seq)
+        if self.is_scrub(seq) {
+            return true;
+        }
+        if self.reads(seq) {
+            return true;
+        }
+        self.work.calls.is_open(seq)
     }
 
     /// The view of the open operation of a call, of the read of the synchronisation, or of the scrub. None where there is none.
     pub(crate) fn view_of(&self, seq: u64) -> Option<View>
         ensures { (kept : KeptParts) → result ≡ option_map view_in ((tasks_in kept self.now).calls seq) }
     {
-        if self.reads(seq) {
-            return match &self.job {
+        if self.is_scrub(seq) {
+            return match &self.scrub {
                 Some(open) => Some(open.view()),
                 None => unreachable!(),
             };
         }
-        if self.is_scrub(seq) {
-            return match &self.scrub {
+        if self.reads(seq) {
+            return match &self.job {
                 Some(open) => Some(open.view()),
                 None => unreachable!(),
             };
@@ -256,6 +263,36 @@ impl Tasks {
                     report: Some(Report::Sync { group, answer }),
                 }
             }
+        }
+    }
+
+    /// Why the brick does not begin a scrub of these members of a stripe, the first reason there is, the members of its group being these: there is no such stripe;
+    /// they are no distinct members, or fewer than a quorum; it has a scrub; no later time or call number is left.
+    #[tactic(auto, unfolding(crate::specs::States::state_with))]
+    pub(crate) fn scrub_refusal(
+        &self,
+        kept: &Group,
+        members: &Members,
+        stripe: StripeNo,
+        named: &[BrickId],
+    ) -> Option<Refusal>
+        requires limits { IsWithinLimits kept.now.m (length members.now) }
+        ensures value { (parts : KeptParts) → result ≡ scrub_refusal_in (tasks_in parts self.now) stripe named.now (Some (kept_by members.now kept.now)) }
+        ensures idle { result ≡ None → self.now.scrub ≡ None }
+        ensures few { result ≡ None → length named.now ≤ 32 }
+        ensures enough { result ≡ None → AreEnough (kept_by members.now kept.now) (Some named.now) }
+        ensures left { (parts : KeptParts) → result ≡ None → is_spent (tasks_in parts self.now) ≡ false }
+    {
+        if stripe.0 >= kept.stripes() {
+            Some(Refusal::NoStripe)
+        } else if !names_quorum(kept.m(), members, named) {
+            Some(Refusal::NoQuorum)
+        } else if self.scrubs() {
+            Some(Refusal::Busy)
+        } else if !has_later_time(self.work.calls.known_time()) || self.work.calls.is_spent() {
+            Some(Refusal::Spent)
+        } else {
+            None
         }
     }
 
@@ -582,8 +619,8 @@ impl Tasks {
         let Some(open) = &self.job else {
             return Ok(messages);
         };
-        let mut last = open.on_tick(alloc)?;
-        messages.append(&mut last)?;
+        let mut read = open.on_tick(alloc)?;
+        messages.append(&mut read)?;
         Ok(messages)
     }
 

@@ -7,9 +7,10 @@ use Rattle.coord_phase.specs.Operations.{PriorIsWithinLimits}
 use Rattle.protocol.specs.Nodes.{Node, refusal_of, invoked, has_block, has_length}
 use Rattle.stripe_code.specs.Codes.{coding}
 use Rattle.node.specs.Jobs.{reading_in}
+use Rattle.node.specs.Scrubs.{scrubbing_in}
 use Rattle.node.specs.States.{parts_in, parts_with, state_in, BeginsAs}
 use Rattle.node.specs.Running.{Running, running, state_of}
-use Rattle.node.proofs.Beside.{refusal_beside}
+use Rattle.node.proofs.ScrubsBeside.{refusal_beside_both}
 use Rattle.node.proofs.Views.{seen_so}
 use Rattle.node.proofs.States.{on_err}
 use Rattle.node.proofs.Steps.{begins_so, stays_so, group_in_view_is}
@@ -21,7 +22,7 @@ returns-in-Err g c =
     record {
       refused = subst (λ (n : Running g.row.D.Denot). refusal_of n.layout (state_of n) c.args.ask.now ≡ Some c.in-Err.refusal) c.self.view_is
           (ap (λ (s : Node). refusal_of x.layout s c.args.ask.now) (seen_so x.layout x.tasks x.store c.self.invariant.boot)
-          ∙ refusal_beside x.layout (reading_in x.tasks.job) (state_in (parts_in x.layout x.store.state) x.tasks.work) c.args.ask.now
+          ∙ refusal_beside_both x.layout (scrubbing_in x.tasks.scrub) (reading_in x.tasks.job) (state_in (parts_in x.layout x.store.state) x.tasks.work) c.args.ask.now
           ∙ sym (c.in-Err.ensures.refused (parts_with (parts_in x.layout x.store.state) x.tasks.work.proposals)));
       begun = tt;
       err = search rules;
@@ -46,7 +47,7 @@ returns-in_err-begin-clause-refused g c =
     let x = c.self.inside in
     let none = subst (λ (n : Running g.row.D.Denot). refusal_of n.layout (state_of n) c.args.ask.now ≡ None) c.self.view_is
     (ap (λ (s : Node). refusal_of x.layout s c.args.ask.now) (seen_so x.layout x.tasks x.store c.self.invariant.boot)
-    ∙ refusal_beside x.layout (reading_in x.tasks.job) (state_in (parts_in x.layout x.store.state) x.tasks.work) c.args.ask.now
+    ∙ refusal_beside_both x.layout (scrubbing_in x.tasks.scrub) (reading_in x.tasks.job) (state_in (parts_in x.layout x.store.state) x.tasks.work) c.args.ask.now
     ∙ sym (c.in-Ok.ensures.refused (parts_with (parts_in x.layout x.store.state) x.tasks.work.proposals))) in
     search (rules, none)
 
@@ -55,7 +56,7 @@ returns-clause-refused g c =
     let x = c.self.inside in
     subst (λ (n : Running g.row.D.Denot). refusal_of n.layout (state_of n) c.args.ask.now ≡ None) c.self.view_is
     (ap (λ (s : Node). refusal_of x.layout s c.args.ask.now) (seen_so x.layout x.tasks x.store c.self.invariant.boot)
-    ∙ refusal_beside x.layout (reading_in x.tasks.job) (state_in (parts_in x.layout x.store.state) x.tasks.work) c.args.ask.now
+    ∙ refusal_beside_both x.layout (scrubbing_in x.tasks.scrub) (reading_in x.tasks.job) (state_in (parts_in x.layout x.store.state) x.tasks.work) c.args.ask.now
     ∙ sym (c.in-Ok.ensures.refused (parts_with (parts_in x.layout x.store.state) x.tasks.work.proposals)))
 
 pub begin-requires-clause-limits : goal.begin-requires-clause-limits

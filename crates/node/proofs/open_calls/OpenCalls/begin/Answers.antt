@@ -29,7 +29,7 @@ returns-in_err-keep_open-in-Ok-clause-err c =
       calls = λ k. option_map coordinator_of
           (get nat_cmp n k);
     } ≡ state_with parts c.args.self.now =
-    λ parts. same_states _ _ refl refl refl refl (ap length entries) refl (λ g e. refl) (λ g. refl) (λ g. refl) (λ g e s. refl) (λ k. ap (option_map coordinator_of) (same_calls m n entries k)) refl refl in
+    λ parts. same_states _ _ refl refl refl refl (ap length entries) refl (λ g e. refl) (λ g. refl) (λ g. refl) (λ g e s. refl) (λ k. ap (option_map coordinator_of) (same_calls m n entries k)) refl refl refl in
     on_err _ same
 
 pub returns-in_err-keep_open-in-Ok-clause-same : goal.returns-in_err-keep_open-in-Ok-clause-same
@@ -64,7 +64,7 @@ returns-in_ok-keep_open-in-Ok-clause-begun c = λ parts.
       state_is = same_states _ _ refl refl (ap (λ (t : Stamp). t.time) stamp) refl
           c.in_ok-keep_open-in-Ok.ensures.opened.count refl (λ g e. refl) (λ g. refl) (λ g. refl) (λ g e s. refl)
           (λ k. shown_after coordinator_of m n seq (Some operation) c.in_ok-keep_open-in-Ok.ensures.opened.calls k
-          ∙ ap (λ (o : Coordinator). put (λ j. option_map coordinator_of (get nat_cmp m j)) seq (Some o) k) same) refl refl;
+          ∙ ap (λ (o : Coordinator). put (λ j. option_map coordinator_of (get nat_cmp m j)) seq (Some o) k) same) refl refl refl;
     }
 
 pub returns-in_ok-keep_open-in-Ok-clause-same : goal.returns-in_ok-keep_open-in-Ok-clause-same

@@ -17,4 +17,4 @@ returns-clause-state c = λ parts.
     let closed = subst (λ (answers : List Answered). AreCallsAfter answers seq m n) (ap (λ (outs : Outcome). outs.answers) c.answering-outs.ensures)
     c.close_answered.ensures.calls in
     same_states _ _ refl refl refl refl (omega (arith, closed.count)) refl (λ g e. refl) (λ g. refl) (λ g. refl) (λ g e s. refl)
-    (λ k. shown_after coordinator_of m n seq None closed.calls k) refl refl
+    (λ k. shown_after coordinator_of m n seq None closed.calls k) refl refl refl

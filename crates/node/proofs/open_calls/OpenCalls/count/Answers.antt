@@ -60,5 +60,5 @@ returns-clause-err c =
     ap (option_map coordinator_of) (sym c.in-Some.ensures.value) ∙ ap (λ (k : Coordinator). Some k) (sym same) in
     same_states _ _ refl refl refl refl written.2 refl (λ g e. refl) (λ g. refl) (λ g. refl) (λ g e s. refl)
     (λ k. shown_after coordinator_of m now c.args.seq (Some after) (written.3 (search rules)).0 k
-    ∙ sym (put_held f c.args.seq (Some (coordinator_of after)) k (nat_eq k c.args.seq) held refl)) refl refl)
+    ∙ sym (put_held f c.args.seq (Some (coordinator_of after)) k (nat_eq k c.args.seq) held refl)) refl refl refl)
     c.count.ensures.same

@@ -39,7 +39,7 @@ returns-in_err-outs-clause-err c =
     } ≡ state_with parts c.args.self.now =
     λ parts. same_states _ _ refl refl refl refl written.2 refl (λ g e. refl) (λ g. refl) (λ g. refl) (λ g e s. refl)
     (λ k. shown_after coordinator_of m now c.args.call.seq (Some after) (written.3 (search rules)).0 k
-    ∙ sym (put_held f c.args.call.seq (Some (coordinator_of after)) k (nat_eq k c.args.call.seq) held refl)) refl refl in
+    ∙ sym (put_held f c.args.call.seq (Some (coordinator_of after)) k (nat_eq k c.args.call.seq) held refl)) refl refl refl in
     on_err _ same
 
 pub returns-in_err-outs-clause-same : goal.returns-in_err-outs-clause-same
@@ -97,7 +97,7 @@ returns c =
           c.close_answered.ensures.calls in
           let f = λ (q : ℕ). option_map coordinator_of (get nat_cmp m q) in
           steps_as me _ _ _ outs
-          (replied_is layout me c.args.now from before call reply k (ap (option_map coordinator_of) held) at.seq refl)
+          (replied_is layout me c.args.now from before call reply k (ap (option_map coordinator_of) held) at.seq refl refl)
           (record {
             packets = carried.packets me ∙ sym (does_send layout me before known k next);
             told = carried.told ∙ sym (does_tell layout me before known k next);
@@ -113,7 +113,7 @@ returns c =
                 refl (λ g e. refl) (λ g. refl) (λ g. refl) (λ g e s. refl)
                 (λ q. shown_after coordinator_of m left_calls call.seq (left_open outs.answers after) left.0 q
                 ∙ ap (λ (o : Option Coordinator). put f call.seq o q) (sym carried.left)
-                ∙ ap (λ (s : ℕ). put f s (left_by (or_waits k next)) q) (sym at.seq)) refl refl
+                ∙ ap (λ (s : ℕ). put f s (left_by (or_waits k next)) q) (sym at.seq)) refl refl refl
                 ∙ sym (does_node layout me before known k next);
           });
       few = c.in_ok-outs.ensures.few;

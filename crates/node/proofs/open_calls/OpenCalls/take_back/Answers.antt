@@ -34,4 +34,4 @@ returns-in-Some-clause-state c = λ from message before has parts.
     same_states _ _ (ap (λ (stamps : StampSource). stamps.boot) has.stamps) has.seq_is (ap (λ (stamps : StampSource). stamps.known) has.stamps) refl
     (written.2 ∙ has.count) refl (λ g e. refl) (λ g. refl) (λ g. refl) (λ g e s. refl)
     (λ k. shown_after coordinator_of mid last seq (Some after) (written.3 (search rules)).0 k
-    ∙ twice_put m mid seq has.was has.now has.open_before has.others (coordinator_of after) was k) refl refl
+    ∙ twice_put m mid seq has.was has.now has.open_before has.others (coordinator_of after) was k) refl refl refl

@@ -2,6 +2,7 @@
 use Rattle.std.proofs.Common.{◌≡◌, ◌≤◌, ℕ, true, nat_eq, Option, Some, None, refl, sym, ◌∙◌, ap, subst}
 use Rattle.fab_base.specs.declared.answers.Answer.{Answer}
 use Rattle.fab_base.specs.declared.identities.GroupId.{GroupId}
+use Rattle.messages.specs.declared.calls.Call.{Call}
 use Rattle.messages.specs.declared.packets.Message.{Message}
 use Rattle.messages.specs.declared.packets.Message.TheVariants as message
 use Rattle.messages.specs.declared.replies.Lineage.{Lineage}
@@ -9,7 +10,7 @@ use Rattle.messages.specs.declared.replies.Reply.{Reply}
 use Rattle.messages.specs.declared.replies.Reply.TheVariants.{Moved}
 use Rattle.stripe_code.specs.Codes.{coding}
 use Rattle.protocol.specs.Coordinators as machine
-use Rattle.protocol.specs.Nodes.{Node, no_step}
+use Rattle.protocol.specs.Nodes.{Node, no_step, replied_at}
 use Rattle.coord_phase.specs.Decisions.{decided_on}
 use Rattle.coord_phase.specs.Operations.{counts, heard}
 use Rattle.node.specs.declared.call_sources.CallSource.{CallSource}
@@ -17,12 +18,16 @@ use Rattle.node.specs.declared.jobs.Followed.{Followed}
 use Rattle.node.specs.declared.jobs.OpenJob.{OpenJob}
 use Rattle.node.specs.declared.outs.Tellings.{Tellings}
 use Rattle.node.specs.declared.tasks.Tasks.{Tasks}
-use Rattle.node.specs.Jobs.{FollowsFrom, followed_step, then_told}
+use Rattle.node.specs.Jobs.{FollowsFrom, followed_step, reading_of, then_told, with_reading}
 use Rattle.node.specs.Operations.{EndsOrWaits, coordinator_of, shown_of}
 use Rattle.node.specs.Reads.{HasCountedRead, MovesOn}
+use Rattle.node.specs.Scrubs.{scrubbing_in, with_scrubbing}
 use Rattle.node.specs.States.{KeptParts, state_in, state_with}
-use Rattle.node.specs.Tasks.{IsJobAt, IsJobIn, read_seq, step_on, tasks_in}
+use Rattle.node.specs.Tasks.{IsJobAt, IsJobIn, IsScrubIn, read_seq, step_on, tasks_in}
 use Rattle.node.proofs.ReadReplies.{counts_read, read_free, read_waits, reads_call, replied_ends, replied_waits}
+use Rattle.node.proofs.ScrubCalls.{aside_next, scrub_other}
+use Rattle.node.proofs.ScrubReplies.{call_heard}
+use Rattle.node.proofs.ScrubsBeside.{ScrubApart, calls_apart_scrub, swapped}
 use Rattle.node.proofs.tasks.Tasks.hear_moved_read.Goals as goal
 use Rattle.node.proofs.tasks.Tasks.hear_moved_read.Goals.{In_ok-told}
 
@@ -47,12 +52,44 @@ abbrev next_at : In_ok-told → CallSource
 next_at c = record { me = c.args.self.now.work.calls.me; seq = c.args.self.now.work.calls.seq; stamps = c.args.self.now.work.calls.stamps; now = c.args.now }
 
 -- the machine's step, where the brick has the read under way
-step_for : (c : In_ok-told) (kept : KeptParts) → (let tasks : Tasks = record { work = c.args.self.now.work; job = Some c.in-Some.open } in
+step_for : (c : In_ok-told) (kept : KeptParts) → (let tasks : Tasks = record { work = c.args.self.now.work; job = Some c.in-Some.open; scrub = c.args.self.now.scrub } in
     step_on c.args.layout.now c.args.now c.args.packet.now.from c.args.call (Moved c.args.view (Some c.requires.moved.0)) c.args.self.now kept
     ≡ step_on c.args.layout.now c.args.now c.args.packet.now.from c.args.call (Moved c.args.view (Some c.requires.moved.0)) tasks kept)
 step_for c kept =
     λ i. step_on c.args.layout.now c.args.now c.args.packet.now.from c.args.call (Moved c.args.view (Some c.requires.moved.0))
-    (record { work = c.args.self.now.work; job = c.in-Some.is i }) kept
+    (record { work = c.args.self.now.work; job = c.in-Some.is i; scrub = c.args.self.now.scrub }) kept
+
+-- the scrub has another call
+scrub_apart : (c : In_ok-told) → ScrubApart (scrubbing_in c.args.self.now.scrub) (read_seq c.in-Some.open)
+scrub_apart c =
+    scrub_other c.args.layout.now c.args.self.now.work.calls c.in-Some.open c.args.self.now.scrub
+    (subst (λ (job : Option OpenJob). IsScrubIn c.args.layout.now c.args.self.now.work.calls job c.args.self.now.scrub) c.in-Some.is c.requires.of.scrub_is)
+
+-- the brick, but for the read
+abbrev unread : In_ok-told → KeptParts → Node
+unread c kept = with_scrubbing (scrubbing_in c.args.self.now.scrub) (state_in kept c.args.self.now.work)
+
+-- the read is there beside the scrub
+swap_so : (c : In_ok-told) (kept : KeptParts) → with_scrubbing (scrubbing_in c.args.self.now.scrub) (with_reading (Some (reading_of c.in-Some.open)) (state_in kept c.args.self.now.work))
+    ≡ with_reading (Some (reading_of c.in-Some.open)) (unread c kept)
+swap_so c kept = swapped (scrubbing_in c.args.self.now.scrub) (reading_of c.in-Some.open) (state_in kept c.args.self.now.work) (scrub_apart c)
+
+-- no operation has its call
+free_so : (c : In_ok-told) (kept : KeptParts) → (unread c kept).calls (read_seq c.in-Some.open) ≡ None
+free_so c kept =
+    calls_apart_scrub (scrubbing_in c.args.self.now.scrub) (state_in kept c.args.self.now.work).calls (read_seq c.in-Some.open) (scrub_apart c)
+    ∙ read_free c.args.layout.now c.args.self.now.work c.in-Some.open kept (at_brick c)
+
+-- so is the machine's step
+step_beside : (c : In_ok-told) (kept : KeptParts)
+    → step_on c.args.layout.now c.args.now c.args.packet.now.from c.args.call (Moved c.args.view (Some c.requires.moved.0)) c.args.self.now kept
+    ≡ replied_at (coding c.args.layout.now) c.args.self.now.work.calls.me c.args.now c.args.packet.now.from
+    (with_reading (Some (reading_of c.in-Some.open)) (unread c kept)) c.args.call (Moved c.args.view (Some c.requires.moved.0))
+    ((with_reading (Some (reading_of c.in-Some.open)) (unread c kept)).calls c.args.call.seq)
+step_beside c kept =
+    step_for c kept
+    ∙ ap (λ (n : Node). replied_at (coding c.args.layout.now) c.args.self.now.work.calls.me c.args.now c.args.packet.now.from n c.args.call
+    (Moved c.args.view (Some c.requires.moved.0)) (n.calls c.args.call.seq)) (swap_so c kept)
 
 pub returns-in-Some-2-clause-turn : goal.returns-in-Some-2-clause-turn
 unfolding state_with
@@ -72,12 +109,12 @@ returns-in-Some-2-clause-turn c =
       ap (λ (t : Tellings). t.begun) is.2,
       subst (λ (g : GroupId). FollowsFrom layout before.work.calls.seq g next) (sym c.group.ensures) is.4,
       subst (λ (r : Reply). (kept : KeptParts) → step_on layout c.args.now c.args.packet.now.from c.args.call r before kept
-          ≡ then_told told (followed_step me c.group.result (state_in kept before.work) next)) (sym c.requires.moved.1)
-          (λ kept. step_for d kept
+          ≡ then_told told (followed_step me c.group.result (tasks_in kept (record before { job = None })) next)) (sym c.requires.moved.1)
+          (λ kept. step_beside d kept
           ∙ replied_ends layout held at.open_is c.args.packet.now.from c.args.call c.args.view c.requires.moved.0 (counted_so d) (next_at d)
-          (state_in kept before.work) (record { boot = refl; seq = refl; known = refl }) (read_free layout before.work held kept at)
+          (unread d kept) (record { boot = refl; seq = refl; known = refl }) (free_so d kept)
           me c.args.now (same_call d) refl refl is.0 is.1 told next is.2 is.3
-          ∙ ap (λ (g : GroupId). then_told told (followed_step me g (state_in kept before.work) next)) (sym c.group.ensures)),
+          ∙ ap (λ (g : GroupId). then_told told (followed_step me g (unread d kept) next)) (sym c.group.ensures)),
     )
 
 pub returns-in-Some-2-clause-may : goal.returns-in-Some-2-clause-may
@@ -91,6 +128,7 @@ returns-in-Some-2-clause-may c =
       subst (λ (g : GroupId). FollowsFrom layout c.args.self.now.work.calls.seq g c.in-Some-2.next) (sym c.group.ensures) is.4,
       ap (λ (t : Tellings). t.begun) is.2,
       is.5,
+      aside_next layout c.args.self.now.work.calls c.args.self.now.job c.args.self.now.scrub c.requires.of.scrub_is,
     )
 
 pub count-requires-clause-waits : goal.count-requires-clause-waits
@@ -116,17 +154,20 @@ returns-clause-turn c =
     let from = c.args.packet.now.from in
     let call = c.args.call in
     let now : OpenJob = c.count.new.self in
-    let after : Tasks = record { work = before.work; job = Some now } in
+    let after : Tasks = record { work = before.work; job = Some now; scrub = before.scrub } in
     let at = at_brick d in
     let waits = subst (λ (o : Option (Tellings × Followed)). MovesOn layout c.in-Some.open c.args.packet.now.from c.args.view c.source-at.result o) c.in_default-2.is
     c.in_ok-told.ensures in
     let has = subst (λ (m : Message). HasCountedRead from m held now) c.requires.reply c.in_ok-count.ensures.counted in (
-      record { was = held; now = now; job_before = c.in-Some.is; job_after = refl; counted = has; work_is = refl },
+      record { was = held; now = now; job_before = c.in-Some.is; job_after = refl; counted = has; work_is = refl; scrub_is = refl },
       subst (λ (r : Reply). HasCountedRead from (message.Reply call r) held now
           → (kept : KeptParts) → step_on layout c.args.now from call r before kept ≡ no_step (tasks_in kept after)) (sym c.requires.moved.1)
-          (λ seen kept. step_for d kept
+          (λ seen kept. step_beside d kept
           ∙ replied_waits layout held at.open_is from call c.args.view c.requires.moved.0 (counted_so d) (next_at d)
-          (state_in kept before.work) (record { boot = refl; seq = refl; known = refl }) (read_free layout before.work held kept at)
-          me c.args.now (same_call d) refl refl waits now seen)
+          (unread d kept) (record { boot = refl; seq = refl; known = refl }) (free_so d kept)
+          me c.args.now (same_call d) refl refl waits now seen
+          ∙ ap no_step (sym (swapped (scrubbing_in before.scrub) (reading_of now) (state_in kept before.work)
+          (subst (ScrubApart (scrubbing_in before.scrub)) (sym (ap (λ (k : machine.Coordinator). k.call.seq) seen.now_is
+          ∙ ap (λ (k : Call). k.seq) (call_heard (shown_of held.read) from _))) (scrub_apart d)))))
           has,
     )

@@ -17,9 +17,13 @@ use Rattle.node.specs.declared.tasks.Tasks.{Tasks}
 use Rattle.node.specs.Jobs.{FollowsFrom, followed_step, reading_of, then_told, with_reading}
 use Rattle.node.specs.Operations.{coordinator_of}
 use Rattle.node.specs.Reads.{IsReadTurn, IsSameRead, LeftSo, turn_step}
+use Rattle.node.specs.Scrubs.{scrubbing_in, with_scrubbing}
 use Rattle.node.specs.States.{KeptParts, StepsAs, parts_with, state_in, state_with}
-use Rattle.node.specs.Tasks.{AreSameTasks, IsJobAt, IsJobIn, read_seq, tasks_in}
+use Rattle.node.specs.Tasks.{AreSameTasks, IsJobAt, IsJobIn, IsScrubIn, read_seq, tasks_in}
 use Rattle.node.proofs.ReadReplies.{read_free, reads_call, turn_is}
+use Rattle.node.proofs.ScrubCalls.{aside_next, scrub_heard, scrub_other, scrub_stays}
+use Rattle.node.proofs.ScrubsBeside.{ScrubApart, calls_apart_scrub, swapped}
+use Rattle.node.proofs.Turning.{alone}
 use Rattle.node.proofs.tasks.Tasks.on_read_reply.Goals as goal
 use Rattle.node.proofs.tasks.Tasks.on_read_reply.Goals.{In_ok-turn}
 
@@ -27,10 +31,20 @@ use Rattle.node.proofs.tasks.Tasks.on_read_reply.Goals.{In_ok-turn}
 at_brick : (c : In_ok-turn) → IsJobAt c.args.layout.now c.args.self.now.work.calls c.in-Some.open
 at_brick c = subst (IsJobIn c.args.layout.now c.args.self.now.work.calls) c.in-Some.is c.requires.of.job_is
 
--- the brick, once it knows the time and the round of a ballot that the reply makes known
+-- the scrub has another call
+scrub_apart : (c : In_ok-turn) → ScrubApart (scrubbing_in c.args.self.now.scrub) (read_seq c.in-Some.open)
+scrub_apart c =
+    scrub_other c.args.layout.now c.args.self.now.work.calls c.in-Some.open c.args.self.now.scrub
+    (subst (λ (job : Option OpenJob). IsScrubIn c.args.layout.now c.args.self.now.work.calls job c.args.self.now.scrub) c.in-Some.is c.requires.of.scrub_is)
+
+-- the brick, but for the read
+abbrev unread : In_ok-turn → KeptParts → Node
+unread c kept = with_scrubbing (scrubbing_in c.args.self.now.scrub) (state_in kept c.args.self.now.work)
+
+-- it, once it knows the time and the round of a ballot that the reply makes known
 abbrev later : In_ok-turn → KeptParts → Node
 later c kept =
-    let node : Node = with_round (state_in kept c.args.self.now.work) c.args.reply.now in
+    let node : Node = with_round (unread c kept) c.args.reply.now in
     with_known node (known_after (state_in kept c.args.self.now.work).known c.args.reply.now)
 
 -- what the reply comes to is the machine's step
@@ -49,33 +63,41 @@ step_is c kept turned is =
     let call = c.args.call in
     let reply = c.args.reply.now in
     let held = c.in-Some.open in
+    let s = scrubbing_in tasks.scrub in
     let at = c.source_after-at.result in
     let turned_is = subst (λ (t : ReadTurn). IsReadTurn layout held from c.args.packet.now.message at t c.on_reply.new.self) is c.in_ok-turn.ensures.turn in
-    (λ i. (let now : Node = tasks_in kept (record { work = work; job = c.in-Some.is i }) in
+    (λ i. (let now : Node = tasks_in kept (record { work = work; job = c.in-Some.is i; scrub = tasks.scrub }) in
     replied_at (coding layout) me c.args.now from (with_round now reply) call reply (now.calls call.seq)))
-    ∙ turn_is layout me c.args.now from at held c.on_reply.new.self (with_round (state_in kept work) reply) call reply c.args.packet.now.message turned
+    ∙ ap (λ (n : Node). replied_at (coding layout) me c.args.now from (with_round n reply) call reply (n.calls call.seq))
+    (swapped s (reading_of held) (state_in kept work) (scrub_apart c))
+    ∙ turn_is layout me c.args.now from at held c.on_reply.new.self (with_round (unread c kept) reply) call reply c.args.packet.now.message turned
     turned_is c.requires.reply (reads_call tasks.job held call.seq c.in-Some.is c.requires.reads)
     c.source_after-at.ensures.me c.source_after-at.ensures.now c.source_after-at.ensures.seq c.source_after-at.ensures.boot c.source_after-at.ensures.known
-    (read_free layout work held kept (at_brick c))
+    (calls_apart_scrub s (state_in kept work).calls (read_seq held) (scrub_apart c) ∙ read_free layout work held kept (at_brick c))
 
 pub returns-in-Goes-clause-step : goal.returns-in-Goes-clause-step
 unfolding state_with
 returns-in-Goes-clause-step c = λ kept.
     let d = (goal.at.returns-in-Goes-clause-step c).In_ok-turn in
     let tasks = c.args.self.now in
+    let layout = c.args.layout.now in
     let me = tasks.work.calls.me in
     let outs = c.in-Goes.outs in
     let known = c.in-Goes.known in
+    let s = scrubbing_in tasks.scrub in
     let after : OpenJob = c.on_reply.new.self in
     let work : OpenWork = record { calls = c.knows.new.self; proposals = c.heard.new.self.proposals } in
-    subst (λ (step : NodeStep). StepsAs me (tasks_in kept (record { work = work; job = Some after })) step outs)
+    let left : IsSameRead layout c.in-Some.open after =
+    subst (λ (t : ReadTurn). LeftSo layout c.in-Some.open c.source_after-at.result t after) c.in-Goes.is c.in_ok-turn.ensures.turn.left in
+    let swap = swapped s (reading_of after) (state_in kept work) (subst (ScrubApart s) (sym left.seq) (scrub_apart d)) in
+    subst (λ (step : NodeStep). StepsAs me (tasks_in kept (record { work = work; job = Some after; scrub = tasks.scrub })) step outs)
     (sym (step_is d kept _ c.in-Goes.is))
     (record {
       packets = refl;
       told = refl;
       answers = refl;
       reports = refl;
-      state_is = ap (with_reading (Some (reading_of after)))
+      state_is = swap ∙ ap (λ (n : Node). with_reading (Some (reading_of after)) (with_scrubbing s n))
           (c.knows.ensures.state (parts_with kept c.heard.new.self.proposals) ∙ ap (λ (n : Node). with_known n known) (c.heard.ensures.state kept));
     })
 
@@ -107,6 +129,8 @@ returns-in-Goes-clause-same c =
               made = omega (arith, last, seq, made);
               apart = (λ i. get nat_cmp (operations i) (seq i)) ∙ at.apart;
             };
+            scrub_is = scrub_stays layout calls c.knows.new.self held after c.args.self.now.scrub operations last seq
+                (subst (λ (job : Option OpenJob). IsScrubIn layout calls job c.args.self.now.scrub) c.in-Some.is of.scrub_is);
           };
     }
 
@@ -121,9 +145,11 @@ returns-in-Ends-clause-step c = λ kept.
     let heard = c.heard.ensures.same layout in
     let group = c.group-group.ensures ∙ sym c.in_ok-turn.ensures.turn.group in
     let steps = subst (λ (b : BrickId). StepsAs b (tasks_in kept c.take_up.new.self)
-    (then_told told (followed_step b c.group-group.result (state_in kept c.heard.new.self) next)) c.take_up.result) heard.me (c.take_up.ensures.step kept) in
+    (then_told told (followed_step b c.group-group.result (with_scrubbing (scrubbing_in c.args.self.now.scrub) (state_in kept c.heard.new.self)) next)) c.take_up.result)
+    heard.me (c.take_up.ensures.step kept) in
     subst (λ (step : NodeStep). StepsAs me (tasks_in kept c.take_up.new.self) step c.take_up.result)
-    ((λ i. then_told told (followed_step me (group i) (c.heard.ensures.state kept i) next)) ∙ sym (step_is d kept _ c.in-Ends.is))
+    ((λ i. then_told told (followed_step me (group i) (with_scrubbing (scrubbing_in c.args.self.now.scrub) (c.heard.ensures.state kept i)) next))
+    ∙ sym (step_is d kept _ c.in-Ends.is))
     steps
 
 pub take_up-requires-clause-from : goal.take_up-requires-clause-from
@@ -136,6 +162,12 @@ take_up-requires-clause-from c =
           c.in_ok-turn.ensures.turn.left).0),
     )
 
+pub take_up-requires-clause-apart : goal.take_up-requires-clause-apart
+take_up-requires-clause-apart c =
+    aside_next c.args.layout.now c.heard.new.self.calls c.args.self.now.job c.args.self.now.scrub
+    (scrub_heard c.args.layout.now c.args.self.now.work.calls c.heard.new.self.calls c.args.self.now.job c.args.self.now.scrub c.heard.ensures.operations
+    c.heard.ensures.seq c.requires.of.scrub_is)
+
 pub returns-in-Ends-clause-same : goal.returns-in-Ends-clause-same
 returns-in-Ends-clause-same c =
     let layout = c.args.layout.now in
@@ -147,5 +179,10 @@ returns-in-Ends-clause-same c =
     record {
       me = same.me ∙ heard.me;
       boot = same.boot ∙ heard.boot;
-      of = λ of. same.of (record { work_is = heard.of of.work_is; job_is = tt });
+      of = λ of. same.of (record {
+        work_is = heard.of of.work_is;
+        job_is = tt;
+        scrub_is = alone layout c.heard.new.self.calls c.args.self.now.job c.args.self.now.scrub
+            (scrub_heard layout c.args.self.now.work.calls c.heard.new.self.calls c.args.self.now.job c.args.self.now.scrub c.heard.ensures.operations c.heard.ensures.seq of.scrub_is);
+      });
     }

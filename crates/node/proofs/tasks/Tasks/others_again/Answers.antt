@@ -32,9 +32,9 @@ returns-clause-packets c = λ layout kept are.
     let here : tasks.job ≡ Some held = c.in-Some.is in
     let at = subst (λ (j : Option OpenJob). IsJobIn layout tasks.work.calls j) here are.job_is in
     let first = c.in_ok-messages.messages.items in
-    let last = c.in_ok-last.last.items in
+    let last = c.in_ok-read.read.items in
     ap (λ (items : List (BrickId × Message)). packets_from me items) c.in_ok-append.ensures.items
     ∙ map-append (λ (m : BrickId × Message). record { from = me; to = m.0; message = m.1 }) first last
-    ∙ (λ i. c.in_ok-messages.ensures.packets layout kept are.work_is i ++ c.in_ok-last.ensures.packets layout me at.open_is i)
+    ∙ (λ i. c.in_ok-messages.ensures.packets layout kept are.work_is i ++ c.in_ok-read.ensures.packets layout me at.open_is i)
     ∙ sym (ticked_beside (coding layout) me (reading_of held) (state_in kept tasks.work) refl refl (ap (option_map coordinator_of) at.apart))
     ∙ ap (λ (j : Option OpenJob). ticked (coding layout) me (with_reading (reading_in j) (state_in kept tasks.work))) (sym here)

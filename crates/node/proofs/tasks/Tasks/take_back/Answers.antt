@@ -4,9 +4,11 @@ use Rattle.messages.specs.declared.packets.Message.TheVariants as message
 use Rattle.node.specs.declared.jobs.OpenJob.{OpenJob}
 use Rattle.node.specs.declared.tasks.TaskTurn.{TaskTurn}
 use Rattle.node.specs.Jobs.{reading_in, with_reading}
+use Rattle.protocol.specs.Nodes.{Node}
+use Rattle.node.specs.Scrubs.{scrub_seq, scrubbing_in, with_scrubbing}
 use Rattle.node.specs.States.{state_in}
-use Rattle.node.specs.Tasks.{IsJobIn, IsTaskTurn, read_seq}
-use Rattle.node.proofs.Turning.{read_back, taken_is, turn_same}
+use Rattle.node.specs.Tasks.{IsJobIn, IsScrubIn, IsTaskTurn, read_seq}
+use Rattle.node.proofs.Turning.{read_back, taken_apart, taken_is, turn_same}
 use Rattle.node.proofs.Underway.{no_parts, same_free}
 use Rattle.node.proofs.tasks.Tasks.take_back.Goals as goal
 
@@ -14,16 +16,18 @@ pub returns-in-Work-clause-state : goal.returns-in-Work-clause-state
 returns-in-Work-clause-state c = λ layout now from call reply before seq is kept.
     let mid = c.args.self.now in
     let turn_is = subst (λ (turn : TaskTurn). IsTaskTurn layout now from call reply before turn mid) c.in-Work.is is in
-    ap (λ (j : Option OpenJob). with_reading (reading_in j) (state_in kept c.take_back.new.self)) turn_is.1
-    ∙ ap (with_reading (reading_in before.job)) (c.take_back.ensures.state layout from call reply before.work seq turn_is.0 kept)
+    (λ i. with_scrubbing (scrubbing_in (turn_is.2 i)) (with_reading (reading_in (turn_is.1 i)) (state_in kept c.take_back.new.self)))
+    ∙ ap (λ (n : Node). with_scrubbing (scrubbing_in before.scrub) (with_reading (reading_in before.job) n))
+    (c.take_back.ensures.state layout from call reply before.work seq turn_is.0 kept)
 
 pub returns-in-Work-clause-same : goal.returns-in-Work-clause-same
 returns-in-Work-clause-same c = λ layout now from call reply before seq is first.
     let mid = c.args.self.now in
     let turn_is = subst (λ (turn : TaskTurn). IsTaskTurn layout now from call reply before turn mid) c.in-Work.is is in
-    turn_same layout before mid c.take_back.new.self first turn_is.1 (c.take_back.ensures.same layout)
-    (λ held there. same_free (read_seq held) (state_in no_parts before.work) (state_in no_parts c.take_back.new.self)
-    (c.take_back.ensures.state layout from call reply before.work seq turn_is.0 no_parts))
+    let state = c.take_back.ensures.state layout from call reply before.work seq turn_is.0 no_parts in
+    turn_same layout before mid c.take_back.new.self first turn_is.1 turn_is.2 (c.take_back.ensures.same layout)
+    (λ held there. same_free (read_seq held) (state_in no_parts before.work) (state_in no_parts c.take_back.new.self) state)
+    (λ held there. same_free (scrub_seq held) (state_in no_parts before.work) (state_in no_parts c.take_back.new.self) state)
 
 pub returns-in-Some-clause-state : goal.returns-in-Some-clause-state
 returns-in-Some-clause-state c = λ layout now from call reply before seq is kept.
@@ -45,5 +49,7 @@ returns-in-Some-clause-same c = λ layout now from call reply before seq is firs
             work_is = mid_is.work_is;
             job_is = taken_is layout mid.work.calls c.in-Some.open c.take_back-in-Some.new.self back.read back.job back.view
                 (subst (λ (j : Option OpenJob). IsJobIn layout mid.work.calls j) c.in-Some.is mid_is.job_is);
+            scrub_is = taken_apart layout mid.work.calls c.in-Some.open c.take_back-in-Some.new.self mid.scrub back.read
+                (subst (λ (j : Option OpenJob). IsScrubIn layout mid.work.calls j mid.scrub) c.in-Some.is mid_is.scrub_is);
           };
     }

@@ -1,0 +1,92 @@
+-- The brick begins the scrub that is under way then.
+use Rattle.std.proofs.Common.{◌≡◌, ◌≤◌, true, false, not, length, List, Option, Some, None, refl, sym, ◌∙◌, ap, subst, rules}
+use Rattle.std.specs.Option.{IfSome, option_copied, option_map}
+use Rattle.fab_base.specs.declared.answers.Refusal.{Refusal}
+use Rattle.fab_base.specs.Layouts.{Group, group_of}
+use Rattle.quorum.specs.Quorums.{IsWithinLimits}
+use Rattle.protocol.specs.Coordinators.{AreEnough}
+use Rattle.protocol.specs.Views.{kept_by}
+use Rattle.protocol.specs.Nodes.{Node, NodeStep, scrub_refusal, scrub_refusal_in, scrubbed_at}
+use Rattle.stripe_code.specs.Codes.{coding}
+use Rattle.coord_phase.specs.Operations.{PriorIsWithinLimits, group_in_view}
+use Rattle.node.specs.Outcomes.{Outcome}
+use Rattle.node.specs.Scrubs.{scrubbed_by}
+use Rattle.node.specs.States.{StepsAs, parts_in}
+use Rattle.node.specs.Running.{Running, running, state_of}
+use Rattle.node.specs.Tasks.{tasks_in}
+use Rattle.node.proofs.ScrubBegins.{refusal_so, scrubbed_so}
+use Rattle.node.proofs.Steps.{group_in_view_is, steps_so}
+use Rattle.node.proofs.nodes.Node.scrub.Goals as goal
+
+pub returns-in_default-clause-refused : goal.returns-in_default-clause-refused
+unfolding scrub_refusal
+returns-in_default-clause-refused g c =
+    let x = c.self.inside in
+    let node = state_of (running x.layout x.tasks x.store) in
+    let found : group_of x.layout c.args.group.0 ≡ None = sym c.group.ensures.found ∙ ap option_copied c.in_default.is in
+    subst (λ (n : Running g.row.D.Denot). scrub_refusal n.layout (state_of n) c.args.group c.args.stripe c.args.members.now ≡ Some Refusal.NoStripe) c.self.view_is
+    (ap (λ (o : Option Group). scrub_refusal_in node c.args.stripe c.args.members.now (option_map (kept_by (node.learnt c.args.group.0).view.members) o)) found)
+
+pub returns-in-Some-refusal-clause-refused : goal.returns-in-Some-refusal-clause-refused
+returns-in-Some-refusal-clause-refused g c =
+    let x = c.self.inside in
+    let found = sym c.in-Some.ensures.found in
+    subst (λ (n : Running g.row.D.Denot). scrub_refusal n.layout (state_of n) c.args.group c.args.stripe c.args.members.now ≡ Some c.in-Some-refusal.refusal) c.self.view_is
+    (refusal_so x.layout x.tasks x.store c.args.group c.args.stripe c.args.members.now c.in-Some.kept.now c.learnt_view-view.result c.self.invariant.boot found
+    (c.learnt_view-view.ensures.view x.layout found)
+    ∙ sym (c.scrub_refusal.ensures.value (parts_in x.layout x.store.state)) ∙ c.in-Some-refusal.is)
+
+pub returns-in_err-scrub-clause-refused : goal.returns-in_err-scrub-clause-refused
+returns-in_err-scrub-clause-refused g c =
+    let x = c.self.inside in
+    let found = sym c.in-Some.ensures.found in
+    let none = subst (λ (n : Running g.row.D.Denot). scrub_refusal n.layout (state_of n) c.args.group c.args.stripe c.args.members.now ≡ None) c.self.view_is
+    (refusal_so x.layout x.tasks x.store c.args.group c.args.stripe c.args.members.now c.in-Some.kept.now c.learnt_view-view.result c.self.invariant.boot found
+    (c.learnt_view-view.ensures.view x.layout found)
+    ∙ sym (c.scrub_refusal.ensures.value (parts_in x.layout x.store.state)) ∙ c.in_default-refusal.is) in
+    search (rules, none)
+
+pub returns-in-Some-outs-clause-refused : goal.returns-in-Some-outs-clause-refused
+returns-in-Some-outs-clause-refused g c =
+    let x = c.self.inside in
+    let found = sym c.in-Some.ensures.found in
+    subst (λ (n : Running g.row.D.Denot). scrub_refusal n.layout (state_of n) c.args.group c.args.stripe c.args.members.now ≡ None) c.self.view_is
+    (refusal_so x.layout x.tasks x.store c.args.group c.args.stripe c.args.members.now c.in-Some.kept.now c.learnt_view-view.result c.self.invariant.boot found
+    (c.learnt_view-view.ensures.view x.layout found)
+    ∙ sym (c.scrub_refusal.ensures.value (parts_in x.layout x.store.state)) ∙ c.in_default-refusal.is)
+
+pub scrub-requires-clause-limits : goal.scrub-requires-clause-limits
+scrub-requires-clause-limits g c =
+    let x = c.self.inside in
+    let view = c.learnt_view-view.result in
+    let found = sym c.in-Some.ensures.found in
+    subst (λ (k : Group). IsWithinLimits k.m (length view.members)) (sym (group_in_view_is x.layout view.members c.args.group.0 c.in-Some.kept.now found))
+    (c.learnt_view-view.ensures.limits x.layout found c.self.invariant.lists)
+
+pub scrub-requires-clause-prior : goal.scrub-requires-clause-prior
+scrub-requires-clause-prior g c =
+    let x = c.self.inside in
+    let view = c.learnt_view-view.result in
+    let found = sym c.in-Some.ensures.found in
+    subst (λ (k : Group). PriorIsWithinLimits k.m view.number view.prior) (sym (group_in_view_is x.layout view.members c.args.group.0 c.in-Some.kept.now found))
+    (c.learnt_view-view.ensures.prior x.layout found c.self.invariant.lists)
+
+pub returns-in-Some-outs-clause-step : goal.returns-in-Some-outs-clause-step
+returns-in-Some-outs-clause-step g c =
+    let x = c.self.inside in
+    let me = x.tasks.work.calls.me in
+    let now = c.args.now in
+    let view = c.learnt_view-view.result in
+    let found = sym c.in-Some.ensures.found in
+    let node = tasks_in (parts_in x.layout x.store.state) x.tasks in
+    subst
+    (λ (n : Running g.row.D.Denot). StepsAs n.me (state_of (running x.layout c.scrub.new.self x.store))
+    (scrubbed_at (coding n.layout) n.me now (state_of n) c.args.group c.args.stripe c.args.members.now) c.in-Some-outs.outs)
+    c.self.view_is
+    (steps_so x.layout x.tasks c.scrub.new.self x.store c.self.invariant.boot
+    (λ (n : Node). scrubbed_at (coding x.layout) me now n c.args.group c.args.stripe c.args.members.now) c.in-Some-outs.outs c.scrub.ensures.same.boot
+    (subst (λ (step : NodeStep). StepsAs me (tasks_in (parts_in x.layout x.store.state) c.scrub.new.self) step c.in-Some-outs.outs)
+    (sym (scrubbed_so x.layout me now node c.args.group c.args.stripe c.args.members.now c.in-Some.kept.now view (c.learnt_view-view.ensures.view x.layout found) found))
+    (subst (λ (o : Option Outcome). IfSome o (StepsAs me (tasks_in (parts_in x.layout x.store.state) c.scrub.new.self)
+    (scrubbed_by (coding x.layout) (group_in_view x.layout view.members c.args.group.0) view now c.args.group c.args.stripe c.args.members.now me node)))
+    c.in-Some-outs.is (c.in_ok-scrub.ensures.step (parts_in x.layout x.store.state)))))
