@@ -1,5 +1,8 @@
 pub mod BlockTables
 pub mod Blocks
+pub mod Records
+pub mod OldLists
+pub mod BringingOver
 pub mod Images
 pub mod Bricks
 pub mod Standing

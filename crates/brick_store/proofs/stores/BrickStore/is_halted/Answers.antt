@@ -31,6 +31,7 @@ returns-clause-listed g c =
     (λ told runs.
     let on_disk = c.self.invariant.on_disk told runs in
     record {
+      form = x.frames.shape.form;
       frames = x.frames.frames;
       opens = subst (λ (b : Bool). OpensAs x.frames.shape x.frames.frames b (d.seen x.frames.disk)) on_disk.closed on_disk.shows.opens;
       bytes = refl;
