@@ -29,6 +29,7 @@ pub mod OldOpenings
 pub mod OldStarts
 pub mod OldTaken
 pub mod OldTakes
+pub mod Numbers
 pub mod HeldLogs
 pub mod Counting
 pub mod KeptLogs
