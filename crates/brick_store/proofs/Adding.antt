@@ -107,7 +107,7 @@ brick_same {D} blocks now frames st same =
     (cached_same frames.shape.block blocks now) st same))
   where
     with_state : StateOf Version → Brick D
-    with_state s = record { disk = frames.disk; shape = frames.shape; state = s; listed = size_of frames.frames; halted = frames.halted }
+    with_state s = record { disk = frames.disk; shape = formed New frames.shape; state = s; listed = size_of frames.frames; halted = frames.halted }
 
 module _ {D : Type 0} (d : on_disk.Ghosts D) where
   -- and the store stands with it
@@ -116,6 +116,7 @@ module _ {D : Type 0} (d : on_disk.Ghosts D) where
       → Standing d.tells d.seen d.may_leave frames index blocks zero_block → Standing d.tells d.seen d.may_leave frames index now zero_block
   standing_same blocks now zero_block frames index same standing = record {
     limits = standing.limits;
+    slotted = standing.slotted;
     indexed = standing.indexed;
     cached_all = slots_imply (λ slot. IsCached frames.shape.block blocks slot × SameUnder blocks now slot)
         (IsCached frames.shape.block now) cached_now (state_of index)

@@ -30,8 +30,11 @@ pub mod OldStarts
 pub mod OldTaken
 pub mod OldTakes
 pub mod Numbers
+pub mod Renumbered
+pub mod CutBlocks
 pub mod HeldLogs
 pub mod Counting
 pub mod KeptLogs
 pub mod Words
 pub mod PlainChanges
+pub mod Bringing

@@ -124,7 +124,7 @@ named_again given n placed = by (eqb n 4294967295) refl (has_place given n) refl
     by false is false at (inr has) = absurd cc
 
 -- there are no more than were named
-with_long : (given : List ℕ) (n : ℕ) → length (given_with given n) ≤ length given + 1
+pub with_long : (given : List ℕ) (n : ℕ) → length (given_with given n) ≤ length given + 1
 with_long given n = by (is_new given n)
   where
     by : (b : Bool) → length (cond b (given ++ n ∷ []) given) ≤ length given + 1
@@ -135,6 +135,30 @@ pub all_long : (given ns : List ℕ) → length (given_all given ns) ≤ length 
 unfolding given_all
 all_long given [] = omega arith
 all_long given (n ∷ ns) = omega (arith, all_long (given_with given n) ns, with_long given n)
+
+-- what holds of all that are named holds of those that get a slot
+pub all_given : (P : ℕ → Type 0) (given ns : List ℕ) → AllByRecursion P given → AllByRecursion P ns → AllByRecursion P (given_all given ns)
+unfolding given_all
+all_given P given [] has all = has
+all_given P given (n ∷ ns) has all = all_given P (given_with given n) ns (by (is_new given n)) all.1
+  where
+    push : (xs : List ℕ) → AllByRecursion P xs → AllByRecursion P (xs ++ n ∷ [])
+    push [] h = (all.0, tt)
+    push (x ∷ xs) h = (h.0, push xs h.1)
+
+    by : (b : Bool) → AllByRecursion P (cond b (given ++ n ∷ []) given)
+    by true = push given has
+    by false = has
+
+-- a slot stays what it is, while others are given
+pub slot_kept : (given more : List ℕ) (n : ℕ) → IsPlaced given n → slot_for (given ++ more) n ≡ slot_for given n
+slot_kept given more n placed = by (eqb n 4294967295) refl placed
+  where
+    by : (z : Bool) → eqb n 4294967295 ≡ z → IsPlaced given n
+        → cond z 4294967295 (place_of (given ++ more) n) ≡ cond z 4294967295 (place_of given n)
+    by true is placed = refl
+    by false is (inl zero_block) = absurd cc
+    by false is (inr has) = place_kept given more n has
 
 -- ---- each number once
 

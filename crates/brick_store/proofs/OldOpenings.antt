@@ -77,21 +77,21 @@ module _ {D : Type 0} (seen : D → List ℕ) (held : Held D) (shows : Shows see
 over_calls : (shape : Shape) (form : Form) (frames : List Frame) (closed : Bool) → is_old shape ≡ true → shape.form ≡ form
     → 13 ≡ calls_on_opening (formed form shape) frames closed
 over_calls shape form frames closed old is =
-    subst (λ (f : Form). 13 ≡ calls_on_opening (formed f shape) frames closed) is (each shape.form old)
+    subst (λ (f : Form). 13 ≡ calls_on_opening (formed f shape) frames closed) is (each shape.form _ old)
   where
-    each : (f : Form) {b : Bool} → is_old_form f ≡ true → 13 ≡ (if is_old_form f then 13 else opening_calls (not (is_old_form f) && b))
-    each Old was = refl
-    each New was = absurd cc
-    each Moved was = absurd cc
+    each : (f : Form) (b : Bool) → is_old_form f ≡ true → 13 ≡ (if is_old_form f then 13 else opening_calls (not (is_old_form f) && b))
+    each Old b was = refl
+    each New b was = absurd cc
+    each Moved b was = absurd cc
 
 module _ {D : Type 0} (d : on_disk.Ghosts D) (only_now : (disk : D) (image : List ℕ) → d.left_since disk (d.moment disk) image → d.may_leave disk image)
     (counts : (disk : D) (t : ℕ) (image : List ℕ) → t ≤ d.moment disk → d.may_leave disk image → d.left_since disk t image)
     (disk new : D) (held : Held D) (end : End) (F : Type 0) (shows : d.tells → Shows d.seen held) (old : is_old held.shape ≡ true)
     (still : Still d disk held.disk F) (certain : d.certain held.disk ≡ d.certain disk) where
-  st : StateOf Version
+  abbrev st : StateOf Version
   st = old_state_in held.shape.block held.shape.records held.frames
 
-  shape : Shape
+  abbrev shape : Shape
   shape = formed New held.shape
 
   untouched : IsUntouched d.seen d.may_leave d.moment d.left_since disk held.disk

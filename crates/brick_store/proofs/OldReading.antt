@@ -107,7 +107,7 @@ old_fold_more size records frames frame st next blocks blocks_next now so_far ta
     leads = so_far.leads refl
 
     differ : {A : Type 0} → now ≡ false → now ≡ true → A
-    differ no all = absurd (false_true (sym no ∙ all))
+    differ stopped all = absurd (false_true (sym stopped ∙ all))
       where
         false_true : false ≡ true → ⊥
         false_true e = cc
@@ -117,7 +117,7 @@ old_fold_more size records frames frame st next blocks blocks_next now so_far ta
     by None at is = record {
       found = old_leads_then size records frames (frame ∷ []) empty before leads ∙ old_none size records frame [] before at ∙ sym is.1;
       leads = λ all. differ is.0 all;
-      ended = λ no rest. ap (old_state_in size records) (append_assoc frames (frame ∷ []) rest)
+      ended = λ stopped rest. ap (old_state_in size records) (append_assoc frames (frame ∷ []) rest)
           ∙ old_leads_then size records frames (frame ∷ rest) empty before leads ∙ old_none size records frame rest before at ∙ sym is.1;
       kept = taken.kept;
       held = taken.held;
@@ -129,7 +129,7 @@ old_fold_more size records frames frame st next blocks blocks_next now so_far ta
           found = old_leads_then size records frames (frame ∷ []) empty before leads ∙ old_one size records frame [] before after some
               ∙ old_nil size records after;
           leads = λ all. old_leads_more size records frames frame empty before after leads some;
-          ended = λ no rest. differ no is.0;
+          ended = λ stopped rest. differ stopped is.0;
           kept = taken.kept;
           held = taken.held;
           members = taken.members so_far.members;

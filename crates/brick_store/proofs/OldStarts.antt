@@ -32,14 +32,14 @@ use Rattle.brick_store.specs.Images.{block_at, limits_of, StandsFor, StandsForEi
 use Rattle.brick_store.specs.OldLists.{old_state_in}
 use Rattle.brick_store.specs.Openings.{IsAllowedOr, IsInside, StartsOver}
 use Rattle.brick_store.specs.Standing.{AllSlots, Leads}
-use Rattle.brick_store.specs.Steps.{LeadsTo}
+use Rattle.brick_store.specs.Steps.{CanChange, IsSettled, LeadsTo}
 use Rattle.brick_store.proofs.Changing.{leads_folded}
 use Rattle.brick_store.proofs.CutOpenings.{run_clock}
 use Rattle.brick_store.proofs.FreshLists.{synced_allowed}
 use Rattle.brick_store.proofs.OldOpenings.{old_state}
 use Rattle.brick_store.proofs.Opened.{kept_stands}
 use Rattle.brick_store.proofs.OpeningLaws.{kept_for}
-use Rattle.brick_store.proofs.Resolving.{resolved_same, slots_imply}
+use Rattle.brick_store.proofs.Resolving.{boot-resolved, resolved_same, slots_imply}
 use Rattle.brick_store.proofs.Starting.{kept_leads, still_allowed}
 use Rattle.brick_store.proofs.StateChanges.{cut_means, ends_as, not_begun_so, not_whole}
 use Rattle.brick_store.proofs.Stepping.{refused, room_less, slots_same}
@@ -87,11 +87,11 @@ among_inside : (shape : Shape) (blocks image : List ℕ) (count slot : ℕ) → 
 among_inside shape blocks image count slot limits long few stand (inl zero_block) = inl zero_block
 among_inside shape blocks image count slot limits long few stand (inr fits) =
     let inside = part_inside (slot_at (formed Moved shape) 0) (length blocks) image (omega (arith, fits, limits.some_bytes)) (ap length stand) in
-    let below : slot < count = ⊎_elim (λ is. is) (λ no. absurd (never no)) (cases_lt slot count) in
+    let below : slot < count = ⊎_elim (λ is. is) (λ past. absurd (never past)) (cases_lt slot count) in
     inr (record { is_slot = omega (arith, below, few); inside = omega (arith, inside, fits) })
   where
     never : count ≤ slot → ⊥
-    never no = omega (arith, fits, long, mul-le-mul_right {m = count} {n = slot} shape.block no, limits.some_bytes)
+    never past = omega (arith, fits, long, mul-le-mul_right {m = count} {n = slot} shape.block past, limits.some_bytes)
 
 -- An image of frames that lead to a state whose slots are those of the blocks stands for it, where the slots hold what they held as the store was brought over.
 pub moved_stands : (shape : Shape) (blocks content image : List ℕ) (count : ℕ) (st : StateOf Entry) → IsShape shape → length blocks ≡ count * shape.block
@@ -162,9 +162,28 @@ ahead_old has_room for_less s frames body blocks old are room =
 
 -- ---- an old store that was read, and then was brought over
 
+-- a state with blocks was opened as often as the one with slots
+pub few_boots : (block : ℕ → List ℕ) (now : StateOf Entry) (st : StateOf Version) → resolved block now ≡ st → now.boot < 4294967295 → st.boot < 4294967295
+few_boots block now st is few = omega (arith, few, boot-resolved block now, ap (λ (s : StateOf Version). s.boot) is)
+
+-- the store that was brought over can be changed
+pub may_over : {D : Type 0} (d : on_disk.Ghosts D) (shape : Shape) (listed : List Frame) (st : StateOf Entry) (new : Held D)
+    → new.shape ≡ formed Moved shape → new.halted ≡ false → new.frames ≡ listed → Leads (limits_of shape) listed empty st → (d.tells → IsSettled d new)
+    → CanChange d st new
+may_over d shape listed st new is runs frames_are leads settled = record {
+  runs = runs;
+  slotted = subst (λ (s : Shape). is_old s ≡ false) (sym is) refl;
+  leads = subst (λ (s : Shape). Leads (limits_of s) new.frames empty st) (sym is)
+      (subst (λ (xs : List Frame). Leads (limits_of shape) xs empty st) (sym frames_are) leads);
+  settled = settled;
+}
+
 -- how the sync of the list failed
 cut_when : (fault : FrameFault) → refused fault ≡ refused frames.Disk → end_of (refused (fault_of fault)) ≡ Cut
 cut_when fault is = sym (ends_as fault) ∙ ap (λ (r : Result (Unit {0}) FrameFault). lists.end_of r) is
+
+err_not : false ≡ true → ⊥
+err_not is = cc
 
 module _ {D : Type 0} (d : on_disk.Ghosts D) (only_now : (disk : D) (image : List ℕ) → d.left_since disk (d.moment disk) image → d.may_leave disk image)
     (counts : (disk : D) (t : ℕ) (image : List ℕ) → t ≤ d.moment disk → d.may_leave disk image → d.left_since disk t image)
@@ -209,10 +228,10 @@ module _ {D : Type 0} (d : on_disk.Ghosts D) (only_now : (disk : D) (image : Lis
       moments = λ told closed. synced_allowed d.tells d.seen d.may_leave d.moment d.left_since only_now held.disk mid new either still.untouched time crash;
       run = run_after d.tells d.moment d.plan d.unlisted 13 held.disk mid new F _ _ still.plan still.untouched.clock
           (run_cut d.tells d.moment d.plan d.unlisted 1 13 mid new _ _ (omega arith) (not_whole (fault_of fault))
-          (λ no. run.waits (λ ok. absurd ok) (λ is. no (cut_when fault is)))
+          (λ no. run.waits (λ ok. absurd (err_not ok)) (λ is. no (cut_when fault is)))
           (run_as d.tells d.moment d.plan d.unlisted 1 mid new (IsOk (refused fault)) (refused fault ≡ refused frames.Disk) ⊥
           (end_of (refused (fault_of fault)) ≡ Cut) (λ is. absurd is) (cut_means fault)
-          (λ a b. run.waits (λ ok. absurd ok) (λ is. b (cut_when fault is))) run));
+          (λ a b. run.waits (λ ok. absurd (err_not ok)) (λ is. b (cut_when fault is))) run));
       not_worn = λ is free. few;
       cut = λ is told free closed.
           let content_is : d.seen new ≡ d.seen held.disk = content ∙ still.untouched.content in

@@ -144,7 +144,7 @@ module _ (size records : ℕ) (blocks : SlotBlocks) where
         kept = applied_keeps (memory_limits records) one.read old new kept one.leads;
         held = applied_slots (IsCached size blocks) (memory_limits records) one.read old new one.leads (inl refl)
             (λ l same. named l.change (λ bottom slot. none one.read one.is bottom slot l same)) held;
-        members = takes.members tt;
+        members = takes.members refl;
       }
     where
       named : (change : LogChange) → ((bottom : Bool) (slot : ℕ) → change ≢ Slot bottom slot) → IsCached size blocks (slot_named change)
@@ -159,7 +159,7 @@ module _ (size records : ℕ) (blocks : SlotBlocks) where
         answers = subst (λ (o : Option (StateOf Version)). OldAnswers (state old) (state new) o false) (sym is) (refl, ap state one.same);
         kept = subst (IsKeptState (memory_limits records)) (sym one.same) kept;
         held = subst (AllSlots (IsCached size blocks)) (sym one.same) held;
-        members = takes.members tt;
+        members = takes.members refl;
       }
 
   -- a frame that ends the list
@@ -217,13 +217,13 @@ version_takes size records blocks now frame r bottom bytes slot old new (Ok take
         ∙ version_seen size records now limits r bottom slot old refl within)
 
     by : (o : Option (StateOf Entry)) → applied limits item old ≡ o → Answers new o taken → TakesOld size records frame old new blocks now taken
-    by None at no =
-        let same_state : new ≡ old = refused (ap Ok no) in
+    by None at ended =
+        let same_state : new ≡ old = refused (ap Ok ended) in
         let none : old_taken size records frame (resolved (cached size blocks) old) ≡ None =
         is ∙ ap (λ (o : Option (StateOf Entry)). option_map (resolved (cached size now)) o) at in
         record {
           answers = subst (λ (o : Option (StateOf Version)). OldAnswers (resolved (cached size blocks) old) (resolved (cached size now) new) o taken) (sym none)
-              (no, ap (resolved (cached size now)) same_state ∙ before);
+              (ended, ap (resolved (cached size now)) same_state ∙ before);
           kept = subst (IsKeptState limits) (sym same_state) kept;
           held = subst (AllSlots (IsCached size now)) (sym same_state) held_now;
           members = λ all. subst (λ (s : StateOf Entry). AllByRecursion GroupHasMembers s.groups) (sym same_state) all;

@@ -96,8 +96,8 @@ module _ (size records : ℕ) (blocks : SlotBlocks) where
   block_seen limits full bottom t slot s within = by bottom ∙ ap (λ (b : Bool). option_map stripe (cond b (chosen bottom) None)) (sym in_store)
     where
       chosen : Bool → Option (StripeOf Entry)
-      chosen true = cond (eqb (length s.added) 0 && full) None (Some (with_bottom (entry t slot) s))
-      chosen false = cond (full || not (is_above (newest_entry s) t)) None (Some (with_added (entry t slot) s))
+      chosen b = cond b (cond (eqb (length s.added) 0 && full) None (Some (with_bottom (entry t slot) s)))
+          (cond (full || not (is_above (newest_entry s) t)) None (Some (with_added (entry t slot) s)))
 
       in_store : (eqb slot 4294967295 || ltb slot limits.slots) ≡ true
       in_store = or_true (eqb slot 4294967295) (lt-ltb slot limits.slots within)

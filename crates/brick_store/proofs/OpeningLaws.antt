@@ -246,10 +246,10 @@ module _ {D : Type 0} (d : on_disk.Ghosts D) (only_now : (disk : D) (image : Lis
           (subst (λ (f : Form). OpensAs (formed f held.shape) frames closed (d.seen disk)) (sym same) opens) in
           subst (λ (f : Form). opening_calls (is_appendable (is_whole (limits_of held.shape) held.frames empty) held 4)
           ≡ calls_on_opening (formed f held.shape) frames closed) same
-          (new_calls held.shape.form (opening_is held _ _ held.shape frames closed (ap (λ (fs : List Frame). is_whole (limits_of held.shape) fs empty) once.0) refl once.0 once.1) slotted)
+          (new_calls held.shape.form _ _ (opening_is held _ _ held.shape frames closed (ap (λ (fs : List Frame). is_whole (limits_of held.shape) fs empty) once.0) refl once.0 once.1) slotted)
         where
-          new_calls : (f : Form) {n : ℕ} {b : Bool} → n ≡ opening_calls b → is_old_form f ≡ false
+          new_calls : (f : Form) (n : ℕ) (b : Bool) → n ≡ opening_calls b → is_old_form f ≡ false
               → n ≡ (if is_old_form f then 13 else opening_calls (not (is_old_form f) && b))
-          new_calls Old is no = absurd cc
-          new_calls New is no = is
-          new_calls Moved is no = is
+          new_calls Old n b is slotted = absurd cc
+          new_calls New n b is slotted = is
+          new_calls Moved n b is slotted = is

@@ -116,9 +116,11 @@ pub ahead_new : {D : Type 0} (has_room : D → ℕ → ℕ → ℕ → Type 0) (
     → HasRoomAhead has_room s frames body
     → HasRoom has_room s 13 (size_of frames + 34 + (s.shape.block + body + 7)) (max (size_of frames + 1) (body + 6))
 ahead_new has_room s frames body slotted room =
-    subst (λ (b : Bool). HasRoom has_room s (if b then 14 else 13)
+    let none : 0 + (size_of frames + 34) + (s.shape.block + body + 7) ≡ size_of frames + 34 + (s.shape.block + body + 7) = omega arith in
+    subst (λ (bytes : ℕ). HasRoom has_room s 13 bytes (max (size_of frames + 1) (body + 6))) none
+    (subst (λ (b : Bool). HasRoom has_room s (if b then 14 else 13)
     ((if b then (min (length frames) s.shape.records * s.shape.block) else 0) + (size_of frames + 34) + (s.shape.block + body + 7))
-    (max (size_of frames + 1) (body + 6))) slotted room
+    (max (size_of frames + 1) (body + 6))) slotted room)
 
 -- room for more is room for less
 pub room_less : {D : Type 0} (has_room : D → ℕ → ℕ → ℕ → Type 0) (for_less : (disk : D) (calls bytes end fewer less nearer : ℕ) → fewer ≤ calls

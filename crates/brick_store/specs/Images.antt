@@ -12,7 +12,8 @@ use Rattle.brick_state.specs.States.{StateOf, empty}
 use Rattle.brick_state.specs.Folds.{Limits, folded}
 use Rattle.brick_store.specs.Blocks.{resolved}
 use Rattle.brick_store.specs.OldLists.{old_state_in}
-pub use Rattle.brick_store.specs.Records.{record_of, or_logged, records_of, onto_record}
+pub use Rattle.brick_store.specs.Records.{record_of, or_logged, onto_record}
+unfoldable pub use Rattle.brick_store.specs.Records.{records_of}
 
 -- as many live records as slots
 abbrev pub limits_for : ℕ → Limits

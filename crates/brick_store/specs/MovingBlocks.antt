@@ -1,5 +1,5 @@
 -- Blocks of an old store on their way to their slots: each number that a version names gets the next slot when it is named first.
-use Rattle.std.specs.Prelude.{◌≡◌, ℕ, ◌+◌, ◌≤◌, true, false, if◌then◌else◌, Some, List, [], ◌∷◌, ◌++◌, length, slice_index}
+use Rattle.std.specs.Prelude.{◌≡◌, ℕ, ◌+◌, ◌<◌, ◌≤◌, true, false, if◌then◌else◌, Some, List, [], ◌∷◌, ◌++◌, length, slice_index}
 use Rattle.std.specs.List.{flat_map}
 use Rattle.frame_store.specs.declared.frames.Frame.{Frame}
 use Rattle.brick_state.specs.declared.records.Record.{Record}

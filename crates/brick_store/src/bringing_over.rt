@@ -1,6 +1,6 @@
 //! What an old store is brought over to: its blocks in the slots from 0 on, and the frames that name them.
 
-ghost use Rattle.std.specs.Prelude.{◌≡◌, ◌≢◌, ◌<◌, ℕ, Some, List, [], IfOk, OnOk, map, vec_len};
+ghost use Rattle.std.specs.Prelude.{◌≡◌, ◌≢◌, ◌<◌, ℕ, Some, List, [], IfOk, OnOk, length, map};
 ghost use Rattle.std.specs.List.{AllByRecursion};
 ghost use Rattle.brick_state.specs.Indexes.{state_of, limits_of};
 ghost use Rattle.brick_state.specs.Folds.{slot_named};
@@ -45,7 +45,7 @@ impl Slots {
     // None is given yet, of so many numbers.
     fn new(alloc: Global, numbers: u32) -> Result<Slots, NoMem>
         ensures given { IfOk result (λ made. AreGiven [] made.moved.items made.next) }
-        ensures numbers { IfOk result (λ made. vec_len made.moved ≡ numbers) }
+        ensures numbers { IfOk result (λ made. length made.moved.items ≡ numbers) }
     {
         let moved = vec![in alloc; ZERO_SLOT; numbers as usize]?;
         Ok(Slots { moved, next: 0 })
@@ -53,9 +53,9 @@ impl Slots {
 
     // The slot of a number, and whether it was given just now. The zero block lies in no slot.
     fn of(&mut self, number: u32) -> (u32, bool)
-        requires named { number ≢ 4294967295 → number < vec_len self.old.moved }
+        requires named { number ≢ 4294967295 → number < length self.old.moved.items }
         requires few { self.old.next < 4294967295 }
-        ensures numbers { vec_len self.new.moved ≡ vec_len self.old.moved }
+        ensures numbers { length self.new.moved.items ≡ length self.old.moved.items }
         ensures given { (given : List ℕ) → AreGiven given self.old.moved.items self.old.next
             → AreGiven (given_with given number) self.new.moved.items self.new.next }
         ensures slot { (given : List ℕ) → AreGiven given self.old.moved.items self.old.next → result.0 ≡ slot_for (given_with given number) number }
@@ -159,9 +159,9 @@ impl Bringing {
     // Takes a record more, with the slot that its block goes to.
     fn bring(&mut self, item: &Record) -> Result<(), NoMem>
         requires members { RecordHasMembers item.now }
-        requires named { number_in item.now ≢ 4294967295 → number_in item.now < vec_len self.old.slots.moved }
+        requires named { number_in item.now ≢ 4294967295 → number_in item.now < length self.old.slots.moved.items }
         requires few { self.old.slots.next < 4294967295 }
-        ensures numbers { vec_len self.new.slots.moved ≡ vec_len self.old.slots.moved }
+        ensures numbers { length self.new.slots.moved.items ≡ length self.old.slots.moved.items }
         ensures limits { limits_of self.new.brought.index ≡ limits_of self.old.brought.index }
         ensures given { OnOk result ((given : List ℕ) → AreGiven given self.old.slots.moved.items self.old.slots.next
             → AreGiven (given_by_record item.now given) self.new.slots.moved.items self.new.slots.next) }
@@ -183,9 +183,9 @@ impl Bringing {
 
     // The change of a log with the slot that its block goes to, and the block in it.
     fn take_block(&mut self, logged: Logged) -> Result<Logged, NoMem>
-        requires named { slot_named logged.change ≢ 4294967295 → slot_named logged.change < vec_len self.old.slots.moved }
+        requires named { slot_named logged.change ≢ 4294967295 → slot_named logged.change < length self.old.slots.moved.items }
         requires few { self.old.slots.next < 4294967295 }
-        ensures numbers { vec_len self.new.slots.moved ≡ vec_len self.old.slots.moved }
+        ensures numbers { length self.new.slots.moved.items ≡ length self.old.slots.moved.items }
         ensures index { self.new.brought.index ≡ self.old.brought.index }
         ensures frames { self.new.brought.frames.items ≡ self.old.brought.frames.items }
         ensures given { IfOk result (λ now. (given : List ℕ) → AreGiven given self.old.slots.moved.items self.old.slots.next

@@ -37,7 +37,7 @@ returns-in-Ok-take_up-clause-found g c = λ told.
     let d = g.D.Disk in
     let held = c.in-Ok-opened.frames in
     let here = c.in-Ok-opened.ensures in
-    let slotted : is_old c.in-Ok-opened.frames.shape ≡ false = sym c.is_old.ensures ∙ c.if.false in
+    let slotted : is_old c.in-Ok-opened.frames.shape ≡ false = sym c.is_old.ensures ∙ c.if-is_old.false in
     let made = c.in-Ok-take_up.ensures in
     let taken = c.in-Ok-take_up.taken in
     let size = c.take_up.new.frames.shape.block in
@@ -55,7 +55,7 @@ pub returns-in-Ok-take_up-clause-listed : goal.returns-in-Ok-take_up-clause-list
 returns-in-Ok-take_up-clause-listed g c = λ told.
     let held = c.in-Ok-opened.frames in
     let here = c.in-Ok-opened.ensures in
-    let slotted : is_old c.in-Ok-opened.frames.shape ≡ false = sym c.is_old.ensures ∙ c.if.false in
+    let slotted : is_old c.in-Ok-opened.frames.shape ≡ false = sym c.is_old.ensures ∙ c.if-is_old.false in
     let made = c.in-Ok-take_up.ensures in
     let taken = c.in-Ok-take_up.taken in
     counted_there held _ (g.D.Disk.seen c.args.disk) c.take_up.new.frames.shape _ slotted
@@ -66,7 +66,7 @@ returns-in-Ok-take_up-clause-listed g c = λ told.
 pub returns-in-Ok-take_up-clause-opens : goal.returns-in-Ok-take_up-clause-opens
 returns-in-Ok-take_up-clause-opens g c =
     let here = c.in-Ok-opened.ensures in
-    let slotted : is_old c.in-Ok-opened.frames.shape ≡ false = sym c.is_old.ensures ∙ c.if.false in
+    let slotted : is_old c.in-Ok-opened.frames.shape ≡ false = sym c.is_old.ensures ∙ c.if-is_old.false in
     subst (λ (s : Shape). Opens g.D.Disk s c.args.disk c.take_up.new.frames.disk Whole) (ap (formed New) here.shape)
     (started_opens g.D.Disk g.met.D.Disk.only_now g.met.D.Disk.counts_now c.args.disk c.take_up.new.frames.disk c.in-Ok-opened.frames _ _
     (λ told. here.read told here.runs) slotted here.still here.certain c.in-Ok-take_up.ensures.starts)
@@ -74,7 +74,7 @@ returns-in-Ok-take_up-clause-opens g c =
 pub returns-in-Err-take_up-clause-opens : goal.returns-in-Err-take_up-clause-opens
 returns-in-Err-take_up-clause-opens g c =
     let here = c.in-Ok-opened.ensures in
-    let slotted : is_old c.in-Ok-opened.frames.shape ≡ false = sym c.is_old.ensures ∙ c.if.false in
+    let slotted : is_old c.in-Ok-opened.frames.shape ≡ false = sym c.is_old.ensures ∙ c.if-is_old.false in
     let back = sym c.into_disk.ensures in
     subst (λ (last : g.row.D.Denot). Opens g.D.Disk (shape_of c.args.me.0 c.args.block c.args.records) c.args.disk last (stopped_by c.in-Err-take_up.fault)) back
     (subst (λ (s : Shape). Opens g.D.Disk s c.args.disk c.take_up.new.frames.disk (stopped_by c.in-Err-take_up.fault)) (ap (formed New) here.shape)
@@ -86,7 +86,7 @@ returns-in-Err-take_up-clause-worn g c = λ is told.
     let d = g.D.Disk in
     let held = c.in-Ok-opened.frames in
     let here = c.in-Ok-opened.ensures in
-    let slotted : is_old c.in-Ok-opened.frames.shape ≡ false = sym c.is_old.ensures ∙ c.if.false in
+    let slotted : is_old c.in-Ok-opened.frames.shape ≡ false = sym c.is_old.ensures ∙ c.if-is_old.false in
     subst (λ (s : Shape). IsWornOut s (d.seen c.args.disk)) (ap (formed New) here.shape)
     (worn_there d.seen held (here.read told here.runs) slotted (d.seen c.args.disk) here.still.untouched.content (c.in-Err-take_up.ensures.worn (ap Err is)))
 
@@ -113,7 +113,7 @@ returns-then-is_old-clause-found g c =
     let d = g.D.Disk in
     let held = c.in-Ok-opened.frames in
     let here = c.in-Ok-opened.ensures in
-    let old : is_old held.shape ≡ true = sym c.is_old.ensures ∙ c.if.true in
+    let old : is_old held.shape ≡ true = sym c.is_old.ensures ∙ c.if-is_old.true in
     if_both c.open_over.result _ _ _ c.open_over.ensures.state c.open_over.ensures.boots (λ store state boots told.
     subst (λ (s : Shape). IsCounted s (d.seen c.args.disk) store.state) (ap (formed New) here.shape)
     (over_counted d.seen held (here.read told here.runs) old (d.seen c.args.disk) here.still.untouched.content store.state state boots))
@@ -123,7 +123,7 @@ returns-then-is_old-clause-listed g c =
     let d = g.D.Disk in
     let held = c.in-Ok-opened.frames in
     let here = c.in-Ok-opened.ensures in
-    let old : is_old held.shape ≡ true = sym c.is_old.ensures ∙ c.if.true in
+    let old : is_old held.shape ≡ true = sym c.is_old.ensures ∙ c.if-is_old.true in
     if_both c.open_over.result _ _ _ c.open_over.ensures.listed
     (if_both c.open_over.result _ _ (λ store. (store.shape ≡ formed New held.shape) × (store.state ≡ _)) c.open_over.ensures.shape c.open_over.ensures.state
     (λ store shape state. (shape, state)))
@@ -136,7 +136,7 @@ returns-then-is_old-clause-opens g c =
     let d = g.D.Disk in
     let held = c.in-Ok-opened.frames in
     let here = c.in-Ok-opened.ensures in
-    let old : is_old held.shape ≡ true = sym c.is_old.ensures ∙ c.if.true in
+    let old : is_old held.shape ≡ true = sym c.is_old.ensures ∙ c.if-is_old.true in
     subst (λ (s : Shape). Opens d s c.args.disk (disk_in c.open_over.result) (end_in c.open_over.result)) (ap (formed New) here.shape)
     (over_opens d g.met.D.Disk.only_now g.met.D.Disk.counts_now c.args.disk (disk_in c.open_over.result) held (end_in c.open_over.result) _
     (λ told. here.read told here.runs) old here.still here.certain c.open_over.ensures.starts)
@@ -149,7 +149,7 @@ returns-then-is_old-clause-worn g c =
     let d = g.D.Disk in
     let held = c.in-Ok-opened.frames in
     let here = c.in-Ok-opened.ensures in
-    let old : is_old held.shape ≡ true = sym c.is_old.ensures ∙ c.if.true in
+    let old : is_old held.shape ≡ true = sym c.is_old.ensures ∙ c.if-is_old.true in
     if_err c.open_over.result _ _ c.open_over.ensures.worn (λ refused worn is told.
     subst (λ (s : Shape). IsWornOut s (d.seen c.args.disk)) (ap (formed New) here.shape)
     (over_worn d.seen held (here.read told here.runs) old (d.seen c.args.disk) here.still.untouched.content (worn is)))

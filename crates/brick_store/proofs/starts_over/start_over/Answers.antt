@@ -1,5 +1,5 @@
 -- The store is brought over, and its opening is counted.
-use Rattle.std.proofs.Common.{◌≡◌, ℕ, ◌+◌, ◌≤◌, Bool, true, false, List, None, Result, Ok, Err, OnOk, refl, sym, ap, subst, ◌∙◌, length, arith, rules}
+use Rattle.std.proofs.Common.{◌≡◌, ℕ, ◌+◌, ◌<◌, ◌≤◌, Bool, true, false, List, None, Result, Ok, Err, OnOk, refl, sym, ap, subst, ◌∙◌, length, arith, rules}
 use Rattle.std.specs.Prelude.{IsOk}
 use Rattle.std.proofs.lemmas.Result.{err_from_is_err_and}
 use Rattle.fab_disk.specs.Changing.{Change, End, Cut, NotBegun, Whole, Stands}
@@ -32,7 +32,7 @@ use Rattle.brick_store.specs.Standing.{AllSlots, Leads}
 use Rattle.brick_store.specs.Steps.{IsUnchanged, IsChanged, CanChange, changed}
 use Rattle.brick_store.proofs.Counting.{disk_failed}
 use Rattle.brick_store.proofs.Opened.{counted_seen}
-use Rattle.brick_store.proofs.OldStarts.{after_over, ahead_old, bring_cut, count_over, lies, moved_stands, refused_over, sync_over}
+use Rattle.brick_store.proofs.OldStarts.{after_over, ahead_old, bring_cut, count_over, few_boots, lies, may_over, moved_stands, refused_over, sync_over}
 use Rattle.brick_store.proofs.OpeningLaws.{tried_ends}
 use Rattle.brick_store.proofs.Starting.{counted}
 use Rattle.brick_store.proofs.StateChanges.{cut_means, not_whole, settled_after, slots_after, stands_before}
@@ -66,7 +66,7 @@ returns-in_err-sync-clause-starts g c =
     let made = c.in_ok-reserve.ensures in
     let call = c.in_err-sync.ensures in
     let runs : c.reserve.new.self.halted ≡ false = made.answer.halts ∙ c.requires.runs in
-    let few = omega (arith, c.requires.boots, ap (λ (s : StateOf Version). s.boot) c.requires.state) in
+    let few : (old_state_in old.shape.block old.shape.records old.frames).boot < 4294967295 = few_boots (cut_block old.shape.block c.args.blocks.now) (state_of c.args.index.now) _ c.requires.state c.requires.boots in
     let p = err_from_is_err_and c.from_residual-in_err-sync.result c.from_residual-in_err-sync.ensures.1 in
     rw (p.1, p.2) (sync_over d g.met.D.Disk.only_now g.met.D.Disk.counts_now old c.requires.old c.reserve.new.self.disk _ made.still few c.sync.new.self.disk f
     (λ told. c.requires.read told c.requires.runs) made.certain call.content call.certain call.crash call.time call.run
@@ -87,7 +87,7 @@ returns-in_err-bring_over-clause-starts g c =
     let made = c.in_ok-reserve.ensures in
     let synced = c.in_ok-sync.ensures in
     let call = c.in_err-bring_over.ensures in
-    let few = omega (arith, c.requires.boots, ap (λ (s : StateOf Version). s.boot) c.requires.state) in
+    let few : (old_state_in old.shape.block old.shape.records old.frames).boot < 4294967295 = few_boots (cut_block old.shape.block c.args.blocks.now) (state_of c.args.index.now) _ c.requires.state c.requires.boots in
     let shape : held.shape ≡ old.shape = synced.same.shape ∙ made.same.shape in
     let listed_is : held.frames ≡ old.frames = synced.same.frames ∙ made.same.frames in
     let runs : held.halted ≡ false = synced.answer.halts ∙ made.answer.halts ∙ c.requires.runs in
@@ -120,17 +120,10 @@ pub append_count-requires-clause-may : goal.append_count-requires-clause-may
 append_count-requires-clause-may g c =
     let here = c.in_ok-bring_over.ensures in
     let new = c.bring_over.new.self in
-    let st = state_of c.args.index.now in
-    let shape : new.shape ≡ formed Moved c.args.frames.now.shape =
-    here.ok.shape ∙ ap (formed Moved) (c.in_ok-sync.ensures.same.shape ∙ c.in_ok-reserve.ensures.same.shape) in
     let runs : new.halted ≡ false = here.answer.halts ∙ c.in_ok-sync.ensures.answer.halts ∙ c.in_ok-reserve.ensures.answer.halts ∙ c.requires.runs in
-    record {
-      runs = runs;
-      slotted = subst (λ (s : Shape). is_old s ≡ false) (sym shape) refl;
-      leads = subst (λ (s : Shape). Leads (limits_of s) new.frames empty st) (sym shape)
-          (subst (λ (xs : List Frame). Leads (limits_of c.args.frames.now.shape) xs empty st) (sym here.ok.frames) c.requires.leads);
-      settled = λ told. record { only = (here.change.whole refl told).only; shows = here.read told runs; closed = here.ok.closed };
-    }
+    may_over g.D.Disk c.args.frames.now.shape c.args.listed.items (state_of c.args.index.now) new
+    (here.ok.shape ∙ ap (formed Moved) (c.in_ok-sync.ensures.same.shape ∙ c.in_ok-reserve.ensures.same.shape)) runs here.ok.frames c.requires.leads
+    (λ told. record { only = (here.change.whole refl told).only; shows = here.read told runs; closed = here.ok.closed })
 
 pub append_count-requires-clause-room : goal.append_count-requires-clause-room
 append_count-requires-clause-room g c =
@@ -164,14 +157,14 @@ pub returns-clause-listed : goal.returns-clause-listed
 returns-clause-listed g c =
     let same : size_of c.bring_over.new.self.frames ≡ size_of c.args.listed.items = ap size_of c.in_ok-bring_over.ensures.ok.frames in
     let body = c.in_ok-frame.ensures.length in
-    on_ok c.append_count.result
+    on_ok _ _ _ c.append_count.result
     (subst (λ (n : ℕ). OnOk c.append_count.result (size_of c.append_count.new.frames.frames ≡ size_of c.bring_over.new.self.frames + framed n)) body
     c.append_count.ensures.step.listed)
     (subst (λ (n : ℕ). size_of c.bring_over.new.self.frames + framed 4 ≡ n + framed 4) same refl)
   where
-    on_ok : {E : Type 0} {a b e : ℕ} (r : Result (Unit {0}) E) → OnOk r (a ≡ b) → b ≡ e → OnOk r (a ≡ e)
-    on_ok (Ok value) is then = is ∙ then
-    on_ok (Err fault) is then = tt
+    on_ok : {E : Type 0} (a b e : ℕ) (r : Result (Unit {0}) E) → OnOk r (a ≡ b) → b ≡ e → OnOk r (a ≡ e)
+    on_ok a b e (Ok value) is then = is ∙ then
+    on_ok a b e (Err fault) is then = tt
 
 pub returns-clause-lie : goal.returns-clause-lie
 returns-clause-lie g c = λ told.
@@ -198,8 +191,13 @@ returns-clause-lie g c = λ told.
 pub returns-clause-settled : goal.returns-clause-settled
 returns-clause-settled g c =
     let count = c.append_count.ensures in
-    settled_after g.D.Disk 4 None _ _ c.bring_over.new.self c.append_count.new.frames c.append_count.result (append_count-requires-clause-may g c)
-    count.step count.change
+    let here = c.in_ok-bring_over.ensures in
+    let mid = c.bring_over.new.self in
+    let runs : mid.halted ≡ false = here.answer.halts ∙ c.in_ok-sync.ensures.answer.halts ∙ c.in_ok-reserve.ensures.answer.halts ∙ c.requires.runs in
+    let may = may_over g.D.Disk c.args.frames.now.shape c.args.listed.items (state_of c.args.index.now) mid
+    (here.ok.shape ∙ ap (formed Moved) (c.in_ok-sync.ensures.same.shape ∙ c.in_ok-reserve.ensures.same.shape)) runs here.ok.frames c.requires.leads
+    (λ told. record { only = (here.change.whole refl told).only; shows = here.read told runs; closed = here.ok.closed }) in
+    settled_after g.D.Disk 4 None _ _ mid c.append_count.new.frames c.append_count.result may count.step count.change
 
 pub returns-clause-starts : goal.returns-clause-starts
 returns-clause-starts g c =
@@ -215,7 +213,7 @@ returns-clause-starts g c =
     let synced = c.in_ok-sync.ensures in
     let call = c.in_ok-bring_over.ensures in
     let count = c.append_count.ensures in
-    let few = omega (arith, c.requires.boots, ap (λ (s : StateOf Version). s.boot) c.requires.state) in
+    let few : (old_state_in old.shape.block old.shape.records old.frames).boot < 4294967295 = few_boots (cut_block old.shape.block c.args.blocks.now) (state_of c.args.index.now) _ c.requires.state c.requires.boots in
     let shape : held.shape ≡ old.shape = synced.same.shape ∙ made.same.shape in
     let listed_is : held.frames ≡ old.frames = synced.same.frames ∙ made.same.frames in
     let runs : held.halted ≡ false = synced.answer.halts ∙ made.answer.halts ∙ c.requires.runs in
@@ -237,8 +235,11 @@ returns-clause-starts g c =
     (IsChanged (formed Moved old.shape) None s (d.seen mid.disk)) mid.disk new (end_of c.append_count.result)) next
     (subst (λ (s : Shape). Change d 4 (IsUnchanged s None st (d.seen mid.disk))
     (IsChanged s None (changed (indexes.limits_of c.args.index.now) item st) (d.seen mid.disk)) mid.disk new (end_of c.append_count.result)) over count.change) in
+    let now : mid.halted ≡ false = call.answer.halts ∙ runs in
+    let may = may_over d old.shape listed st mid over now call.ok.frames c.requires.leads
+    (λ told. record { only = (call.change.whole refl told).only; shows = call.read told now; closed = call.ok.closed }) in
     let here = λ (told : d.tells). subst (λ (s : Shape). Stands d (IsUnchanged s None st (d.seen mid.disk)) mid.disk) over
-    (stands_before d None st mid (append_count-requires-clause-may g c) told) in
+    (stands_before d None st mid may told) in
     let are = c.requires.blocks in
     let so_far = λ (told : d.tells) (image : List ℕ) (at : IsUnchanged (formed Moved old.shape) None st (d.seen mid.disk) image).
     subst (λ (s : StateOf Version). StandsFor (formed New old.shape) s image) c.requires.state

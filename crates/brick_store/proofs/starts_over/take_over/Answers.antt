@@ -29,12 +29,13 @@ use Rattle.brick_store.specs.Standing.{AllSlots, IsCached}
 use Rattle.brick_store.proofs.OldStarts.{refused_over}
 use Rattle.brick_store.proofs.OldTaken.{over_blocks, over_counted, over_fits, over_listed, over_stands}
 use Rattle.brick_store.proofs.OpeningLaws.{start_ends}
+use Rattle.brick_store.proofs.Resolving.{boot-resolved}
 use Rattle.brick_store.proofs.starts_over.take_over.Goals as goal
 
-in_shape : (size records : ℕ) (shape : Shape) (st : StateOf Version) (limits : Limits) (now : StateOf Entry) (blocks : SlotBlocks) (bytes : List ℕ)
-    (frames : List Frame) → size ≡ shape.block → records ≡ shape.records → IsBroughtTo size records st limits now blocks bytes frames
+in_shape : (shape : Shape) {size records : ℕ} {st : StateOf Version} {limits : Limits} {now : StateOf Entry} {blocks : SlotBlocks} {bytes : List ℕ}
+    {frames : List Frame} → size ≡ shape.block → records ≡ shape.records → IsBroughtTo size records st limits now blocks bytes frames
     → IsBroughtTo shape.block shape.records st limits now blocks bytes frames
-in_shape size records shape st limits now blocks bytes frames size_is records_are over =
+in_shape shape {size} {records} {st} {limits} {now} {blocks} {bytes} {frames} size_is records_are over =
     subst (λ (n : ℕ). IsBroughtTo shape.block n st limits now blocks bytes frames) records_are
     (subst (λ (n : ℕ). IsBroughtTo n records st limits now blocks bytes frames) size_is over)
 
@@ -49,7 +50,8 @@ returns-then-boot-clause-starts g c =
 pub returns-then-boot-clause-worn : goal.returns-then-boot-clause-worn
 returns-then-boot-clause-worn g c =
     let boot = ap (λ (s : StateOf Version). s.boot) c.requires.fold.1.found in
-    search (rules, boot)
+    let same = boot-resolved (cached c.args.frames.now.shape.block c.args.folded.blocks) (state_of c.args.folded.index) in
+    search (rules, boot, same)
 
 pub returns-in_err-vec-clause-starts : goal.returns-in_err-vec-clause-starts
 returns-in_err-vec-clause-starts g c =
@@ -75,6 +77,9 @@ pub bring_over-requires-clause-held : goal.bring_over-requires-clause-held
 bring_over-requires-clause-held g c =
     subst (λ (n : ℕ). AllSlots (IsCached n c.args.folded.blocks) (state_of c.args.folded.index)) (sym c.requires.block) c.requires.fold.1.held
 
+pub bring_over-requires-clause-limits : goal.bring_over-requires-clause-limits
+bring_over-requires-clause-limits g c = c.requires.fold.0 ∙ ap memory_limits (sym c.requires.records)
+
 pub bring_over-requires-clause-members : goal.bring_over-requires-clause-members
 bring_over-requires-clause-members g c = c.requires.fold.1.members
 
@@ -86,26 +91,26 @@ start_over-requires-clause-limits g c = c.in_ok-brought.ensures.over.limits_are 
 pub start_over-requires-clause-blocks : goal.start_over-requires-clause-blocks
 start_over-requires-clause-blocks g c =
     subst (λ (bytes : List ℕ). AreBlocks c.args.frames.now.shape (length c.in_ok-brought.brought.frames.items) bytes) (sym c.deref.ensures.value)
-    (over_blocks c.args.frames.now.shape _ _ _ _ _ _ (in_shape _ _ _ _ _ _ _ _ _ c.requires.block c.requires.records c.in_ok-brought.ensures.over))
+    (over_blocks c.args.frames.now.shape _ _ _ _ _ _ (in_shape c.args.frames.now.shape c.requires.block c.requires.records c.in_ok-brought.ensures.over))
 
 pub start_over-requires-clause-fits : goal.start_over-requires-clause-fits
 start_over-requires-clause-fits g c =
-    over_fits c.args.frames.now.shape _ _ _ _ _ _ (in_shape _ _ _ _ _ _ _ _ _ c.requires.block c.requires.records c.in_ok-brought.ensures.over)
+    over_fits c.args.frames.now.shape _ _ _ _ _ _ (in_shape c.args.frames.now.shape c.requires.block c.requires.records c.in_ok-brought.ensures.over)
 
 pub start_over-requires-clause-leads : goal.start_over-requires-clause-leads
 start_over-requires-clause-leads g c =
-    (in_shape _ _ _ _ _ _ _ _ _ c.requires.block c.requires.records c.in_ok-brought.ensures.over).leads
+    (in_shape c.args.frames.now.shape c.requires.block c.requires.records c.in_ok-brought.ensures.over).leads
 
 pub start_over-requires-clause-slots : goal.start_over-requires-clause-slots
 start_over-requires-clause-slots g c =
     let shape = c.args.frames.now.shape in
     subst (λ (bytes : List ℕ). AllSlots (IsAmong shape.block (length bytes)) (state_of c.in_ok-brought.brought.index)) (sym c.deref.ensures.value)
-    (in_shape _ _ _ _ _ _ _ _ _ c.requires.block c.requires.records c.in_ok-brought.ensures.over).among
+    (in_shape c.args.frames.now.shape c.requires.block c.requires.records c.in_ok-brought.ensures.over).among
 
 pub start_over-requires-clause-state : goal.start_over-requires-clause-state
 start_over-requires-clause-state g c =
     let shape = c.args.frames.now.shape in
-    let over = in_shape _ _ _ _ _ _ _ _ _ c.requires.block c.requires.records c.in_ok-brought.ensures.over in
+    let over = in_shape c.args.frames.now.shape c.requires.block c.requires.records c.in_ok-brought.ensures.over in
     ap (λ (bytes : List ℕ). resolved (cut_block shape.block bytes) (state_of c.in_ok-brought.brought.index)) c.deref.ensures.value ∙ over.state
     ∙ ap (λ (n : ℕ). resolved (cached n c.args.folded.blocks) (state_of c.args.folded.index)) c.requires.block ∙ sym c.requires.fold.1.found
 
@@ -116,7 +121,7 @@ returns-in-Ok-clause-standing g c =
     let old = c.args.frames.now in
     let here = c.in-Ok.ensures in
     let zero_is : c.from_vec-zero.result ≡ replicate old.shape.block 0 = grind (arith, common_steps, c.requires.block) in
-    over_stands old.shape _ _ _ _ _ _ (in_shape _ _ _ _ _ _ _ _ _ c.requires.block c.requires.records c.in_ok-brought.ensures.over) g.D.Disk
+    over_stands old.shape _ _ _ _ _ _ (in_shape c.args.frames.now.shape c.requires.block c.requires.records c.in_ok-brought.ensures.over) g.D.Disk
     c.start_over.new.frames c.start_over.new.index c.from_vec-zero.result here.shape c.requires.shape zero_is c.start_over.ensures.limits here.made here.leads
     here.settled
     (λ told. subst (λ (bytes : List ℕ). AllSlots (LiesIn (formed Moved old.shape) bytes (g.D.Disk.seen c.start_over.new.frames.disk))
@@ -125,14 +130,14 @@ returns-in-Ok-clause-standing g c =
 pub returns-in-Ok-clause-state : goal.returns-in-Ok-clause-state
 returns-in-Ok-clause-state g c =
     let shape = c.args.frames.now.shape in
-    let over = in_shape _ _ _ _ _ _ _ _ _ c.requires.block c.requires.records c.in_ok-brought.ensures.over in
+    let over = in_shape c.args.frames.now.shape c.requires.block c.requires.records c.in_ok-brought.ensures.over in
     let st = ap (λ (n : ℕ). resolved (cached n c.args.folded.blocks) (state_of c.args.folded.index)) c.requires.block ∙ sym c.requires.fold.1.found in
     over_counted shape _ _ _ _ _ _ over (state_of c.start_over.new.index) c.in-Ok.ensures.made ∙ ap (λ (s : StateOf Version). booted (s.boot + 1) s) st
 
 pub returns-in-Ok-clause-listed : goal.returns-in-Ok-clause-listed
 returns-in-Ok-clause-listed g c = λ ok.
     let old = c.args.frames.now in
-    let over = in_shape _ _ _ _ _ _ _ _ _ c.requires.block c.requires.records c.in_ok-brought.ensures.over in
+    let over = in_shape c.args.frames.now.shape c.requires.block c.requires.records c.in_ok-brought.ensures.over in
     let st = ap (λ (n : ℕ). resolved (cached n c.args.folded.blocks) (state_of c.args.folded.index)) c.requires.block ∙ sym c.requires.fold.1.found in
     subst (λ (s : StateOf Version). IsAppended false (live s) (size_of old.frames) 4 (size_of c.start_over.new.frames.frames)) st
     (over_listed old.shape _ _ _ _ _ _ over (size_of old.frames) (size_of c.start_over.new.frames.frames) c.in-Ok.ensures.listed)

@@ -45,8 +45,8 @@ returns-in-Ok-clause-starts g c =
     c.args.frames.now c.load.new.frames c.start.new.frames.disk _ _ here.same (record { untouched = here.untouched; plan = here.plan; cause = here.cause })
     here.certain read.fold.whole_is read.fold.found c.in-Ok.ensures.starts
 
-pub returns-in-Err-clause-starts : goal.returns-in-Err-clause-starts
-returns-in-Err-clause-starts g c =
+pub returns-clause-starts : goal.returns-clause-starts
+returns-clause-starts g c =
     let d = g.D.Disk in
     let here = c.load.ensures in
     let read = c.in_ok-blocks.ensures.loaded in
