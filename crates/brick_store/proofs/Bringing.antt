@@ -191,6 +191,27 @@ at_first size records named before st moved next limits index kept few cached_al
         (λ r first second. record { members = first; within = second.0; held = second.1 }) (live_records st) (live_named st members)
         (records_names Has (λ other. absurd (other refl), inl refl) st slots)
 
+-- as it is told of a store of these parts
+pub at_first_of : (size records : ℕ) (before : SlotBlocks) (st : StateOf Entry) (left : List Record) (moved : List ℕ) (next : ℕ) (held now : SlotBlocks)
+    (bytes : List ℕ) (limits : Limits) (index : StateOf Entry) (frames : List Frame) → left ≡ records_over st → held ≡ before → now ≡ [] → bytes ≡ []
+    → frames ≡ [] → IsOnItsWay size records before st (records_over st) moved next before [] [] limits index []
+    → IsOnItsWay size records before st left moved next held now bytes limits index frames
+at_first_of size records before st left moved next held now bytes limits index frames left_is held_is now_is bytes_are frames_are way =
+    subst (λ (rs : List Record). IsOnItsWay size records before st rs moved next held now bytes limits index frames) (sym left_is)
+    (subst (λ (b : SlotBlocks). IsOnItsWay size records before st (records_over st) moved next b now bytes limits index frames) (sym held_is)
+    (subst (λ (b : SlotBlocks). IsOnItsWay size records before st (records_over st) moved next before b bytes limits index frames) (sym now_is)
+    (subst (λ (bs : List ℕ). IsOnItsWay size records before st (records_over st) moved next before [] bs limits index frames) (sym bytes_are)
+    (subst (λ (fs : List Frame). IsOnItsWay size records before st (records_over st) moved next before [] [] limits index fs) (sym frames_are) way))))
+
+-- fewer slots are given than there are numbers
+pub next_few : (size records : ℕ) (before : SlotBlocks) (st : StateOf Entry) (left : List Record) (moved : List ℕ) (next : ℕ) (held now : SlotBlocks)
+    (bytes : List ℕ) (limits : Limits) (index : StateOf Entry) (frames : List Frame) → records < 4294967295 → IsKeptState (memory_limits records) st
+    → IsOnItsWay size records before st left moved next held now bytes limits index frames → next < 4294967295
+next_few size records before st left moved next held now bytes limits index frames few kept way =
+    let more = all_more way.given (map number_in left) in
+    let all : length (numbers_of st) ≡ length way.given + length more.0 = ap length (sym way.named ∙ more.1) ∙ length-append way.given more.0 in
+    omega (arith, all, way.are.next_is, numbers_few st, kept.within, few)
+
 -- ---- one more
 
 pub one_more : (size records : ℕ) (before : SlotBlocks) (st : StateOf Entry) (r : Record) (left : List Record) (moved moved_now : List ℕ) (next next_now : ℕ)
@@ -248,6 +269,13 @@ one_more size records before st r left moved moved_now next next_now held held_n
 
 -- ---- at last
 
+-- stripes with these slots, and seen with these blocks
+abbrev stripes_moved : List ℕ → List (Place × StripeOf Entry) → List (Place × StripeOf Entry)
+stripes_moved numbers stripes = map (λ e. (e.0, stripe_over numbers e.1)) stripes
+
+abbrev stripes_seen : (ℕ → List ℕ) → List (Place × StripeOf Entry) → List (Place × StripeOf Version)
+stripes_seen block stripes = map (λ e. (e.0, resolved_stripe block e.1)) stripes
+
 module _ (size records : ℕ) (before : SlotBlocks) (st : StateOf Entry) (few : records < 4294967295) (kept : IsKeptState (memory_limits records) st)
     (cached_all : AllSlots (IsCached size before) st) (members : AllByRecursion GroupHasMembers st.groups) where
   abbrev numbers : List ℕ
@@ -290,7 +318,7 @@ module _ (size records : ℕ) (before : SlotBlocks) (st : StateOf Entry) (few : 
         × ((eqb (place_of numbers n) 4294967295 ≡ false) × (place_of numbers n < length numbers))
     slot_is n other has =
         let lt : place_of numbers n < length numbers = grind (arith, nat_tests) in
-        (rw other refl, let small = long in grind (arith, nat_tests, few), lt)
+        (rw other refl, (let small = long in grind (arith, nat_tests, few), lt))
 
     -- its block is cut out of the bytes
     cut_is : (n : ℕ) → Has n → cut_block size bytes (slot_for numbers n) ≡ cached size before n
@@ -343,18 +371,20 @@ module _ (size records : ℕ) (before : SlotBlocks) (st : StateOf Entry) (few : 
     slots_over : (P : ℕ → Type 0) → ((n : ℕ) → Has n → P (slot_for numbers n)) → AllSlots P (brought st)
     slots_over P step = stripes_over st.stripes each
       where
-        entries_over : (entries : List Entry) → AllByRecursion (λ v. Has v.block) entries → AllByRecursion (λ v. P v.block) (map (entry_over numbers) entries)
+        entries_over : (entries : List Entry) → AllByRecursion (λ v. Has v.block) entries
+            → AllByRecursion {X = Entry} (λ v. P v.block) (map (entry_over numbers) entries)
         entries_over [] all = tt
         entries_over (e ∷ entries) all = (step e.block all.0, entries_over entries all.1)
 
         stripes_over : (stripes : List (Place × StripeOf Entry)) → AllByRecursion (λ e. AllByRecursion (λ v. Has v.block) e.1.added) stripes
-            → AllByRecursion (λ e. AllByRecursion (λ v. P v.block) e.1.added) (map (λ e. (e.0, stripe_over numbers e.1)) stripes)
+            → AllByRecursion {X = Place × StripeOf Entry} (λ e. AllByRecursion (λ v. P v.block) e.1.added) (stripes_moved numbers stripes)
         stripes_over [] all = tt
         stripes_over (e ∷ stripes) all = (entries_over e.1.added all.0, stripes_over stripes all.1)
 
     -- and the state with its blocks is the one with the blocks of the new slots
     state_over : (block : ℕ → List ℕ) → ((n : ℕ) → Has n → block (slot_for numbers n) ≡ cached size before n)
         → resolved block (brought st) ≡ resolved (cached size before) st
+    unfolding resolved
     state_over block same =
         moved_resolved ∙ resolved_same (λ n. block (slot_for numbers n)) (cached size before) st
         (slots_imply Has (λ n. block (slot_for numbers n) ≡ cached size before n) same st each)
@@ -365,11 +395,10 @@ module _ (size records : ℕ) (before : SlotBlocks) (st : StateOf Entry) (few : 
         entries_same (e ∷ entries) = ap (λ (vs : List Version). version e.stamp (block (slot_for numbers e.block)) ∷ vs) (entries_same entries)
 
         stripes_same : (stripes : List (Place × StripeOf Entry))
-            → map (λ e. (e.0, resolved_stripe block e.1)) (map (λ e. (e.0, stripe_over numbers e.1)) stripes)
-            ≡ map (λ e. (e.0, resolved_stripe (λ n. block (slot_for numbers n)) e.1)) stripes
+            → stripes_seen block (stripes_moved numbers stripes) ≡ stripes_seen (λ n. block (slot_for numbers n)) stripes
         stripes_same [] = refl
         stripes_same (e ∷ stripes) =
-            ap (λ (vs : List Version). (e.0, stripe_with e.1 vs) ∷ map (λ f. (f.0, resolved_stripe block f.1)) (map (λ f. (f.0, stripe_over numbers f.1)) stripes))
+            ap (λ (vs : List Version). (e.0, stripe_with e.1 vs) ∷ stripes_seen block (stripes_moved numbers stripes))
             (entries_same e.1.added)
             ∙ ap (λ (es : List (Place × StripeOf Version)). (e.0, resolved_stripe (λ n. block (slot_for numbers n)) e.1) ∷ es) (stripes_same stripes)
           where
@@ -377,7 +406,6 @@ module _ (size records : ℕ) (before : SlotBlocks) (st : StateOf Entry) (few : 
             stripe_with s vs = record { order = s.order; from_start = s.from_start; added = vs }
 
         moved_resolved : resolved block (brought st) ≡ resolved (λ n. block (slot_for numbers n)) st
-        unfolding resolved
         moved_resolved = ap (λ (stripes : List (Place × StripeOf Version)). record { boot = st.boot; groups = st.groups; stripes = stripes }) (stripes_same st.stripes)
 
 -- the records that bring back the state with the new slots

@@ -38,3 +38,5 @@ pub mod KeptLogs
 pub mod Words
 pub mod PlainChanges
 pub mod Bringing
+pub mod MovingBlocks
+pub mod OldVersions

@@ -228,13 +228,13 @@ version_takes size records blocks now frame r bottom bytes slot old new (Ok take
           held = subst (AllSlots (IsCached size now)) (sym same_state) held_now;
           members = λ all. subst (λ (s : StateOf Entry). AllByRecursion GroupHasMembers s.groups) (sym same_state) all;
         }
-    by (Some next) at yes =
-        let to : applied limits item old ≡ Some new = at ∙ ap (λ (s : StateOf Entry). Some s) (sym yes.1) in
+    by (Some next) at made =
+        let to : applied limits item old ≡ Some new = at ∙ ap (λ (s : StateOf Entry). Some s) (sym made.1) in
         let some : old_taken size records frame (resolved (cached size blocks) old) ≡ Some (resolved (cached size now) new) =
         is ∙ ap (λ (o : Option (StateOf Entry)). option_map (resolved (cached size now)) o) to in
         record {
           answers = subst (λ (o : Option (StateOf Version)). OldAnswers (resolved (cached size blocks) old) (resolved (cached size now) new) o taken) (sym some)
-              (yes.0, refl);
+              (made.0, refl);
           kept = applied_keeps limits item old new kept to;
           held = applied_slots (IsCached size now) limits item old new to (inl refl)
               (λ l same_item. subst (λ (x : LogChange). IsCached size now (slot_named x)) (change_same l same_item) (inr (bytes, there, long))) held_now;

@@ -56,6 +56,7 @@ impl BlockTable {
     /// Takes away what is held under a slot.
     pub fn take(&mut self, slot: u32) -> Option<Bytes>
         ensures taken { result ≡ block_under self.old slot }
+        ensures gone { block_under self.new slot ≡ None }
         ensures others { (other : ℕ) → other ≢ slot → block_under self.new other ≡ block_under self.old other }
     {
         match self.blocks.get_mut(slot as usize) {

@@ -139,6 +139,7 @@ impl Bringing {
         ensures held { IfOk result (λ made. made.held ≡ held) }
         ensures limits { IfOk result (λ made. limits_of made.brought.index ≡ limits_for records) }
         ensures nothing { IfOk result (λ made. state_of made.brought.index ≡ empty) }
+        ensures blocks { IfOk result (λ made. made.brought.blocks ≡ []) }
         ensures bytes { IfOk result (λ made. made.brought.bytes.items ≡ []) }
         ensures frames { IfOk result (λ made. made.brought.frames.items ≡ []) }
     {

@@ -18,7 +18,7 @@ ghost use Rattle.brick_store.specs.OldLists.{old_state_in};
 ghost use Rattle.brick_store.specs.Openings.{Makes, StartsOver, opening_end};
 ghost use Rattle.brick_store.specs.Sizes.{boot_size, framed};
 ghost use Rattle.brick_store.specs.Standing.{AllSlots, Leads, Standing};
-ghost use Rattle.brick_store.specs.Steps.{IsSettled};
+ghost use Rattle.brick_store.specs.Steps.{IsNotFull, IsSettled};
 
 use crate::bringing_over::{Brought, bring_over};
 use crate::faults::{OpenFault, StoreFault};
@@ -112,6 +112,7 @@ fn start_over<D: Disk>(
     ensures settled { D.tells → OnOk result (IsSettled D.Disk frames.new) }
     ensures starts { StartsOver D.Disk (old_state_in frames.old.shape.block frames.old.shape.records frames.old.frames) frames.old frames.new.disk
         (end_of result) }
+    ensures fault { IsNotFull result }
 {
     let item = Record::Kept(Kept::Boot(index.boot() + 1));
     let frame = frame_of(alloc, &item)?;

@@ -35,7 +35,7 @@ returns-then-is_appendable-clause-room g c =
     let new = c.sync.new.self in
     let made = c.in_ok-reserve.ensures in
     let call = c.in_ok-sync.ensures in
-    let block : new.shape.block ≡ old.shape.block = ap (λ (s : Shape). s.block) (call.same.shape ∙ made.same.shape) in
+    let block : new.shape.block ≡ mid.shape.block = ap (λ (s : Shape). s.block) call.same.shape in
     room_less d.has_room g.met.D.Disk.room_for_less new _ _ _ _ _ _ (omega arith) (omega (arith, block)) (omega arith) (call.left 12 _ _
     (ahead_new d.has_room mid [] c.args.body (reserved_new old mid c.requires.held.slotted made.same) made.room))
 

@@ -101,7 +101,7 @@ returns-in_err-bring_over-clause-starts g c =
     (subst (λ (s : Shape). Change d 8 (OpensAs s held.frames true) (IsBroughtOver s listed blocks) held.disk new Cut) shape
     (subst (λ (fault : FrameFault). Change d 8 (OpensAs held.shape held.frames true) (IsBroughtOver held.shape listed blocks) held.disk new
     (lists.end_of (refused fault))) is call.change)) in
-    let stands = λ (told : d.tells) (closed : old.closed ≡ true). record {
+    let stands : (told : d.tells) → old.closed ≡ true → Stands d (OpensAs old.shape old.frames true) held.disk = λ told closed. record {
       only = synced.certain_now told;
       has = subst (λ (b : Bool). OpensAs old.shape old.frames b (d.seen held.disk)) (synced.same.closed ∙ made.same.closed ∙ closed)
           (subst (λ (fs : List Frame). OpensAs old.shape fs held.closed (d.seen held.disk)) listed_is
@@ -219,7 +219,7 @@ returns-clause-starts g c =
     let runs : held.halted ≡ false = synced.answer.halts ∙ made.answer.halts ∙ c.requires.runs in
     let change = subst (λ (fs : List Frame). Change d 8 (OpensAs old.shape fs true) (IsBroughtOver old.shape listed blocks) held.disk mid.disk Whole) listed_is
     (subst (λ (s : Shape). Change d 8 (OpensAs s held.frames true) (IsBroughtOver s listed blocks) held.disk mid.disk Whole) shape call.change) in
-    let stands = λ (told : d.tells) (closed : old.closed ≡ true). record {
+    let stands : (told : d.tells) → old.closed ≡ true → Stands d (OpensAs old.shape old.frames true) held.disk = λ told closed. record {
       only = synced.certain_now told;
       has = subst (λ (b : Bool). OpensAs old.shape old.frames b (d.seen held.disk)) (synced.same.closed ∙ made.same.closed ∙ closed)
           (subst (λ (fs : List Frame). OpensAs old.shape fs held.closed (d.seen held.disk)) listed_is

@@ -1,5 +1,5 @@
 -- What an old list made is brought over and counted.
-use Rattle.std.proofs.Common.{rules, ◌≡◌, ◌+◌, ℕ, true, false, Err, List, length, refl, sym, ap, subst, ◌∙◌, arith}
+use Rattle.std.proofs.Common.{rules, ◌≡◌, ◌+◌, ◌<◌, ℕ, true, false, Err, List, length, refl, sym, ap, subst, ◌∙◌, arith}
 use Rattle.std.specs.Prelude.{replicate}
 use Rattle.std.proofs.lemmas.Result.{err_from_is_err_and}
 use Rattle.std.proofs.lemmas.Grind.{common_steps}
@@ -38,6 +38,10 @@ in_shape : (shape : Shape) {size records : ℕ} {st : StateOf Version} {limits :
 in_shape shape {size} {records} {st} {limits} {now} {blocks} {bytes} {frames} size_is records_are over =
     subst (λ (n : ℕ). IsBroughtTo shape.block n st limits now blocks bytes frames) records_are
     (subst (λ (n : ℕ). IsBroughtTo n records st limits now blocks bytes frames) size_is over)
+
+-- a store that was opened less often than it can be
+boots_few : (block : ℕ → List ℕ) (index : StateOf Entry) (st : StateOf Version) → st ≡ resolved block index → index.boot < 4294967295 → st.boot < 4294967295
+boots_few block index st is few = omega (arith, few, boot-resolved block index, ap (λ (s : StateOf Version). s.boot) is)
 
 -- ---- refused
 
@@ -126,6 +130,12 @@ returns-in-Ok-clause-standing g c =
     here.settled
     (λ told. subst (λ (bytes : List ℕ). AllSlots (LiesIn (formed Moved old.shape) bytes (g.D.Disk.seen c.start_over.new.frames.disk))
     (state_of c.in_ok-brought.brought.index)) c.deref.ensures.value (here.lie told))
+
+pub returns-in-Ok-clause-boots : goal.returns-in-Ok-clause-boots
+returns-in-Ok-clause-boots g c = λ ok.
+    let few : (state_of c.args.folded.index).boot < 4294967295 =
+    (let other = c.if-boot.false in let same = c.boot.ensures in let fits = c.boot.type_inv in omega (arith, other, same, fits)) in
+    boots_few (cached c.args.frames.now.shape.block c.args.folded.blocks) (state_of c.args.folded.index) _ c.requires.fold.1.found few
 
 pub returns-in-Ok-clause-state : goal.returns-in-Ok-clause-state
 returns-in-Ok-clause-state g c =
