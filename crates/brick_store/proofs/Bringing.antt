@@ -1,5 +1,5 @@
 -- An old store's records that are put behind each other with new slots, one after the other.
-use Rattle.std.proofs.Common.{◌≡◌, ◌≢◌, ◌⊎◌, inl, inr, ⊎_elim, ℕ, zero, suc, ◌+◌, ◌*◌, ◌<◌, ◌≤◌, Bool, true, false, cond, eqb, ltb, Option, Some, None, List, [], ◌∷◌, ◌++◌, length, get_or, map, take, drop, refl, sym, ap, subst, ◌∙◌, append_assoc, arith}
+use Rattle.std.proofs.Common.{◌≡◌, ◌≢◌, inl, inr, ⊎_elim, ℕ, suc, ◌+◌, ◌*◌, ◌<◌, ◌≤◌, Bool, true, false, cond, eqb, ltb, Option, Some, List, [], ◌∷◌, ◌++◌, length, map, refl, sym, ap, subst, ◌∙◌, append_assoc, arith}
 use Rattle.std.specs.Prelude.{replicate}
 use Rattle.std.specs.List.{AllByRecursion, Contains, flat_map}
 use Rattle.std.specs.Option.{unwrap_or}
@@ -12,12 +12,10 @@ use Rattle.stamp_store.specs.declared.kept_records.Kept.{Kept}
 use Rattle.stamp_store.specs.declared.kept_records.Kept.TheVariants.{Boot}
 use Rattle.stamp_store.specs.declared.log_records.LogChange.{LogChange}
 use Rattle.stamp_store.specs.declared.log_records.LogChange.TheVariants.{Same, Collect, Slot}
-use Rattle.stamp_store.specs.declared.log_records.Logged.{Logged}
 use Rattle.version_log.specs.Versions.{Version, version}
 use Rattle.frame_store.specs.declared.frames.Frame.{Frame}
 use Rattle.frame_store.specs.Listed.{size_of}
 use Rattle.frame_store.proofs.Listing.{size_of-append}
-use Rattle.brick_state.specs.declared.groups.Group.{Group}
 use Rattle.brick_state.specs.declared.records.Record.{Record}
 use Rattle.brick_state.specs.declared.records.Record.TheVariants as forms
 use Rattle.brick_state.specs.Entries.{Entry}
@@ -35,9 +33,9 @@ use Rattle.brick_store.specs.BringingOver.{IsAmong, IsBroughtTo, IsCut, cut_bloc
 use Rattle.brick_store.specs.Images.{record_of, limits_for}
 use Rattle.brick_store.specs.MovingBlocks.{AreGiven, AreMoved, IsPut}
 use Rattle.brick_store.specs.Openings.{memory_limits}
-use Rattle.brick_store.specs.Renumbering.{blocks_over, brought, change_over, entry_over, stripe_over, given_by, given_by_record, given_with, has_place, logged_over, number_in, numbers_of, place_of, record_over, records_over, slot_for}
+use Rattle.brick_store.specs.Renumbering.{blocks_over, brought, change_over, entry_over, stripe_over, given_by, given_by_record, given_with, has_place, number_in, numbers_of, place_of, record_over, records_over, slot_for}
 use Rattle.brick_store.specs.Sizes.{most, most_of}
-use Rattle.brick_store.specs.Standing.{AllSlots, GroupHasMembers, IsCached, Leads}
+use Rattle.brick_store.specs.Standing.{AllSlots, GroupHasMembers, IsCached}
 use Rattle.brick_store.specs.Steps.{RecordHasMembers}
 use Rattle.brick_store.proofs.Adding.{slots_both}
 use Rattle.brick_store.proofs.CutBlocks.{block_cut, blocks_long}

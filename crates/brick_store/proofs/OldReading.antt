@@ -10,7 +10,7 @@ use Rattle.brick_store.specs.BlockTables.{SlotBlocks}
 use Rattle.brick_store.specs.Blocks.{cached, resolved}
 use Rattle.brick_store.specs.Images.{limits_for}
 use Rattle.brick_store.specs.OldLists.{old_taken, old_folded, old_onward, old_state_in, OldLeads}
-use Rattle.brick_store.specs.Openings.{IsFold, IsOldFold, Makes, OldAnswers, TakesOld, memory_limits}
+use Rattle.brick_store.specs.Openings.{IsOldFold, Makes, OldAnswers, TakesOld, memory_limits}
 use Rattle.brick_store.proofs.Members.{AllHaveMembers, empty_members}
 use Rattle.brick_store.proofs.Reading.{no_fold, fold_past}
 

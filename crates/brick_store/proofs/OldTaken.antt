@@ -1,5 +1,5 @@
 -- What an opening that brought an old store over keeps in memory.
-use Rattle.std.proofs.Common.{◌≡◌, ◌⊎◌, inl, inr, ℕ, ◌+◌, ◌*◌, ◌≤◌, true, false, List, refl, sym, ap, subst, ◌∙◌, arith}
+use Rattle.std.proofs.Common.{◌≡◌, inl, inr, ℕ, ◌+◌, true, false, List, refl, sym, ap, subst, ◌∙◌, arith}
 use Rattle.std.specs.Prelude.{replicate, length}
 use Rattle.std.specs.List.{AllByRecursion}
 use Rattle.fab_disk.specs.declared.disk.Disk as on_disk
@@ -21,10 +21,10 @@ use Rattle.brick_state.specs.KeptStates.{IsKeptState}
 use Rattle.brick_state.proofs.Keeping.{boot_kept}
 use Rattle.brick_store.specs.BlockTables.{SlotBlocks}
 use Rattle.brick_store.specs.Blocks.{cached, resolved}
-use Rattle.brick_store.specs.BringingOver.{IsAmong, IsBroughtTo, IsCut, LiesIn, cut_block}
-use Rattle.brick_store.specs.Images.{limits_for, limits_of}
+use Rattle.brick_store.specs.BringingOver.{IsBroughtTo, IsCut, LiesIn, cut_block}
+use Rattle.brick_store.specs.Images.{limits_of}
 use Rattle.brick_store.specs.Lengths.{IsAppended}
-use Rattle.brick_store.specs.Sizes.{framed, most_listed}
+use Rattle.brick_store.specs.Sizes.{framed}
 use Rattle.brick_store.specs.Standing.{AllSlots, GroupHasMembers, IsCached, IsStored, Leads, Standing}
 use Rattle.brick_store.specs.Steps.{IsSettled}
 use Rattle.brick_store.proofs.Adding.{slots_both}

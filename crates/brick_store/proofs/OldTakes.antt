@@ -1,15 +1,13 @@
 -- A frame of an old list is taken where it can be, and else the list ends before it.
-use Rattle.std.proofs.Common.{◌≡◌, ◌≢◌, ◌⊎◌, inl, inr, ⊎_elim, ℕ, ◌+◌, ◌<◌, ◌≤◌, Bool, true, false, not, ◌&&◌, ◌||◌, cond, eqb, ltb, leb, Option, Some, None, Result, Ok, Err, List, [], ◌∷◌, length, refl, sym, ap, subst, ◌∙◌, arith}
+use Rattle.std.proofs.Common.{◌≡◌, ◌≢◌, inl, inr, ℕ, ◌+◌, ◌<◌, Bool, true, false, not, ◌&&◌, ◌||◌, cond, eqb, ltb, leb, Option, Some, None, Result, Ok, Err, List, length, refl, sym, ap, subst, ◌∙◌, arith}
 use Rattle.std.specs.Prelude.{take, drop}
 use Rattle.std.specs.List.{AllByRecursion}
 use Rattle.std.specs.Option.{option_map, option_and_then}
-use Rattle.std.specs.Result.{IfOk, IsOk}
-use Rattle.std.proofs.lemmas.Bool.{cases_eq}
+use Rattle.std.specs.Result.{IfOk}
 use Rattle.std.proofs.lemmas.Option.{same_Some}
 use Rattle.fab_base.specs.declared.faults.NoMem.{NoMem}
 use Rattle.fab_base.specs.declared.stamps.Stamp.{Stamp}
 use Rattle.fab_base.specs.Stamps.{stamp_below}
-use Rattle.stamp_store.proofs.Fields.{IsBytes}
 use Rattle.stamp_store.specs.declared.kept_records.Kept.TheVariants.{Boot, Ballots, Order}
 use Rattle.stamp_store.specs.declared.kept_records.Kept.TheVariants as kinds
 use Rattle.stamp_store.specs.declared.log_records.LogChange.{LogChange}
@@ -21,7 +19,7 @@ use Rattle.frame_store.specs.declared.frames.Frame.{Frame}
 use Rattle.brick_state.specs.declared.records.Record.{Record}
 use Rattle.brick_state.specs.declared.records.Record.TheVariants as forms
 use Rattle.brick_state.specs.Entries.{Entry}
-use Rattle.brick_state.specs.States.{Place, StripeOf, StateOf, stripe_at, with_stripe, with_added, with_bottom, with_collected, stamp_of, ordered, booted, viewed, balloted, newest_entry, has_version}
+use Rattle.brick_state.specs.States.{Place, StripeOf, StateOf, stripe_at, with_added, with_bottom, with_collected, stamp_of, ordered, booted, viewed, balloted, newest_entry, has_version}
 use Rattle.brick_state.specs.Folds.{Limits, applied, log_changed, same_added, is_above, is_slot, placed, place, entry, is_full, adds_order, slot_named}
 use Rattle.brick_state.specs.Indexes.{Answers}
 use Rattle.brick_state.specs.KeptStates.{IsKeptState}
@@ -34,7 +32,7 @@ use Rattle.brick_store.specs.Openings.{OldAnswers, TakesOld, TakesOrEnds, memory
 use Rattle.brick_store.specs.Standing.{AllSlots, GroupHasMembers, IsCached}
 use Rattle.brick_store.proofs.Adding.{SameUnder, cached_is, cached_same, slots_both}
 use Rattle.brick_store.proofs.Resolving.{resolved_same, slots_imply}
-use Rattle.brick_store.proofs.Changed.{slots_at, slots_put, slots_ordered, slots_viewed, slots_collected}
+use Rattle.brick_store.proofs.Changed.{slots_put, slots_ordered, slots_viewed, slots_collected}
 use Rattle.brick_store.proofs.OldTaking.{record_seen, version_seen}
 use Rattle.brick_store.proofs.Members.{applied_members}
 use Rattle.brick_store.proofs.Versions.{slots_added, slots_same}

@@ -1,5 +1,5 @@
 -- What a record makes of the index is what it makes of the state with its blocks.
-use Rattle.std.proofs.Common.{◌≡◌, ◌≢◌, ℕ, ◌<◌, ◌≤◌, Bool, true, false, not, ◌&&◌, ◌||◌, cond, eqb, ltb, leb, Option, Some, None, List, [], ◌∷◌, ◌++◌, length, map, refl, sym, ap, subst, ◌∙◌}
+use Rattle.std.proofs.Common.{◌≡◌, ◌≢◌, ℕ, ◌<◌, Bool, true, false, not, ◌&&◌, ◌||◌, cond, eqb, ltb, leb, Option, Some, None, List, [], ◌∷◌, ◌++◌, length, map, refl, sym, ap, ◌∙◌}
 use Rattle.std.specs.Prelude.{replicate}
 use Rattle.std.specs.Option.{option_map}
 use Rattle.std.specs.List.{list_any}
@@ -15,11 +15,11 @@ use Rattle.stamp_store.specs.declared.kept_records.Kept.TheVariants as kinds
 use Rattle.stamp_store.specs.declared.log_records.LogChange.{LogChange}
 use Rattle.stamp_store.specs.declared.log_records.LogChange.TheVariants.{Same, Collect, Slot}
 use Rattle.stamp_store.specs.declared.log_records.Logged.{Logged}
-use Rattle.version_log.specs.Versions.{Version, version, newest, has_stamp}
+use Rattle.version_log.specs.Versions.{Version, version, has_stamp}
 use Rattle.brick_state.specs.declared.records.Record.{Record}
 use Rattle.brick_state.specs.declared.records.Record.TheVariants as forms
 use Rattle.brick_state.specs.Entries.{Entry}
-use Rattle.brick_state.specs.States.{Place, StripeOf, StateOf, stripe_at, with_stripe, with_added, with_bottom, with_collected, stamp_of, ordered, booted, viewed, balloted, live, newest_entry, has_version}
+use Rattle.brick_state.specs.States.{Place, StripeOf, StateOf, stripe_at, with_added, with_bottom, with_collected, stamp_of, ordered, viewed, balloted, live, newest_entry, has_version}
 use Rattle.brick_state.specs.Folds.{Limits, applied, log_changed, same_added, is_above, placed, place, entry, is_full}
 use Rattle.brick_store.specs.BlockTables.{SlotBlocks}
 use Rattle.brick_store.specs.Blocks.{cached, log_of, resolved, resolved_stripe, version_stamp, adds_stamp}

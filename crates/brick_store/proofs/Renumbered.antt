@@ -1,10 +1,10 @@
 -- A state with other slots: what its records name, and what they are.
-use Rattle.std.proofs.Common.{◌≡◌, ◌⊎◌, inl, inr, ℕ, suc, ◌+◌, ◌<◌, ◌≤◌, Bool, true, false, not, ◌&&◌, ◌||◌, cond, eqb, ltb, Option, Some, None, List, [], ◌∷◌, ◌++◌, length, get_or, map, refl, sym, ap, subst, ◌∙◌, arith}
+use Rattle.std.proofs.Common.{◌≡◌, inl, inr, ℕ, suc, ◌+◌, ◌<◌, ◌≤◌, Bool, true, false, not, ◌&&◌, ◌||◌, cond, eqb, Option, Some, None, List, [], ◌∷◌, ◌++◌, length, get_or, map, refl, sym, ap, subst, ◌∙◌, arith}
 use Rattle.std.specs.List.{AllByRecursion}
 use Rattle.std.specs.List.Sorted.{IsStrictlySortedBy}
 use Rattle.std.specs.Map.{keys_of, values_of}
 use Rattle.std.specs.Option.{option_map}
-use Rattle.std.proofs.lemmas.Bool.{eqb-true, lt-ltb, cases_Bool}
+use Rattle.std.proofs.lemmas.Bool.{eqb-true, lt-ltb}
 use Rattle.std.proofs.lemmas.Bool.Decides.{nat_tests}
 use Rattle.std.proofs.lemmas.List.{length-map, map-append}
 use Rattle.std.proofs.lemmas.List.Sums.{sum_by-cons}
@@ -14,7 +14,7 @@ use Rattle.fab_base.specs.declared.stamps.Ballot.{Ballot}
 use Rattle.fab_base.specs.declared.stamps.Stamp.{Stamp}
 use Rattle.fab_base.specs.Stamps.{stamp_same, first_stamp}
 use Rattle.stamp_store.specs.declared.log_records.LogChange.{LogChange}
-use Rattle.stamp_store.specs.declared.log_records.LogChange.TheVariants.{Same, Collect, Slot}
+use Rattle.stamp_store.specs.declared.log_records.LogChange.TheVariants.{Same, Slot}
 use Rattle.brick_state.specs.declared.groups.Group.{Group}
 use Rattle.brick_state.specs.declared.records.Record.{Record}
 use Rattle.brick_state.specs.declared.records.Record.TheVariants as forms
@@ -22,11 +22,11 @@ use Rattle.brick_state.specs.Entries.{Entry}
 use Rattle.brick_state.specs.States.{Place, StripeOf, StateOf, place_cmp, is_first, weight, live, live_in}
 use Rattle.brick_state.specs.Folds.{Limits, is_slot, slot_named}
 use Rattle.brick_state.specs.KeptStates.{IsAbove, Rises, IsKeptStripe, IsKeptState}
-use Rattle.brick_state.specs.Rewrites.{learnt_number, view_records, ballot_records, group_records, groups_records, order_record, order_records, version_change, version_record, version_records, start_of, stripe_records, stripes_records, live_records}
+use Rattle.brick_state.specs.Rewrites.{learnt_number, view_records, ballot_records, group_records, groups_records, order_record, order_records, version_record, version_records, start_of, stripes_records, live_records}
 use Rattle.brick_state.specs.Slots.{slot_of, slots_in, slots_of}
 use Rattle.brick_state.proofs.FreeSlots.{slots_few}
 use Rattle.brick_store.specs.Renumbering.{numbers_of, slot_for, entry_over, stripe_over, brought, place_of, has_place, given_with, change_over, record_over, number_in}
-use Rattle.brick_store.proofs.Numbers.{given_all, given_append, given_first, given_none, named_again, placed_now, IsPlaced, each_given, all_given, all_placed, all_long, at_place}
+use Rattle.brick_store.proofs.Numbers.{given_all, given_append, named_again, placed_now, IsPlaced, each_given, all_given, all_placed, all_long, at_place}
 
 -- ---- what records name
 

@@ -5,7 +5,6 @@ use Rattle.std.specs.List.{list_any}
 use Rattle.fab_base.specs.Layouts.{most_groups}
 use Rattle.fab_base.specs.Stamps.{stamp_below}
 use Rattle.fab_base.specs.declared.stamps.Stamp.{Stamp}
-use Rattle.stamp_store.specs.declared.kept_records.Kept.{Kept}
 use Rattle.stamp_store.specs.declared.kept_records.Kept.TheVariants.{Boot, Ballots, Order}
 use Rattle.stamp_store.specs.declared.kept_records.Kept.TheVariants as kinds
 use Rattle.stamp_store.specs.declared.log_records.LogChange.{LogChange}

@@ -1,5 +1,5 @@
 -- What an opening reads.
-use Rattle.std.specs.Prelude.{Result, Ok, Err, ◌≡◌, ◌≢◌, ◌⊎◌, ℕ, ◌+◌, ◌-◌, ◌<◌, ◌≤◌, ◌^◌, ◌==◌, Bool, not, ◌&&◌, if◌then◌else◌, true, false, Option, Some, None, IsSome, option_and_then, List, [], ◌∷◌, ◌++◌, length, drop, IsOk}
+use Rattle.std.specs.Prelude.{Result, Ok, Err, ◌≡◌, ◌⊎◌, ℕ, ◌+◌, ◌-◌, ◌<◌, ◌≤◌, ◌^◌, ◌==◌, Bool, not, ◌&&◌, if◌then◌else◌, true, false, Option, Some, None, IsSome, option_and_then, List, [], ◌∷◌, ◌++◌, length, IsOk}
 use Rattle.fab_base.specs.declared.faults.IoFault.{IoFault}
 use Rattle.fab_base.specs.declared.faults.NoMem.{NoMem}
 use Rattle.fab_base.specs.declared.faults.IoFault.TheVariants.{Failed}

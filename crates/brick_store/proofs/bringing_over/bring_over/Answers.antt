@@ -1,9 +1,11 @@
 -- The records are put one after the other.
-use Rattle.std.proofs.Common.{◌≡◌, ◌≢◌, ◌+◌, ◌<◌, ◌≤◌, ℕ, List, [], ◌∷◌, length, drop, get_or, refl, sym, ap, subst, ◌∙◌, arith}
+use Rattle.std.proofs.Common.{◌+◌, ◌<◌, ℕ, List, [], length, drop, sym, ap, subst, ◌∙◌}
+use Rattle.std.specs.List.{Contains}
 use Rattle.std.proofs.lemmas.List.{drop_all}
 use Rattle.brick_state.specs.declared.records.Record.{Record}
 use Rattle.brick_state.specs.Folds.{Limits}
 use Rattle.brick_state.specs.Indexes.{limits_of, state_of}
+use Rattle.brick_state.specs.Slots.{slots_of}
 use Rattle.brick_store.specs.declared.bringing_over.Slots.{Slots}
 use Rattle.brick_store.specs.MovingBlocks.{AreGiven}
 use Rattle.brick_store.proofs.Bringing.{IsBrought, IsOnItsWay, at_first, at_first_of, at_last, next_few, one_more}
@@ -16,7 +18,7 @@ loop-item-init c =
     let st = state_of old.index in
     let now = c.in_ok-bringing.bringing in
     let made = c.in_ok-bringing.ensures in
-    let end = λ (slot : ℕ) (within : slot < old.sizes.records + 1) there.
+    let end = λ (slot : ℕ) (within : slot < old.sizes.records + 1) (there : Contains (slots_of st) slot).
     c.named_end.ensures.named slot (subst (λ (l : Limits). slot < l.slots) (sym c.requires.limits) within) there in
     record {
       way = at_first_of old.sizes.block old.sizes.records old.blocks st c.deref-item-items.result.now now.slots.moved.items now.slots.next now.held

@@ -1,5 +1,5 @@
 -- A frame that is no version is taken as one of the new format is.
-use Rattle.std.proofs.Common.{◌≡◌, ◌≢◌, ◌<◌, ℕ, Bool, true, false, eqb, Some, None, Ok, List, refl, sym, ap, subst, ◌∙◌, arith}
+use Rattle.std.proofs.Common.{◌≡◌, false, eqb, subst, arith}
 use Rattle.std.proofs.lemmas.Bool.Decides.{nat_tests}
 use Rattle.stamp_store.proofs.Fields.{IsBytes}
 use Rattle.frame_store.specs.Listed.{frame_of}

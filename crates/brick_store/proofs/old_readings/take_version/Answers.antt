@@ -1,5 +1,5 @@
 -- A version's frame is taken where it can be.
-use Rattle.std.proofs.Common.{◌≡◌, ◌+◌, ◌<◌, ◌≤◌, ℕ, Bool, true, false, Some, None, Ok, List, length, take, drop, refl, sym, ap, subst, ◌∙◌, arith}
+use Rattle.std.proofs.Common.{◌<◌, ℕ, Some, List, drop, refl, ap, subst, ◌∙◌}
 use Rattle.std.specs.Result.{IfOk}
 use Rattle.stamp_store.specs.declared.log_records.LogChange.TheVariants.{Slot}
 use Rattle.frame_store.specs.Listed.{frame_of}

@@ -1,5 +1,5 @@
 -- A version's body is read as it is spelled.
-use Rattle.std.proofs.Common.{◌≡◌, ◌⊎◌, inl, inr, ◌+◌, ◌<◌, ◌≤◌, ℕ, Option, Some, None, List, length, take, drop, refl, sym, ap, subst, ◌∙◌, arith}
+use Rattle.std.proofs.Common.{◌≡◌, ◌⊎◌, inl, Option, None, take, drop, sym, ap, subst, ◌∙◌, arith}
 use Rattle.std.specs.Option.{IfNone}
 use Rattle.std.proofs.lemmas.List.{length-take}
 use Rattle.stamp_store.specs.LogSpelling.{logged_of}

@@ -1,5 +1,5 @@
 -- An old store was brought over, or was refused.
-use Rattle.std.proofs.Common.{◌≡◌, refl, sym, subst}
+use Rattle.std.proofs.Common.{refl, sym, subst}
 use Rattle.brick_store.specs.OldLists.{old_state_in}
 use Rattle.brick_store.specs.Openings.{StartsOver, stopped_by}
 use Rattle.brick_store.proofs.KeptLogs.{standing_stands}

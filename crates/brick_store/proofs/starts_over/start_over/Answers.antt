@@ -1,8 +1,7 @@
 -- The store is brought over, and its opening is counted.
-use Rattle.std.proofs.Common.{◌≡◌, ℕ, ◌+◌, ◌<◌, ◌≤◌, Bool, true, false, List, None, Result, Ok, Err, OnOk, refl, sym, ap, subst, ◌∙◌, length, arith, rules}
-use Rattle.std.specs.Prelude.{IsOk}
+use Rattle.std.proofs.Common.{◌≡◌, ℕ, ◌+◌, ◌<◌, Bool, true, false, List, None, Result, Ok, Err, OnOk, refl, sym, ap, subst, ◌∙◌, length, arith, rules}
 use Rattle.std.proofs.lemmas.Result.{err_from_is_err_and}
-use Rattle.fab_disk.specs.Changing.{Change, End, Cut, NotBegun, Whole, Stands}
+use Rattle.fab_disk.specs.Changing.{Change, Cut, NotBegun, Whole, Stands}
 use Rattle.frame_store.specs.declared.faults.FrameFault.{FrameFault}
 use Rattle.frame_store.specs.declared.faults.FrameFault.TheVariants as frames
 use Rattle.frame_store.specs.declared.frames.Frame.{Frame}
@@ -18,18 +17,16 @@ use Rattle.stamp_store.specs.declared.kept_records.Kept.TheVariants.{Boot}
 use Rattle.version_log.specs.Versions.{Version}
 use Rattle.brick_state.specs.declared.records.Record.TheVariants as forms
 use Rattle.brick_state.specs.Entries.{Entry}
-use Rattle.brick_state.specs.States.{StateOf, booted, empty}
+use Rattle.brick_state.specs.States.{StateOf, booted}
 use Rattle.brick_state.specs.Indexes.{state_of}
 use Rattle.brick_state.specs.Indexes as indexes
-use Rattle.brick_store.specs.Blocks.{resolved}
 use Rattle.brick_store.specs.Bricks.{fault_of}
 use Rattle.brick_store.specs.BringingOver.{IsAmong, LiesIn, cut_block}
 use Rattle.brick_store.specs.Ends.{end_of}
-use Rattle.brick_store.specs.Images.{limits_of, StandsFor}
+use Rattle.brick_store.specs.Images.{StandsFor}
 use Rattle.brick_store.specs.OldLists.{old_state_in}
 use Rattle.brick_store.specs.Sizes.{framed}
-use Rattle.brick_store.specs.Standing.{AllSlots, Leads}
-use Rattle.brick_store.specs.Steps.{IsUnchanged, IsChanged, CanChange, changed}
+use Rattle.brick_store.specs.Steps.{IsUnchanged, IsChanged, changed}
 use Rattle.brick_store.proofs.Counting.{disk_failed}
 use Rattle.brick_store.proofs.Opened.{counted_seen}
 use Rattle.brick_store.proofs.OldStarts.{after_over, ahead_old, bring_cut, count_over, few_boots, lies, may_over, moved_stands, refused_over, sync_over}

@@ -1,5 +1,5 @@
 -- What an old list made is brought over and counted.
-use Rattle.std.proofs.Common.{rules, ◌≡◌, ◌+◌, ◌<◌, ℕ, true, false, Err, List, length, refl, sym, ap, subst, ◌∙◌, arith}
+use Rattle.std.proofs.Common.{rules, ◌≡◌, ◌+◌, ◌<◌, ℕ, false, List, length, sym, ap, subst, ◌∙◌, arith}
 use Rattle.std.specs.Prelude.{replicate}
 use Rattle.std.proofs.lemmas.Result.{err_from_is_err_and}
 use Rattle.std.proofs.lemmas.Grind.{common_steps}
@@ -16,7 +16,6 @@ use Rattle.brick_state.specs.Entries.{Entry}
 use Rattle.brick_state.specs.States.{StateOf, booted, live}
 use Rattle.brick_state.specs.Folds.{Limits}
 use Rattle.brick_state.specs.Indexes.{state_of}
-use Rattle.brick_state.specs.Indexes as indexes
 use Rattle.brick_state.specs.KeptStates.{IsKeptState}
 use Rattle.brick_store.specs.Blocks.{cached, resolved}
 use Rattle.brick_store.specs.BringingOver.{IsAmong, IsBroughtTo, LiesIn, cut_block}
@@ -24,7 +23,7 @@ use Rattle.brick_store.specs.BlockTables.{SlotBlocks}
 use Rattle.brick_store.specs.Lengths.{IsAppended}
 use Rattle.brick_store.specs.Images.{limits_for}
 use Rattle.brick_store.specs.OldLists.{old_state_in}
-use Rattle.brick_store.specs.Openings.{IsOldFold, StartsOver, memory_limits}
+use Rattle.brick_store.specs.Openings.{StartsOver, memory_limits}
 use Rattle.brick_store.specs.Standing.{AllSlots, IsCached}
 use Rattle.brick_store.proofs.OldStarts.{refused_over}
 use Rattle.brick_store.proofs.OldTaken.{over_blocks, over_counted, over_fits, over_listed, over_stands}

@@ -1,9 +1,9 @@
 -- The block of the record moves.
-use Rattle.std.proofs.Common.{◌≡◌, ℕ, List, Result, Ok, Err, OnOk, refl, sym, ap, subst, ◌∙◌}
+use Rattle.std.proofs.Common.{ℕ, List, Result, Ok, Err, OnOk, sym, subst}
 use Rattle.brick_state.specs.declared.records.Record.{Record}
 use Rattle.brick_state.specs.declared.records.Record.TheVariants as forms
 use Rattle.brick_store.specs.BlockTables.{SlotBlocks}
-use Rattle.brick_store.specs.MovingBlocks.{AreGiven, AreMoved}
+use Rattle.brick_store.specs.MovingBlocks.{AreMoved}
 use Rattle.brick_store.specs.Renumbering.{given_by, given_by_record, number_in}
 use Rattle.brick_store.specs.Standing.{IsCached}
 use Rattle.brick_store.proofs.bringing_over.Bringing.bring.Goals as goal

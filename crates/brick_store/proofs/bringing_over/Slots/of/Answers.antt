@@ -1,5 +1,5 @@
 -- A number that has none gets the next slot.
-use Rattle.std.proofs.Common.{◌≡◌, ◌≢◌, ◌+◌, ◌<◌, ℕ, List, length, get_or, refl, sym, ap, ◌∙◌, arith, rules}
+use Rattle.std.proofs.Common.{◌≡◌, ◌<◌, length, get_or, sym, ◌∙◌}
 use Rattle.std.proofs.lemmas.List.{get_or_read}
 use Rattle.brick_store.proofs.MovingBlocks.{given_next, slot_next}
 use Rattle.brick_store.proofs.bringing_over.Slots.of.Goals as goal

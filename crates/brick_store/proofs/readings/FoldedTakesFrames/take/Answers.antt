@@ -1,12 +1,8 @@
 -- One frame more is folded, up to the first that can't be.
 use Rattle.std.proofs.Common.{◌≡◌, ◌∙◌, ◌++◌, ◌∷◌, [], Bool, Result, Ok, Err, OnOk, rules, true, false, refl, sym, ap, subst}
-use Rattle.frame_store.specs.declared.frames.Frame.{Frame}
 use Rattle.frame_store.specs.Listed.{frame_of}
-use Rattle.brick_state.specs.Entries.{Entry}
 use Rattle.brick_state.specs.Folds.{Limits}
 use Rattle.brick_state.specs.Indexes.{state_of, limits_of}
-use Rattle.brick_state.specs.States.{StateOf}
-use Rattle.brick_store.specs.BlockTables.{SlotBlocks}
 use Rattle.brick_store.specs.declared.old_readings.Sizes.{Sizes}
 use Rattle.brick_store.specs.Images.{limits_for}
 use Rattle.brick_store.specs.Openings.{EndsBefore, IsTaken, Makes}
