@@ -9,6 +9,7 @@ pub returns-in-Ok : goal.returns-in-Ok
 returns-in-Ok g c = record {
   change = made_empty g.D.Disk New (shape_of c.args.me.0 c.args.block c.args.records) c.args.disk.now c.format.new.disk _ c.in-Ok.ensures.change;
   listed = λ told. record { form = New; frames = []; opens = (c.in-Ok.ensures.change.whole refl told).has.opens; bytes = refl };
+  form = λ told. (c.in-Ok.ensures.change.whole refl told).has.opens;
 }
 
 pub returns-in-Err : goal.returns-in-Err
@@ -19,4 +20,5 @@ returns-in-Err g c =
       change = made_ends g.D.Disk New shape c.args.disk.now c.format.new.disk c.in-Err.fault here.only
           (made_empty g.D.Disk New shape c.args.disk.now c.format.new.disk _ here.change);
       listed = λ told. tt;
+      form = λ told. tt;
     })
