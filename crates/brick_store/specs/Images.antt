@@ -1,11 +1,11 @@
 -- What the bytes of a disk stand for as a brick's store.
-use Rattle.std.specs.Prelude.{◌≡◌, ◌⊎◌, ℕ, Bool, true, ◌==◌, if◌then◌else◌, List, replicate}
+use Rattle.std.specs.Prelude.{◌≡◌, ◌⊎◌, ℕ, Bool, true, false, ◌==◌, if◌then◌else◌, List, replicate}
 use Rattle.version_log.specs.Versions.{Version}
 use Rattle.frame_store.specs.declared.frames.Frame.{Frame}
 use Rattle.frame_store.specs.declared.shapes.Shape.{Shape}
 use Rattle.frame_store.specs.declared.shapes.Form.{Form}
 use Rattle.frame_store.specs.declared.shapes.Form.TheVariants.{Old, New, Moved}
-use Rattle.frame_store.specs.Layouts.{formed}
+use Rattle.frame_store.specs.Layouts.{formed, is_old_form}
 use Rattle.frame_store.specs.Images.{OpensAs, block_in}
 use Rattle.frame_store.specs.Listed.{size_of}
 use Rattle.brick_state.specs.States.{StateOf, empty}
@@ -52,6 +52,10 @@ pub record StandsFor (shape : Shape) (st : StateOf Version) (image : List ℕ) :
   pub frames : List Frame
   pub opens : OpensAs (formed form shape) frames true image
   pub state : state_in (formed form shape) frames image ≡ st
+
+-- It opens in the new format alone, where blocks lie in slots.
+abbrev pub IsSlotted : Shape → List ℕ → Type 0
+IsSlotted shape image = (form : Form) (frames : List Frame) (closed : Bool) → OpensAs (formed form shape) frames closed image → is_old_form form ≡ false
 
 -- the image opens as a list of frames of so many bytes
 pub record IsListed (shape : Shape) (listed : ℕ) (image : List ℕ) : Type 0 where
