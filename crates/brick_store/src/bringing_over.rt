@@ -34,7 +34,7 @@ pub(crate) struct Brought {
     pub(crate) frames: Vec<Frame>,
 }
 
-// The slots that blocks go to, by the numbers that they had: each block gets the next slot when it is named first.
+/// The slots that blocks go to, by the numbers that they had: each block gets the next slot when it is named first.
 #[derive(Drop)]
 struct Slots {
     moved: Vec<u32>,
@@ -42,7 +42,7 @@ struct Slots {
 }
 
 impl Slots {
-    // None is given yet, of so many numbers.
+    /// None is given yet, of so many numbers.
     fn new(alloc: Global, numbers: u32) -> Result<Slots, NoMem>
         ensures given { IfOk result (λ made. AreGiven [] made.moved.items made.next) }
         ensures numbers { IfOk result (λ made. length made.moved.items ≡ numbers) }
@@ -51,7 +51,7 @@ impl Slots {
         Ok(Slots { moved, next: 0 })
     }
 
-    // The slot of a number, and whether it was given just now. The zero block lies in no slot.
+    /// The slot of a number, and whether it was given just now. The zero block lies in no slot.
     fn of(&mut self, number: u32) -> (u32, bool)
         requires named { number ≢ 4294967295 → number < length self.old.moved.items }
         requires few { self.old.next < 4294967295 }
@@ -75,7 +75,7 @@ impl Slots {
     }
 }
 
-// Records of an old store that are put behind each other with new slots, and the blocks that were not moved yet, by their numbers.
+/// Records of an old store that are put behind each other with new slots, and the blocks that were not moved yet, by their numbers.
 #[derive(Drop)]
 struct Bringing {
     alloc: Global,
@@ -115,7 +115,7 @@ pub(crate) fn bring_over(alloc: Global, folded: Folded) -> Result<Brought, NoMem
     Ok(bringing.brought)
 }
 
-// The records that bring back what is kept, but for the count of openings where none is kept.
+/// The records that bring back what is kept, but for the count of openings where none is kept.
 fn records_over(index: &Index) -> Result<Vec<Record>, NoMem>
     ensures { IfOk result (λ made. made.items ≡ records_over (state_of index.now)) }
 {
@@ -127,7 +127,7 @@ fn records_over(index: &Index) -> Result<Vec<Record>, NoMem>
 }
 
 impl Bringing {
-    // None is put yet.
+    /// None is put yet.
     fn new(
         alloc: Global,
         records: u32,
@@ -157,7 +157,7 @@ impl Bringing {
         })
     }
 
-    // Takes a record more, with the slot that its block goes to.
+    /// Takes a record more, with the slot that its block goes to.
     fn bring(&mut self, item: &Record) -> Result<(), NoMem>
         requires members { RecordHasMembers item.now }
         requires named { number_in item.now ≢ 4294967295 → number_in item.now < length self.old.slots.moved.items }
@@ -182,7 +182,7 @@ impl Bringing {
         }
     }
 
-    // The change of a log with the slot that its block goes to, and the block in it.
+    /// The change of a log with the slot that its block goes to, and the block in it.
     fn take_block(&mut self, logged: Logged) -> Result<Logged, NoMem>
         requires named { slot_named logged.change ≢ 4294967295 → slot_named logged.change < length self.old.slots.moved.items }
         requires few { self.old.slots.next < 4294967295 }
@@ -217,7 +217,7 @@ impl Bringing {
 }
 
 impl Brought {
-    // Adds a record: its frame, and its change.
+    /// Adds a record: its frame, and its change.
     fn put(&mut self, alloc: Global, item: &Record) -> Result<(), NoMem>
         requires { RecordHasMembers item.now }
         ensures put { OnOk result (IsPut (limits_of self.old.index) item.now self.old.frames.items self.new.frames.items (state_of self.old.index)

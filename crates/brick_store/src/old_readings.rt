@@ -17,7 +17,7 @@ use fab_base::{Bytes, NoMem};
 use stamp_store::{LogChange, Logged};
 use std::alloc::Global;
 
-// How many bytes of a version's frame name its stripe and its stamp, as in the frames of all changes of a log.
+/// How many bytes of a version's frame name its stripe and its stamp, as in the frames of all changes of a log.
 const PLACE: usize = 30;
 
 /// The size of a store's blocks, and how many live records it may have.
@@ -27,8 +27,8 @@ pub(crate) struct Sizes {
     pub(crate) records: u32,
 }
 
-// What a version's frame of the old format spells: whose version it is and its stamp, whether all versions below it are dropped,
-// and its block.
+/// What a version's frame of the old format spells: whose version it is and its stamp, whether all versions below it are dropped,
+/// and its block.
 #[derive(Clone, Copy)]
 struct OldVersion<'a> {
     place: Logged,
@@ -36,7 +36,7 @@ struct OldVersion<'a> {
     block: &'a [u8],
 }
 
-// What stands behind the stamp: whether all versions below are dropped, and the block, which has the store's size.
+/// What stands behind the stamp: whether all versions below are dropped, and the block, which has the store's size.
 fn block_of(size: u16, bytes: &[u8]) -> Option<(bool, &[u8])>
     ensures { option_map (λ b. (b.0, b.1.now)) result ≡ old_block_of size bytes.now }
 {
@@ -50,7 +50,7 @@ fn block_of(size: u16, bytes: &[u8]) -> Option<(bool, &[u8])>
     Some((*flag == 1, block))
 }
 
-// The version that a body spells, if it spells one with a block of the store's size.
+/// The version that a body spells, if it spells one with a block of the store's size.
 fn version_of(size: u16, body: &[u8]) -> Option<OldVersion<'_>>
     ensures place { IfSome result (λ v. logged_of 6 (take place_size body.now) ≡ Some v.place) }
     ensures block { IfSome result (λ v. old_block_of size (drop place_size body.now) ≡ Some (v.bottom, v.block.now)) }
@@ -92,7 +92,7 @@ pub(crate) fn take_old_frame(
     }
 }
 
-// The same of a version.
+/// The same of a version.
 fn take_version(
     alloc: Global,
     index: &mut Index,

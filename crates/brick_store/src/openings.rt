@@ -78,7 +78,7 @@ pub fn open_store<D: Disk>(
     }
 }
 
-// Brings the store over that a list of the old format made, and counts the opening.
+/// Brings the store over that a list of the old format made, and counts the opening.
 fn open_over<D: Disk>(
     alloc: Global,
     frames: FrameStore<D>,

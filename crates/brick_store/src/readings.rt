@@ -91,8 +91,8 @@ fn take_any(index: &mut Index, kind: u8, body: &[u8]) -> Result<bool, NoMem>
     }
 }
 
-// How many numbers a list's blocks may have. A version that takes the place of all below it in a full store has a number of its own
-// before they are dropped: so an old list has one number more than live records.
+/// How many numbers a list's blocks may have. A version that takes the place of all below it in a full store has a number of its own
+/// before they are dropped: so an old list has one number more than live records.
 fn most_numbers(records: u32, old: bool) -> u32
     requires { records < 4294967295 }
     ensures { record { records = records; slots = result } ≡ limits_by old records }
@@ -138,7 +138,7 @@ impl Folded {
         })
     }
 
-    // Takes a frame more of a list of the old format.
+    /// Takes a frame more of a list of the old format.
     fn take_old(&mut self, kind: u8, body: &[u8]) -> Result<(), NoMem>
         requires whole { self.old.whole ≡ true }
         requires old { self.old.of_old ≡ true }
@@ -167,7 +167,7 @@ impl TakesFrames for Folded {
     ghost makes = { λ first old frames now. (now.of_old ≡ old) × (now.sizes ≡ first.sizes)
         × Makes first.sizes.block first.sizes.records old frames (limits_of now.index) (state_of now.index) now.blocks now.whole };
 
-    // What was taken before is forgotten.
+    /// What was taken before is forgotten.
     fn begin(&mut self, old: bool) -> Result<(), NoMem> {
         let records = self.sizes.records;
         let index = Index::new(self.alloc, records, most_numbers(records, old))?;

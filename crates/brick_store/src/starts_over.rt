@@ -80,8 +80,8 @@ pub(crate) fn take_over<D: Disk>(
     }
 }
 
-// Syncs the disk, brings the store over with these blocks and frames, and counts the opening. Memory is refused before the disk is
-// touched.
+/// Syncs the disk, brings the store over with these blocks and frames, and counts the opening. Memory is refused before the disk is
+/// touched.
 #[tactic(auto, unfolding(brick_state::specs::Folds::applied))]
 fn start_over<D: Disk>(
     alloc: Global,
