@@ -10,7 +10,9 @@ pub mod Indexes
 pub mod Slots
 pub mod Appending
 pub mod Changes
+pub mod Shutting
 pub mod Rewriting
+pub mod Bringing
 pub mod Exits
 pub mod Openings
 pub mod Pieces
@@ -18,3 +20,4 @@ pub mod Stills
 pub mod Formatting
 pub mod Words
 pub mod Writes
+pub mod Brought

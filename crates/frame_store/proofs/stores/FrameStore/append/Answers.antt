@@ -16,7 +16,7 @@ pub returns-in-Ok-clause-change : goal.returns-in-Ok-clause-change
 returns-in-Ok-clause-change g c =
     let x = c.self.inside in
     let made = appended g.D.Disk g.met.D.Disk.only_now g.met.D.Disk.counts_now x.half x.generation x.other_shut x.used _ c.args.self.now c.stage.new.disk
-    c.write_gated.new.disk Whole c.self.view_is c.self.invariant.0 c.self.invariant.1 c.if-self.false c.stage.ensures.still (c.half_at.result + x.used)
+    c.write_gated.new.disk Whole c.self.view_is c.self.invariant.0 c.self.invariant.1 c.if-self.false c.requires.new c.stage.ensures.still (c.half_at.result + x.used)
     (frame_of c.args.kind c.args.body.now) c.deref.result.now (ap (λ (n : ℕ). n + x.used) c.half_at.ensures) c.requires.fits
     (c.deref.ensures.value ∙ c.in_ok-stage.ensures.line) c.in-Ok.ensures.change in
     made.change
@@ -26,7 +26,7 @@ pub invariant_of-self-in-Ok : goal.invariant_of-self-in-Ok
 invariant_of-self-in-Ok g c =
     let x = c.self.inside in
     let made = appended g.D.Disk g.met.D.Disk.only_now g.met.D.Disk.counts_now x.half x.generation x.other_shut x.used _ c.args.self.now c.stage.new.disk
-    c.write_gated.new.disk Whole c.self.view_is c.self.invariant.0 c.self.invariant.1 c.if-self.false c.stage.ensures.still (c.half_at.result + x.used)
+    c.write_gated.new.disk Whole c.self.view_is c.self.invariant.0 c.self.invariant.1 c.if-self.false c.requires.new c.stage.ensures.still (c.half_at.result + x.used)
     (frame_of c.args.kind c.args.body.now) c.deref.result.now (ap (λ (n : ℕ). n + x.used) c.half_at.ensures) c.requires.fits
     (c.deref.ensures.value ∙ c.in_ok-stage.ensures.line) c.in-Ok.ensures.change in
     let bytes : c.len-bytes.result ≡ length c.deref.result.now = omega arith in
@@ -66,7 +66,7 @@ pub returns-in-Err-clause-change : goal.returns-in-Err-clause-change
 returns-in-Err-clause-change g c =
     let x = c.self.inside in
     let made = appended g.D.Disk g.met.D.Disk.only_now g.met.D.Disk.counts_now x.half x.generation x.other_shut x.used _ c.args.self.now c.stage.new.disk
-    c.write_gated.new.disk _ c.self.view_is c.self.invariant.0 c.self.invariant.1 c.if-self.false c.stage.ensures.still (c.half_at.result + x.used)
+    c.write_gated.new.disk _ c.self.view_is c.self.invariant.0 c.self.invariant.1 c.if-self.false c.requires.new c.stage.ensures.still (c.half_at.result + x.used)
     (frame_of c.args.kind c.args.body.now) c.deref.result.now (ap (λ (n : ℕ). n + x.used) c.half_at.ensures) c.requires.fits
     (c.deref.ensures.value ∙ c.in_ok-stage.ensures.line) c.in-Err.ensures.change in
     made.change

@@ -18,7 +18,7 @@ returns-in-Ok-clause-change g c =
     let line_is = c.deref.ensures.value ∙ c.in_ok-stage.ensures.line
     ∙ ap (λ (body : List ℕ). line_of (frame_of c.args.frame.kind body)) c.as_slice-body.ensures.value in
     let made = put g.D.Disk g.met.D.Disk.only_now g.met.D.Disk.counts_now x.half x.generation x.other_shut x.used _ c.args.self.now c.stage.new.disk
-    c.write_both_gated.new.disk Whole c.self.view_is c.self.invariant.0 c.self.invariant.1 c.if-self.false c.stage.ensures.still (c.half_at.result + x.used)
+    c.write_both_gated.new.disk Whole c.self.view_is c.self.invariant.0 c.self.invariant.1 c.if-self.false c.requires.new c.stage.ensures.still (c.half_at.result + x.used)
     c.args.frame c.deref.result.now (ap (λ (n : ℕ). n + x.used) c.half_at.ensures) c.requires.fits line_is c.args.slot c.args.block.now
     c.slot_at-at.result c.requires.slot c.requires.block c.slot_at-at.ensures c.in-Ok.ensures.change in
     made.change
@@ -30,7 +30,7 @@ invariant_of-self-in-Ok g c =
     let line_is = c.deref.ensures.value ∙ c.in_ok-stage.ensures.line
     ∙ ap (λ (body : List ℕ). line_of (frame_of c.args.frame.kind body)) c.as_slice-body.ensures.value in
     let made = put g.D.Disk g.met.D.Disk.only_now g.met.D.Disk.counts_now x.half x.generation x.other_shut x.used _ c.args.self.now c.stage.new.disk
-    c.write_both_gated.new.disk Whole c.self.view_is c.self.invariant.0 c.self.invariant.1 c.if-self.false c.stage.ensures.still (c.half_at.result + x.used)
+    c.write_both_gated.new.disk Whole c.self.view_is c.self.invariant.0 c.self.invariant.1 c.if-self.false c.requires.new c.stage.ensures.still (c.half_at.result + x.used)
     c.args.frame c.deref.result.now (ap (λ (n : ℕ). n + x.used) c.half_at.ensures) c.requires.fits line_is c.args.slot c.args.block.now
     c.slot_at-at.result c.requires.slot c.requires.block c.slot_at-at.ensures c.in-Ok.ensures.change in
     let bytes : c.len-bytes.result ≡ length c.deref.result.now = omega arith in
@@ -73,7 +73,7 @@ returns-clause-change g c =
     let line_is = c.deref.ensures.value ∙ c.in_ok-stage.ensures.line
     ∙ ap (λ (body : List ℕ). line_of (frame_of c.args.frame.kind body)) c.as_slice-body.ensures.value in
     let made = put g.D.Disk g.met.D.Disk.only_now g.met.D.Disk.counts_now x.half x.generation x.other_shut x.used _ c.args.self.now c.stage.new.disk
-    c.write_both_gated.new.disk _ c.self.view_is c.self.invariant.0 c.self.invariant.1 c.if-self.false c.stage.ensures.still (c.half_at.result + x.used)
+    c.write_both_gated.new.disk _ c.self.view_is c.self.invariant.0 c.self.invariant.1 c.if-self.false c.requires.new c.stage.ensures.still (c.half_at.result + x.used)
     c.args.frame c.deref.result.now (ap (λ (n : ℕ). n + x.used) c.half_at.ensures) c.requires.fits line_is c.args.slot c.args.block.now
     c.slot_at-at.result c.requires.slot c.requires.block c.slot_at-at.ensures c.in-Err.ensures.change in
     made.change

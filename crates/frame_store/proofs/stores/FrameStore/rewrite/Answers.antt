@@ -11,10 +11,10 @@ use Rattle.frame_store.specs.Steps.{next_of}
 use Rattle.frame_store.specs.Stores.{Held, HasRoom}
 use Rattle.frame_store.proofs.Changes.{laid_opens}
 use Rattle.frame_store.proofs.Ends.{of_refused}
-use Rattle.frame_store.proofs.Exits.{end_small, list_within, closing_short, still_change}
+use Rattle.frame_store.proofs.Exits.{end_small, list_within, still_change}
 use Rattle.frame_store.proofs.Writes.{rewritten}
 use Rattle.frame_store.proofs.Headers.{renewed}
-use Rattle.frame_store.proofs.Rewriting.{length-closed_list}
+use Rattle.frame_store.proofs.Shutting.{length-closed_list, closing_short}
 use Rattle.frame_store.proofs.stores.FrameStore.rewrite.Goals as goal
 
 -- the new list is laid in the other half, and counted
@@ -22,7 +22,7 @@ pub invariant_of-self-in-Ok : goal.invariant_of-self-in-Ok
 invariant_of-self-in-Ok g c =
     let x = c.self.inside in
     let made = rewritten g.D.Disk g.met.D.Disk.only_now g.met.D.Disk.counts_now x.half x.generation x.other_shut x.used _ c.args.self.now
-    c.stage_list.new.disk c.rewrite_gated.new.disk Whole c.self.view_is c.self.invariant.0 c.self.invariant.1 c.if-self.false c.stage_list.ensures.still
+    c.stage_list.new.disk c.rewrite_gated.new.disk Whole c.self.view_is c.self.invariant.0 c.self.invariant.1 c.if-self.false c.requires.new c.stage_list.ensures.still
     c.args.frames.items c.header_at-gate.result c.half_at-at.result c.closing-shut.result.now c.header_rest-rest.result c.deref-2.result.now
     c.requires.fits (omega arith) (c.header_at-gate.ensures ∙ ap header_at c.other-other.ensures)
     (c.half_at-at.ensures ∙ ap (half_at x.shape) c.other-other.ensures) c.closing-shut.ensures c.header_rest-rest.ensures
@@ -46,7 +46,7 @@ pub returns-in-Ok-clause-change : goal.returns-in-Ok-clause-change
 returns-in-Ok-clause-change g c =
     let x = c.self.inside in
     let made = rewritten g.D.Disk g.met.D.Disk.only_now g.met.D.Disk.counts_now x.half x.generation x.other_shut x.used _ c.args.self.now
-    c.stage_list.new.disk c.rewrite_gated.new.disk Whole c.self.view_is c.self.invariant.0 c.self.invariant.1 c.if-self.false c.stage_list.ensures.still
+    c.stage_list.new.disk c.rewrite_gated.new.disk Whole c.self.view_is c.self.invariant.0 c.self.invariant.1 c.if-self.false c.requires.new c.stage_list.ensures.still
     c.args.frames.items c.header_at-gate.result c.half_at-at.result c.closing-shut.result.now c.header_rest-rest.result c.deref-2.result.now
     c.requires.fits (omega arith) (c.header_at-gate.ensures ∙ ap header_at c.other-other.ensures)
     (c.half_at-at.ensures ∙ ap (half_at x.shape) c.other-other.ensures) c.closing-shut.ensures c.header_rest-rest.ensures
@@ -81,7 +81,7 @@ rewrite_gated-requires-clause-reach g c =
       arith,
       end_small c.self.inside.shape c.self.invariant.0.limits,
       list_within _ c.args.self.now c.other-other.result c.args.frames.items c.deref-2.result.now c.half_at-at.result c.self.view_is
-          c.requires.fits (c.deref-2.ensures.value ∙ c.in_ok-stage_list.ensures.line ∙ ap closed_list c.deref.ensures.value) c.half_at-at.ensures,
+          c.requires.new c.requires.fits (c.deref-2.ensures.value ∙ c.in_ok-stage_list.ensures.line ∙ ap closed_list c.deref.ensures.value) c.half_at-at.ensures,
     )
 
 pub overflow_add-at : goal.overflow_add-at
@@ -92,17 +92,17 @@ overflow_add-at g c =
       bytes,
       end_small c.self.inside.shape c.self.invariant.0.limits,
       list_within _ c.args.self.now c.other-other.result c.args.frames.items c.deref-2.result.now c.half_at-at.result c.self.view_is
-          c.requires.fits (c.deref-2.ensures.value ∙ c.in_ok-stage_list.ensures.line ∙ ap closed_list c.deref.ensures.value) c.half_at-at.ensures,
+          c.requires.new c.requires.fits (c.deref-2.ensures.value ∙ c.in_ok-stage_list.ensures.line ∙ ap closed_list c.deref.ensures.value) c.half_at-at.ensures,
     )
 
 pub rewrite_gated-requires-clause-room : goal.rewrite_gated-requires-clause-room
 rewrite_gated-requires-clause-room g c =
     let fs = c.args.frames.items in
     let line_is = c.deref-2.ensures.value ∙ c.in_ok-stage_list.ensures.line ∙ ap closed_list c.deref.ensures.value in
-    let within = list_within _ c.args.self.now c.other-other.result fs c.deref-2.result.now c.half_at-at.result c.self.view_is c.requires.fits
+    let within = list_within _ c.args.self.now c.other-other.result fs c.deref-2.result.now c.half_at-at.result c.self.view_is c.requires.new c.requires.fits
     line_is c.half_at-at.ensures in
     let listed : size_of c.deref.result.now ≡ size_of fs = ap size_of c.deref.ensures.value in
-    g.met.D.Disk.room_for_less c.stage_list.new.disk 7 (size_of c.deref.result.now + 34) c.end-end.result
+    g.met.D.Disk.room_for_less c.stage_list.new.disk 7 (0 + (size_of c.deref.result.now + 34)) c.end-end.result
     7 (length c.closing-shut.result.now + (length c.header_rest-rest.result + length c.deref-2.result.now + 1))
     (c.half_at-at.result + length c.deref-2.result.now) (omega arith)
     (omega (
@@ -123,7 +123,7 @@ returns-in-Ok-clause-left g c = λ calls bytes written had.
     let before = subst (λ (s : Held g.row.D.Denot). HasRoom g.D.Disk.has_room s (calls + 7) (bytes + (size_of fs + 34)) written)
     (sym c.self.view_is) had in
     let line_is = c.deref-2.ensures.value ∙ c.in_ok-stage_list.ensures.line ∙ ap closed_list c.deref.ensures.value in
-    let within = list_within _ c.args.self.now c.other-other.result fs c.deref-2.result.now c.half_at-at.result c.self.view_is c.requires.fits
+    let within = list_within _ c.args.self.now c.other-other.result fs c.deref-2.result.now c.half_at-at.result c.self.view_is c.requires.new c.requires.fits
     line_is c.half_at-at.ensures in
     let shut = closing_short c.self.inside.other_shut in
     let kept = c.stage_list.ensures.room (calls + 7) (bytes + (size_of fs + 34)) end before.disk in
@@ -144,7 +144,7 @@ pub returns-clause-change : goal.returns-clause-change
 returns-clause-change g c =
     let x = c.self.inside in
     let made = rewritten g.D.Disk g.met.D.Disk.only_now g.met.D.Disk.counts_now x.half x.generation x.other_shut x.used _ c.args.self.now
-    c.stage_list.new.disk c.rewrite_gated.new.disk _ c.self.view_is c.self.invariant.0 c.self.invariant.1 c.if-self.false c.stage_list.ensures.still
+    c.stage_list.new.disk c.rewrite_gated.new.disk _ c.self.view_is c.self.invariant.0 c.self.invariant.1 c.if-self.false c.requires.new c.stage_list.ensures.still
     c.args.frames.items c.header_at-gate.result c.half_at-at.result c.closing-shut.result.now c.header_rest-rest.result c.deref-2.result.now
     c.requires.fits (omega arith) (c.header_at-gate.ensures ∙ ap header_at c.other-other.ensures)
     (c.half_at-at.ensures ∙ ap (half_at x.shape) c.other-other.ensures) c.closing-shut.ensures c.header_rest-rest.ensures
