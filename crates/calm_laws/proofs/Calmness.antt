@@ -10,7 +10,7 @@ use Rattle.calm_laws.proofs.Plays.{Finishes}
 use Rattle.std.proofs.Common.{cond, List, None, Option, Some, [], ap, ap₂, arith, drop, false, inl, le_of_lt, le_trans, length, map, refl, subst, suc, sym, take, true, zero-add, ℕ, ⊎_elim, ◌++◌, ◌+◌, ◌<◌, ◌∙◌, ◌∷◌, ◌≡◌, ◌≤◌, is_some, take_all, zero, inr, Bool}
 use Rattle.std.proofs.lemmas.Bool.{and_from, and_parts, cond_both, eqb-true, false≢true, ltb-true, ne_eqb, or_parts, not-true}
 use Rattle.std.proofs.lemmas.Bool.Decides.{nat_tests}
-use Rattle.std.proofs.lemmas.List.{append_assoc, length-take-le, take-append-drop}
+use Rattle.std.proofs.lemmas.List.{append_assoc, length-take-le, take-append-drop, append-nil}
 use Rattle.std.specs.Prelude.{filter, nat_eq, nat_lt, slice_get, ◌*◌, ◌-◌, not}
 use Rattle.calm_laws.proofs.Asking.{each_append, each_then, each_so}
 use Rattle.calm_laws.proofs.Beginnings.{OpenFacts, each_repeated, map_append, one_stands, open_facts, repeated_sends, waiting_untouched}
@@ -27,7 +27,7 @@ use Rattle.calm_laws.proofs.OrderRuns.{IsUnheld}
 use Rattle.calm_laws.proofs.PhaseRuns.{Cast, IsOpen}
 use Rattle.calm_laws.proofs.Queues.{waiting}
 use Rattle.calm_laws.proofs.Rooms.{Room}
-use Rattle.calm_laws.proofs.Scenes.{Closes, Each, IsSeated, Part, Scene, Seated, Stage, asking, sends, IsInView, asks_own, first_ahead, IsOf, IsSeatedBack, asks_before, AreApart}
+use Rattle.calm_laws.proofs.Scenes.{Closes, Each, IsSeated, Part, Scene, Seated, Stage, asking, sends, IsInView, asks_own, first_ahead, IsOf, IsSeatedBack, asks_before, AreApart, quorum_needed}
 use Rattle.calm_laws.proofs.Shows.{IsMember, Shows}
 use Rattle.calm_laws.proofs.Starts.{AreFew, block_first, write_first}
 use Rattle.calm_laws.specs.Laws.{EncodesBlocks, EndsAlone, IsOver, most_records}
@@ -43,7 +43,7 @@ use Rattle.messages.specs.declared.packets.Packet.{Packet}
 use Rattle.messages.specs.declared.requests.Version.{Version}
 use Rattle.messages.specs.declared.requests.Want.{Want}
 use Rattle.protocol.specs.Calms.{IsCalm, IsReady, early, goes_among, is_one_of, may_ask_prior, knows_synced}
-use Rattle.protocol.specs.Coordinators.{Coordinator, block_written, asked_group, looks_back}
+use Rattle.protocol.specs.Coordinators.{Coordinator, block_written, asked_group, looks_back, may_count_in}
 use Rattle.protocol.specs.Nodes.{first_phase, has_block, has_length, phase_packets, replica_at, view_at}
 use Rattle.protocol.specs.Replicas.{Replica, below, is_held, newest_of, top_of}
 use Rattle.protocol.specs.Settings.{IsSound, Setting, are_bytes}
@@ -111,6 +111,7 @@ module _ (setting : Setting) (sound : IsSound setting) (lengths : EncodesBlocks 
     call = c.call;
     group = c.group;
     quorum = take (quorum_of c.group) (chosen bricks 0 c.group.members);
+    only = None;
     prior = kept_by c.prior c.group;
     may_ask = may_ask_prior w c bricks;
     old = λ i. ((w.nodes i).replicas c.call.group.0 (c.call.view.0 - 1) c.call.stripe.0).log;
@@ -166,7 +167,16 @@ module _ (setting : Setting) (sound : IsSound setting) (lengths : EncodesBlocks 
     apart = apart_take q all (apart_chosen bricks 0 c.group.members);
     some = let long : length (take q all) ≡ q = length-take-le q all all_many in
         let low = limits.some_block in let enough = limits.enough_seats in omega (arith, long, low, enough);
-    quorum = length-take-le q all all_many;
+    needs = λ d own for_all.
+        length-take-le q all all_many ∙ ap (λ (g : Group). quorum_of g) (sym (asks_own stage d own)) ∙ sym (quorum_needed d (inr own.of.only));
+    may = λ phase. each_so (λ (x : Seated). may_count_in phase None x.brick.0 ≡ true) (λ x. refl) (take q all);
+    first = take q all;
+    more = [];
+    split = append-nil (take q all);
+    first_apart = apart_take q all (apart_chosen bricks 0 c.group.members);
+    first_some = let long : length (take q all) ≡ q = length-take-le q all all_many in
+        let low = limits.some_block in let enough = limits.enough_seats in omega (arith, long, low, enough);
+    first_quorum = length-take-le q all all_many;
     sends = λ d own.
         sends_all d own ∙ ap (map (asking stage d)) (sym (take-append-drop q all))
         ∙ map_append (asking stage d) (take q all) (drop q all);
@@ -381,7 +391,7 @@ module _ (setting : Setting) (sound : IsSound setting) (lengths : EncodesBlocks 
   ground_of = ⊎_elim
       (λ (at : KnownFloor w c.call.group.0 c.call.stripe.0 c.call.view.0 c.group). (
         0,
-        inl (floor_is c.call.view.0 c.group known.logs at (take q all) cast.apart cast.quorum cast.seated keeps_own),
+        inl (floor_is c.call.view.0 c.group known.logs at (take q all) cast.apart cast.first_quorum cast.seated keeps_own),
         omega arith,
       ))
       (λ (back : KnownBack setting w c bricks). (
@@ -450,19 +460,19 @@ module _ (setting : Setting) (sound : IsSound setting) (lengths : EncodesBlocks 
       go : (op : Op) → c.ask.op ≡ op → Closes stage scene
       go (ReadBlock j) is =
           look_first stage cast logs lore few scene begins_first (Want.Seat j)
-          (looks_at_looking stage scene j (known.call.phase ∙ ap (λ (z : Op). first_phase z) is)) (let one = known.call.number_of_phase in omega (arith, one)) unheld
+          (looks_at_looking stage scene j refl (known.call.phase ∙ ap (λ (z : Op). first_phase z) is)) (let one = known.call.number_of_phase in omega (arith, one)) unheld
       go (WriteBlock j bytes) is =
           let fits : nat_lt j c.group.m ≡ true = sym (ap (λ (z : Op). has_block c.group.m z) is) ∙ known.call.block_fits in
           let long = and_parts (are_bytes bytes) (nat_eq (length bytes) setting.layout.block)
           (sym (ap (λ (z : Op). has_length c.group.m setting.layout.block z) is) ∙ known.call.length_fits) in
-          block_first stage cast logs lore few sound.deltas scene j begins_first (known.call.phase ∙ ap (λ (z : Op). first_phase z) is)
+          block_first stage cast logs lore few sound.deltas refl scene j begins_first (known.call.phase ∙ ap (λ (z : Op). first_phase z) is)
           (let one = known.call.number_of_phase in omega (arith, one)) unheld (ltb-true j c.group.m fits)
           (ap (λ (z : Op). length (block_written z)) is ∙ eqb-true (length bytes) setting.layout.block long.1)
       go ReadStripe is =
           look_first stage cast logs lore few scene begins_first Want.All
           (looks_looking stage scene (known.call.phase ∙ ap (λ (z : Op). first_phase z) is)) (let one = known.call.number_of_phase in omega (arith, one)) unheld
       go (WriteStripe bytes) is =
-          write_first stage cast logs lore few scene begins_first (known.call.phase ∙ ap (λ (z : Op). first_phase z) is)
+          write_first stage cast logs lore few refl scene begins_first (known.call.phase ∙ ap (λ (z : Op). first_phase z) is)
           (let one = known.call.number_of_phase in omega (arith, one))
 
   -- each brick serves the call

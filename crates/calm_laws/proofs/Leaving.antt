@@ -135,6 +135,7 @@ module _ (setting : Setting) (events : List Event) (n : ℕ) (bricks : List Bric
     call = c.call;
     group = c.group;
     quorum = take (quorum_of c.group) (chosen bricks 0 c.group.members);
+    only = None;
     prior = kept_by c.prior c.group;
     may_ask = may_ask_prior w c bricks;
     old = λ i. ((w.nodes i).replicas c.call.group.0 (c.call.view.0 - 1) c.call.stripe.0).log;
