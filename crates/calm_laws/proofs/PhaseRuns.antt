@@ -2,7 +2,7 @@
 use Rattle.fab_base.specs.Layouts.{seat_in, Group}
 use Rattle.std.proofs.Common.{None, List, [], ap, ap₂, arith, false, length, map, refl, subst, sym, true, zero-add, ℕ, ◌++◌, ◌+◌, ◌<◌, ◌∙◌, ◌∷◌, ◌≡◌, ◌≤◌, Some, Option, inl}
 use Rattle.std.specs.Prelude.{◌-◌, ◌^◌}
-use Rattle.calm_laws.proofs.Asking.{Gives, Holds, IsReply, Keeps, Replies, all_given, asks_pass, each_then, holds_on, reacted_all, reaction_teaches, told_all, told_exactly, told_replies, each_so, each_append}
+use Rattle.calm_laws.proofs.Asking.{Gives, Holds, IsReply, Keeps, Replies, all_given, asks_pass, each_then, holds_on, reacted_all, reaction_teaches, told_all, told_exactly, told_replies, each_append}
 use Rattle.calm_laws.proofs.Counts.{AreNew, Carries, counted_of, decides, new_from, replies_pass, told}
 use Rattle.calm_laws.proofs.Hearing.{IsStale, known_through, stale_pass}
 use Rattle.calm_laws.proofs.Queues.{waiting}
