@@ -1,5 +1,5 @@
 -- Who counts of the members that hear the coordinator: the first quorum, or all of them where some members alone count and these are they.
-use Rattle.std.proofs.Common.{Bool, List, None, Option, Some, [], ap, arith, cond, drop, false, length, map, refl, suc, sym, take, true, ℕ, ⊎_elim, inl, inr, ◌⊎◌, ◌++◌, ◌+◌, ◌∙◌, ◌∷◌, ◌≡◌, ◌≤◌, is_some}
+use Rattle.std.proofs.Common.{Bool, List, None, Option, Some, [], ap, arith, cond, drop, false, length, map, refl, suc, sym, take, true, ℕ, ⊎_elim, inl, inr, ◌⊎◌, ◌++◌, ◌+◌, ◌∙◌, ◌∷◌, ◌≡◌, ◌≤◌, is_some, take_all, subst}
 use Rattle.std.proofs.lemmas.Bool.{cases_Bool, cond_both, false≢true, or_cases}
 use Rattle.std.proofs.lemmas.List.{append-nil, take-append-drop}
 use Rattle.std.specs.List.{IsDistinct}
@@ -48,6 +48,11 @@ rest_each P (Some only) q all each = tt
 pub counts_apart : (only : Option (List BrickId)) (q : ℕ) (all : List Seated) → AreApart all → AreApart (counts_of only q all)
 counts_apart None q all apart = apart_take q all apart
 counts_apart (Some only) q all apart = apart
+
+-- and what holds of them all of all, where these are no more than the first quorum
+pub counts_all : (P : Seated → Type 0) (only : Option (List BrickId)) (q : ℕ) (all : List Seated) → length all ≤ q → Each P (counts_of only q all) → Each P all
+counts_all P None q all most each = subst (λ (l : List Seated). Each P l) (take_all q all most) each
+counts_all P (Some only) q all most each = each
 
 -- where just these members hear, they are as many as hear
 pub as_many : (bricks members : List BrickId) → IsDistinct nat_eq (map (λ (b : BrickId). b.0) bricks) → IsDistinct nat_eq (map (λ (b : BrickId). b.0) members)
