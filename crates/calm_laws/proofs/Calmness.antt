@@ -7,10 +7,10 @@ use Rattle.calm_laws.proofs.Backward.{BackCast, OldLore, may_look_back}
 use Rattle.fab_base.specs.declared.identities.ViewNo.{ViewNo}
 use Rattle.protocol.specs.declared.phases.Phase.{Phase}
 use Rattle.calm_laws.proofs.Plays.{Finishes}
-use Rattle.std.proofs.Common.{cond, List, None, Option, Some, [], ap, ap₂, arith, drop, false, inl, le_of_lt, le_trans, length, map, refl, subst, suc, sym, take, true, zero-add, ℕ, ⊎_elim, ◌++◌, ◌+◌, ◌<◌, ◌∙◌, ◌∷◌, ◌≡◌, ◌≤◌, is_some, take_all, zero, inr, Bool, length-append}
+use Rattle.std.proofs.Common.{cond, List, None, Option, Some, [], ap, ap₂, arith, drop, false, inl, le_of_lt, le_trans, length, map, refl, subst, suc, sym, take, true, zero-add, ℕ, ⊎_elim, ◌++◌, ◌+◌, ◌<◌, ◌∙◌, ◌∷◌, ◌≡◌, ◌≤◌, is_some, zero, inr, Bool, length-append}
 use Rattle.std.proofs.lemmas.Bool.{and_from, and_parts, cond_both, eqb-true, false≢true, ltb-true, ne_eqb, or_parts, not-true, or_right}
 use Rattle.std.proofs.lemmas.Bool.Decides.{nat_tests}
-use Rattle.std.proofs.lemmas.List.{append_assoc, length-take-le, take-append-drop, append-nil}
+use Rattle.std.proofs.lemmas.List.{append_assoc, length-take-le, take-append-drop}
 use Rattle.std.specs.Prelude.{filter, nat_eq, nat_lt, slice_get, ◌*◌, ◌-◌, not}
 use Rattle.calm_laws.proofs.Asking.{each_append, each_then, each_so}
 use Rattle.calm_laws.proofs.Beginnings.{OpenFacts, each_repeated, map_append, one_stands, open_facts, repeated_sends, waiting_untouched}

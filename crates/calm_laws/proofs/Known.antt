@@ -2,7 +2,7 @@
 use Rattle.fab_base.specs.declared.identities.BrickId.{BrickId}
 use Rattle.std.specs.List.{IsDistinct}
 use Rattle.protocol.specs.Views.{view_of, first_kept, kept_by}
-use Rattle.std.proofs.Common.{List, Some, [], false, length, suc, true, zero, ℕ, ◌++◌, ◌+◌, ◌<◌, ◌≡◌, ◌≤◌, ◌⊎◌, None}
+use Rattle.std.proofs.Common.{List, Some, [], false, length, suc, true, zero, ℕ, ◌++◌, ◌+◌, ◌<◌, ◌≡◌, ◌≤◌, ◌⊎◌}
 use Rattle.std.specs.Prelude.{filter, nat_eq, slice_get, map, ◌-◌}
 use Rattle.protocol_laws.proofs.Logs.{LogAscends}
 use Rattle.calm_laws.specs.Laws.{most_records, CountsThese}

@@ -1,6 +1,6 @@
 -- Where just a quorum of an operation's members hear one another, its Collects leave each of them its version only.
 use Rattle.protocol.specs.Views.{kept_by}
-use Rattle.std.proofs.Common.{◌≡◌, ℕ, suc, ◌+◌, ◌≤◌, ◌&&◌, false, true, nat_lt, List, [], ◌∷◌, ◌++◌, map, Option, Some, None, refl, sym, ap, ◌∙◌, subst, ⊎_elim, take, eqb-true, inl}
+use Rattle.std.proofs.Common.{◌≡◌, ℕ, suc, ◌+◌, ◌≤◌, ◌&&◌, false, true, nat_lt, List, [], ◌∷◌, ◌++◌, map, Option, Some, None, refl, sym, ap, ◌∙◌, subst, ⊎_elim, eqb-true, inl}
 use Rattle.std.specs.Prelude.{is_some, nat_eq, slice_get, ◌-◌}
 use Rattle.std.proofs.lemmas.Bool.{false≢true, or_cases, and_from, cond-true}
 use Rattle.std.proofs.lemmas.Option.{same_Some}
