@@ -1,6 +1,6 @@
 -- A recovery that looks back, alone: the first quorum of the members of the view before tells what each keeps there, below ever lower bounds, until enough blocks of
 -- a version are found.
-use Rattle.std.proofs.Common.{Bool, List, None, Option, Some, [], ap, ap₂, arith, cond, false, length, map, refl, subst, suc, sym, true, zero, zero-add, ℕ, ◌++◌, ◌+◌, ◌<◌, ◌∙◌, ◌∷◌, ◌≡◌, ◌≤◌}
+use Rattle.std.proofs.Common.{Bool, List, None, Option, Some, [], ap, ap₂, arith, cond, false, length, map, refl, subst, suc, sym, true, zero, zero-add, ℕ, ◌++◌, ◌+◌, ◌<◌, ◌∙◌, ◌∷◌, ◌≡◌, ◌≤◌, inl}
 use Rattle.std.proofs.lemmas.Bool.{cond_both, ltb-true}
 use Rattle.std.proofs.lemmas.List.{append-nil, append_assoc}
 use Rattle.std.specs.Prelude.{filter, nat_lt, slice_get, ◌-◌, ◌^◌}
@@ -13,7 +13,7 @@ use Rattle.calm_laws.proofs.Finds.{finding, total_below}
 use Rattle.calm_laws.proofs.Hearing.{IsStale, known_through, stale_pass}
 use Rattle.calm_laws.proofs.Ordering.{TameWith, told_below}
 use Rattle.calm_laws.proofs.PhaseRuns.{Cast, known_then, next_open_from, none_new, stale_then}
-use Rattle.calm_laws.proofs.Scenes.{AreApart, AsksBack, Closes, Each, IsBack, IsSeatedBack, Scene, Seated, Stage, asking, asks_before, found_back, made, of_same, replying, sends, sent, with_queue, all_needed, all_count}
+use Rattle.calm_laws.proofs.Scenes.{AreApart, AsksBack, Closes, Each, IsBack, IsSeatedBack, Scene, Seated, Stage, asking, asks_before, found_back, made, of_same, replying, sends, sent, with_queue, back_counts, quorum_needed}
 use Rattle.calm_laws.proofs.StorePhases.{store_phase}
 use Rattle.fab_base.specs.Layouts.{seat_in, Group}
 use Rattle.fab_base.specs.Stamps.{first_stamp, stamp_below, stamp_same}
@@ -24,7 +24,7 @@ use Rattle.messages.specs.declared.replies.Reply.{Reply}
 use Rattle.messages.specs.declared.replies.Reply.TheVariants.{Old}
 use Rattle.messages.specs.declared.requests.Version.{Version}
 use Rattle.messages.specs.declared.requests.Want.{Want}
-use Rattle.protocol.specs.Coordinators.{Coordinator, Makes, Next, Sends, answers_phase, finds, greater_stamp, greatest_found, in_phase, may_be_found, old_bound, pieces_at, pieces_of, read_back, restoring, told_stamp, lower_phase, may_count}
+use Rattle.protocol.specs.Coordinators.{Coordinator, Makes, Next, Sends, answers_phase, finds, greater_stamp, greatest_found, in_phase, may_be_found, old_bound, pieces_at, pieces_of, read_back, restoring, told_stamp, lower_phase, may_count, asks_each}
 use Rattle.protocol.specs.Replicas.{below, is_held, newest_of, told_version}
 use Rattle.protocol.specs.Settings.{Piece}
 use Rattle.protocol.specs.Views.{floor_of, view_told}
@@ -191,13 +191,13 @@ module _ (stage : Stage) (cast : Cast stage) (logs : ℕ → List Version) (asce
         (replies_pass stage stage.prior f back.xs
         (record s { known = known; queue = told stage s.c.call f back.xs ++ left })
         left refl (omega (arith, early))
-        (each_so (λ (x : Seated). may_count s.c x.brick.0 ≡ true) (λ x. all_count s.c open_is.is_back.of.only x.brick.0) back.xs)
+        (each_so (λ (x : Seated). may_count s.c x.brick.0 ≡ true) (λ x. back_counts s.c bound open_is.is_back.phase x.brick.0) back.xs)
         (asks_before stage s.c bound open_is.is_back)
         (each_then (IsSeatedBack stage) (λ (x : Seated). seat_in stage.prior.members x.brick.0 ≡ Some x.seat) back.xs (λ x seated. seated.0) back.seated)
         answers (each_so (λ (x : Seated). view_told (f x) ≡ None) (λ x. refl) back.xs)
         (subst (λ (l : List Counted). AreNewAll l) (sym open_is.counted) (new_from f [] back.xs back.apart (none_new back.xs)))
         back.some (ap (λ (l : List Counted). length l + length back.xs) open_is.counted ∙ zero-add (length back.xs) ∙ back.quorum
-        ∙ ap (λ (g : Group). quorum_of g) (sym (asks_before stage s.c bound open_is.is_back)) ∙ sym (all_needed s.c open_is.is_back.of.only))
+        ∙ ap (λ (g : Group). quorum_of g) (sym (asks_before stage s.c bound open_is.is_back)) ∙ sym (quorum_needed s.c (inl (ap (λ (p : Phase). asks_each p) open_is.is_back.phase))))
         (subst (λ (l : List Counted). Carries stage later_scene
         (decided_of (l ++ all))) (sym open_is.counted)
         (subst (λ (z : Next). Carries stage later_scene z)

@@ -28,6 +28,7 @@ pub mod Kept
 pub mod Known
 pub mod Leaving
 pub mod Looking
+pub mod Members
 pub mod Once
 pub mod OrderPhases
 pub mod OrderRuns

@@ -4,8 +4,8 @@ use Rattle.messages.specs.declared.replies.Reply.TheVariants.{Old}
 use Rattle.protocol.specs.declared.phases.Phase.TheVariants.{LooksBack}
 use Rattle.fab_base.specs.declared.asks.Op.TheVariants.{ReadBlock, ReadStripe, WriteBlock, WriteStripe}
 use Rattle.fab_base.specs.declared.asks.Op.{Op}
-use Rattle.std.proofs.Common.{List, None, Option, Some, [], false, refl, subst, sym, true, ℕ, ◌++◌, ◌+◌, ◌∷◌, ◌≡◌, Bool, ap, cond, ◌∙◌}
-use Rattle.std.specs.Prelude.{filter, max, nat_eq, ◌-◌, nat_lt}
+use Rattle.std.proofs.Common.{List, None, Option, Some, [], false, refl, subst, sym, true, ℕ, ◌++◌, ◌+◌, ◌∷◌, ◌≡◌, Bool, ap, cond, ◌∙◌, is_some, length, ◌⊎◌, inl, inr}
+use Rattle.std.specs.Prelude.{filter, max, nat_eq, ◌-◌, nat_lt, ◌||◌}
 use Rattle.fab_base.specs.Layouts.{Group, seat_in}
 use Rattle.fab_base.specs.declared.answers.Answer.{Answer}
 use Rattle.fab_base.specs.declared.identities.BrickId.{BrickId}
@@ -17,7 +17,7 @@ use Rattle.messages.specs.declared.replies.Reply.{Reply}
 use Rattle.messages.specs.declared.requests.Request.{Request}
 use Rattle.messages.specs.declared.requests.Version.{Version}
 use Rattle.protocol.specs.Calms.{goes_among, is_one_of}
-use Rattle.protocol.specs.Coordinators.{Coordinator, Ends, Ignores, Makes, Next, Sends, Waits, on_reply, request_of, asked_group, asked_view, looks_back, needed_of, needed, may_count_in, may_count}
+use Rattle.protocol.specs.Coordinators.{Coordinator, Ends, Ignores, Makes, Next, Sends, Waits, on_reply, request_of, asked_group, asked_view, looks_back, needed_of, needed, may_count_in, may_count, asks_each}
 use Rattle.protocol.specs.Views.{view_told, kept_by}
 use Rattle.protocol.specs.Nodes.{fits, fresh_stamp, full_at, known_after, phase_packets, put, reply_packets, first_phase}
 use Rattle.protocol.specs.Replicas.{Reaction, Replica, handle, newest_of, under}
@@ -33,7 +33,7 @@ pub record Seated : Type 0 where
   pub brick : BrickId
 
 -- What stays as it is meanwhile: the setting, the bricks that hear one another, the coordinator's brick and its clock, the operation's call, the group, and the members
--- whose replies count: the first quorum that hears the coordinator. And the group as the members of the view before keep it, whether the operation may ask these, and what
+-- whose replies count: the first quorum that hears the coordinator, or all where some members alone count, and which these are. And the group as the members of the view before keep it, whether the operation may ask these, and what
 -- each brick keeps of the stripe in that view.
 pub record Stage : Type 0 where
   pub setting : Setting
@@ -43,6 +43,7 @@ pub record Stage : Type 0 where
   pub call : Call
   pub group : Group
   pub quorum : List Seated
+  pub only : Option (List BrickId)
   pub prior : Group
   pub may_ask : Bool
   pub old : ℕ → List Version
@@ -156,11 +157,11 @@ pub record SameCall (c d : Coordinator) : Type 0 where
   pub view : d.stamp.view ≡ c.stamp.view
   pub stripe : d.call.stripe ≡ c.call.stripe
 
--- A coordinator is of the stage's operation, in which every member counts.
+-- A coordinator is of the stage's operation.
 pub record IsOf (stage : Stage) (c : Coordinator) : Type 0 where
   pub group : c.group ≡ stage.group
   pub prior : kept_by c.prior c.group ≡ stage.prior
-  pub only : c.only ≡ None
+  pub only : c.only ≡ stage.only
   pub boot : c.call.boot ≡ stage.call.boot
   pub seq : c.call.seq ≡ stage.call.seq
   pub of_group : c.call.group ≡ stage.call.group
@@ -180,13 +181,26 @@ of_same stage c d same is = record {
   stripe = same.stripe ∙ is.stripe;
 }
 
--- its phases need a quorum of those who are asked
-pub all_needed : (c : Coordinator) → c.only ≡ None → needed c ≡ quorum_of (asked_group c)
-all_needed c all = ap (λ (o : Option (List BrickId)). needed_of (asked_group c) c.phase o) all
+-- A phase is for each of the members that alone count, or every member counts.
+abbrev pub IsForAll : Stage → Phase → Type 0
+IsForAll stage phase = (asks_each phase ≡ true) ⊎ (stage.only ≡ None)
 
--- and each of these may count
-pub all_count : (c : Coordinator) → c.only ≡ None → (brick : ℕ) → may_count c brick ≡ true
-all_count c all brick = ap (λ (o : Option (List BrickId)). may_count_in c.phase o brick) all
+-- another phase, and any where every member counts, needs a quorum of those who are asked
+pub quorum_needed : (c : Coordinator) → (asks_each c.phase ≡ false) ⊎ (c.only ≡ None) → needed c ≡ quorum_of (asked_group c)
+quorum_needed c (inr all) = ap (λ (o : Option (List BrickId)). needed_of (asked_group c) c.phase o) all
+quorum_needed c (inl isnt) = by c.only
+  where
+    by : (only : Option (List BrickId)) → needed_of (asked_group c) c.phase only ≡ quorum_of (asked_group c)
+    by None = refl
+    by (Some only) = ap (λ (b : Bool). cond b (length only) (quorum_of (asked_group c))) isnt
+
+-- each of those who are asked may count in a phase that looks back
+pub back_counts : (c : Coordinator) (bound : Option Stamp) → c.phase ≡ LooksBack bound → (brick : ℕ) → may_count c brick ≡ true
+back_counts c bound is brick = by c.only
+  where
+    by : (only : Option (List BrickId)) → may_count_in c.phase only brick ≡ true
+    by None = refl
+    by (Some only) = ap (λ (p : Phase). looks_back p || is_some (seat_in only brick)) is
 
 -- A coordinator is in a phase that asks the members of its operation's view: its call is of the view of its stamp.
 pub record IsInView (stage : Stage) (c : Coordinator) : Type 0 where

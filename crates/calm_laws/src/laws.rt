@@ -5,7 +5,8 @@ ghost use Rattle.calm_laws.specs.Laws.{CalmOperationsEnd, CollectsLeaveOne};
 /// An operation that runs alone comes to its end, and is answered data or that it is done, and not aborted: whatever had happened before, whatever else is open, and
 /// whatever view it is in.
 ///
-/// It was asked for; or it is a read of a synchronisation, of a stripe that its group has.
+/// It was asked for; or it is a read of a synchronisation, of a stripe that its group has; or it is a scrub, and these bricks are just the members that it names. It is
+/// clean then, or has repaired.
 ///
 /// It runs alone among some bricks where none of its messages was delivered before, and then those among these bricks are delivered one after
 /// another, in the order of sending, and nothing else happens. The bricks are distinct and up, the view of its group that they have learnt is the operation's, and they

@@ -18,7 +18,7 @@ use Rattle.protocol.specs.Settings.{Setting}
 use Rattle.protocol.specs.Proposals.{Proposal, ballot_request, ballot_packets}
 use Rattle.protocol.specs.Coordinators.{Coordinator, request_of, asked_group}
 use Rattle.protocol.specs.Nodes.{Node, NodeStep, sending, phase_packets, group_at, new_coordinator, coordinator_in, reading, synced_at, opened, began, invoked, view_in, resent, resent_up_to, calls_but_read, job_call, ballot_resent, ticked, new_proposal, proposing, proposed_in, proposed, scrubbed_at, scrub_coordinator, scrubbing, calls_but_scrub, scrub_call, put}
-use Rattle.protocol.proofs.Packets.{OfEach, each_none, each_both, each_member, each_ballot, each_ticked, each_ballot_resent}
+use Rattle.protocol.proofs.Packets.{OfEach, each_none, each_member, each_ballot, each_ballot_resent}
 use Rattle.protocol.proofs.Tables.{put_each}
 use Rattle.view_laws.proofs.FirstTold.{first_told}
 use Rattle.view_laws.proofs.Histories.{ViewWorld, IsNamed, accept_in, accept_is, history, PacketSays, MessageSays, Extends, name_stays, known_taught, taught_stays, kept_is}

@@ -26,10 +26,10 @@ use Rattle.synod_laws.specs.Synods.{value_or}
 use Rattle.protocol.specs.Replicas.{handle}
 use Rattle.protocol.specs.Proposals.{Proposal, Voting, ballot_request, ballot_packets, round_after, with_voice, asking, greatest_choice, voted}
 use Rattle.protocol.specs.Coordinators.{Coordinator, Next, Ignores, Waits, Sends, Makes, Ends, request_of, hearing, counts_at, on_reply, asked_group}
-use Rattle.protocol.specs.Nodes.{Node, NodeStep, put, no_step, sending, with_known, with_round, known_after, carried_for, job_reading, scrub_of, scrub_coordinator, scrubbed_at, synced_at, collect_packets, phase_packets, invoked, began, group_at, new_coordinator, fresh_stamp, requested, full_at, replica_at, vote_at, carried_out, ended_packets, carried_ballot, replied_ballot, replied_at, view_counted, replied, lists_fit, heard, received, absorbed, ticked, resent_up_to, ballot_resent, proposed, proposed_in, new_proposal, proposing, stopped, restarted, may_open, read_closed, synced_packets}
+use Rattle.protocol.specs.Nodes.{Node, NodeStep, put, no_step, sending, with_known, with_round, known_after, carried_for, job_reading, scrub_of, scrub_coordinator, scrubbed_at, synced_at, collect_packets, phase_packets, invoked, began, group_at, new_coordinator, fresh_stamp, requested, full_at, replica_at, vote_at, carried_out, ended_packets, carried_ballot, replied_ballot, replied_at, view_counted, replied, lists_fit, heard, received, absorbed, ticked, proposed, proposed_in, new_proposal, proposing, stopped, restarted, may_open, read_closed, synced_packets}
 use Rattle.protocol.specs.Worlds.{World, Event, first_world, is_up, packet_during, left_after, world_stepped, run}
 use Rattle.protocol.proofs.Events.{EventCases, step_on, world_counting, always, started_each, stepped_each}
-use Rattle.protocol.proofs.Packets.{OfEach, each_none, each_both, each_member, each_collect, each_reply, each_learn, each_ticked, each_ballot, each_ballot_resent}
+use Rattle.protocol.proofs.Packets.{OfEach, each_none, each_both, each_member, each_collect, each_reply, each_learn, each_ballot, each_ballot_resent}
 use Rattle.protocol.proofs.Served.{request_each}
 use Rattle.protocol.proofs.Tables.{put_each, put_twice}
 use Rattle.protocol.specs.Jobs.{Job, begun_job}

@@ -6,7 +6,6 @@ use Rattle.fab_base.specs.declared.identities.BrickId.{BrickId}
 use Rattle.fab_base.specs.declared.identities.GroupId.{GroupId}
 use Rattle.fab_base.specs.declared.identities.StripeNo.{StripeNo}
 use Rattle.fab_base.specs.declared.identities.ViewNo.{ViewNo}
-use Rattle.fab_base.specs.declared.member_lists.View.{View}
 use Rattle.fab_base.specs.declared.answers.Answer.{Answer}
 use Rattle.fab_base.specs.declared.stamps.Stamp.{Stamp}
 use Rattle.fab_base.specs.Layouts.{Group}
@@ -20,7 +19,7 @@ use Rattle.protocol.specs.Proposals.{Proposal}
 use Rattle.protocol.specs.Coordinators.{Coordinator, Next, Ignores, Waits, Sends, Makes, Ends, request_of, asked_group}
 use Rattle.protocol.specs.Scrubs.{Scrub, scrub_answer, lagging_after}
 use Rattle.protocol.specs.Jobs.{Job, Attempt, JobNext, Reads, Finishes, GivesUp, begun_job, job_ask, job_after, abort_cause, synced_answer}
-use Rattle.protocol.specs.Nodes.{Node, NodeStep, no_step, reporting, coordinator_in, is_spent, view_in, put, then_does, with_job, read_begun_by, read_begun_in, read_begun, synced_packets, job_goes, read_closed, carried_out, carried_for, synced_at, group_at, begun_aside, with_scrub, scrub_coordinator, scrubbing, scrub_ended, members_alone, scrubbed_in, scrubbed_at, resent, resent_up_to, ballot_resent, calls_but_read, calls_but_scrub, job_call, scrub_call}
+use Rattle.protocol.specs.Nodes.{Node, NodeStep, no_step, reporting, coordinator_in, is_spent, view_in, then_does, with_job, read_begun_by, read_begun_in, read_begun, synced_packets, job_goes, read_closed, carried_out, carried_for, synced_at, group_at, begun_aside, with_scrub, scrub_coordinator, scrubbing, scrub_ended, members_alone, scrubbed_in, scrubbed_at, resent, resent_up_to, ballot_resent, calls_but_read, calls_but_scrub, job_call, scrub_call}
 use Rattle.protocol.proofs.Packets.{OfEach, OfRequests, each_none, each_one, each_both, each_resent, each_teaching, each_ticked}
 use Rattle.protocol.proofs.Tables.{put_each}
 

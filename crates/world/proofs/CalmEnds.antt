@@ -33,7 +33,7 @@ over_alone layout is mark bricks w last events (before, reached) =
     → IsOver last (operation_marked v mark)) (sym reached)
     (λ calm runs. (calm_ends (coding layout) before (operation_marked (run (coding layout) before (first_world layout)) mark) bricks (coding_is_sound layout is)
     (λ m content seat. length-coded_block m layout.block content seat) is.few_records calm
-    (marked_has_stripe (coding layout) before mark calm.operation calm.coordinator calm.is)).over events last runs)
+    (marked_has_stripe (coding layout) before mark calm.operation calm.coordinator bricks calm.is)).over events last runs)
 
 -- and its Collects leave its own version only
 leaves_own : (layout : Layout) (is : IsLayout layout) (mark : ℕ) (bricks : List BrickId) (w last : World) (events : List Event) → IsReachedBy layout w
@@ -44,7 +44,7 @@ leaves_own layout is mark bricks w last events (before, reached) =
     → RunsAlone (coding layout) (operation_marked v mark) bricks v events last → LeavesItsOwn (coding layout) v (operation_marked v mark) bricks calm last) (sym reached)
     (λ calm runs. collects_leave (coding layout) before (operation_marked (run (coding layout) before (first_world layout)) mark) bricks (coding_is_sound layout is)
     (λ m content seat. length-coded_block m layout.block content seat) is.few_records calm
-    (marked_has_stripe (coding layout) before mark calm.operation calm.coordinator calm.is) events last runs)
+    (marked_has_stripe (coding layout) before mark calm.operation calm.coordinator bricks calm.is) events last runs)
 
 -- it leaves the world after its events
 runs_run : (setting : Setting) (n : ℕ) (bricks : List BrickId) (w last : World) (events : List Event) → RunsAlone setting n bricks w events last
