@@ -290,7 +290,9 @@ impl OpenScrub {
 
     /// Takes the last reply that counted back.
     pub(crate) fn take_back(&mut self)
-        ensures { scrub_shown self.new ≡ without_reply (scrub_shown self.old) }
+        ensures shown { scrub_shown self.new ≡ without_reply (scrub_shown self.old) }
+        ensures lagging { self.new.scrub.lagging ≡ self.old.scrub.lagging }
+        ensures of { (layout : layouts.Layout) → IsScrubOf layout self.old → IsScrubOf layout self.new }
     {
         match &mut self.recovery {
             Some(recovery) => recovery.take_back(),
