@@ -23,7 +23,7 @@ use Rattle.protocol.specs.declared.tellings.Told.TheVariants.{Closed}
 use Rattle.protocol.specs.Coordinators as machine
 use Rattle.protocol.specs.Coordinators.{Coordinator, Next, counts_at, hearing, on_reply, with_reply}
 use Rattle.protocol.specs.Jobs.{Job}
-use Rattle.protocol.specs.Nodes.{Node, NodeStep, carried_for, fresh_stamp, job_reading, known_after, members_alone, no_step, replied_at, with_known}
+use Rattle.protocol.specs.Nodes.{Node, NodeStep, carried_for, fresh_stamp, job_reading, known_after, members_alone, no_step, replied_at, view_in, with_known}
 use Rattle.stripe_code.specs.Codes.{block_code, coding}
 use Rattle.coord_phase.specs.Operations as phased
 use Rattle.coord_phase.specs.Operations.{counts, heard, heard_at, seat_told}
@@ -341,3 +341,17 @@ job_made layout before after (Some held) same later is =
       made = omega (arith, made, later);
       apart = ap (λ (operations : BTreeMap ℕ Operation). get nat_cmp operations (read_seq held)) same ∙ is.apart;
     }
+
+-- the view of a call is that of the scrub which has it
+pub seen_scrub : (scrub : Option OpenScrub) (f : ℕ → Option Coordinator) (seq : ℕ) → ScrubsAt scrub seq
+    → option_map (λ (held : OpenScrub). view_in (scrub_coordinator_of held)) scrub ≡ option_map view_in (calls_with_scrub (scrubbing_in scrub) f seq)
+seen_scrub None f seq scrubs = absurd scrubs
+seen_scrub (Some s) f seq scrubs =
+    sym (ap (λ (b : Bool). option_map view_in (cond b (Some (scrub_coordinator_of s)) (f seq))) (eq_turned seq (scrub_seq s) ∙ scrubs))
+
+-- or of the read
+pub seen_read : (job : Option OpenJob) (f : ℕ → Option Coordinator) (seq : ℕ) → ReadsAt job seq
+    → option_map (λ (held : OpenJob). view_in (coordinator_of held.read)) job ≡ option_map view_in (calls_with (reading_in job) f seq)
+seen_read None f seq reads = absurd reads
+seen_read (Some held) f seq reads =
+    sym (ap (λ (b : Bool). option_map view_in (cond b (Some (coordinator_of held.read)) (f seq))) (eq_turned seq (read_seq held) ∙ reads))
