@@ -25,6 +25,6 @@ returns-in-Some-clause-of c = λ layout of.
 pub returns-in-None-clause-of : goal.returns-in-None-clause-of
 returns-in-None-clause-of c = λ layout of.
     record {
-      block = ap (λ (s : looks.Scrubbing). s.look.block) c.take_back.ensures ∙ of.block;
-      goes_on = subst (λ (o : Option Operation). GoesOnFrom c.take_back.new.self.look o) (sym c.in-None.is) tt;
+      block = ap (λ (s : looks.Scrubbing). s.look.block) c.take_back-in-None.ensures ∙ of.block;
+      goes_on = subst (λ (o : Option Operation). GoesOnFrom c.take_back-in-None.new.self.look o) (sym c.in-None.is) tt;
     }
