@@ -3,6 +3,7 @@ use Rattle.std.proofs.Common.{◌≡◌, ◌≤◌, ◌+◌, ℕ, Bool, true, fa
 use Rattle.std.specs.Option.{option_map}
 use Rattle.std.specs.Ordering.{nat_cmp}
 use Rattle.std.specs.BTreeMap.{BTreeMap, get}
+use Rattle.std.proofs.lemmas.Bool.{true≢false}
 use Rattle.std.proofs.lemmas.Bool.Decides.{nat_tests}
 use Rattle.fab_base.specs.declared.answers.Answer.TheVariants.{Aborted}
 use Rattle.fab_base.specs.declared.answers.Cause.{Cause}
@@ -283,13 +284,13 @@ scrub_goes_on layout before after job held now same last seq of is =
     by (Some j) aside = ap (λ (n : ℕ). nat_eq (read_seq j) n) seq ∙ aside
 
 -- nothing is reported
-pub none_reported : (o : Option Report) (b : Bool) → b ≡ not (is_some o) → b ≡ true → option_to_list o ≡ []
+pub none_reported : (o : Option Report) (b : Bool) → is_some o ≡ not b → b ≡ true → option_to_list o ≡ []
 none_reported None b is none = refl
-none_reported (Some x) b is none = absurd cc
+none_reported (Some x) b is none = absurd (true≢false (is ∙ ap (λ (x : Bool). not x) none))
 
 -- something is
-pub one_reported : (o : Option Report) (b : Bool) → b ≡ not (is_some o) → b ≡ false → (x : Report) × (option_to_list o ≡ x ∷ [])
-one_reported None b is some = absurd cc
+pub one_reported : (o : Option Report) (b : Bool) → is_some o ≡ not b → b ≡ false → (x : Report) × (option_to_list o ≡ x ∷ [])
+one_reported None b is some = absurd (true≢false (sym (is ∙ ap (λ (x : Bool). not x) some)))
 one_reported (Some x) b is some = (x, refl)
 
 -- a synchronisation is of the brick still, where the operations are as they were

@@ -57,27 +57,27 @@ returns-in-Some-clause-same c = λ layout now from call reply before seq is firs
           };
     }
 
-pub returns-in-Some-2-clause-state : goal.returns-in-Some-2-clause-state
-returns-in-Some-2-clause-state c = λ layout now from call reply before seq is kept.
+pub returns-in-Some-scrub-clause-state : goal.returns-in-Some-scrub-clause-state
+returns-in-Some-scrub-clause-state c = λ layout now from call reply before seq is kept.
     let mid = c.args.self.now in
     let turn_is = subst (λ (turn : TaskTurn). IsTaskTurn layout now from call reply before turn mid) c.in-CountedScrub.is is in
-    let back = c.take_back-in-Some-2.ensures in
-    scrub_back from (message.Reply call reply) before mid c.in-Some-2.open c.take_back-in-Some-2.new.self turn_is.0 c.in-Some-2.is back.shown back.lagging kept
+    let back = c.take_back-in-Some-scrub.ensures in
+    scrub_back from (message.Reply call reply) before mid c.in-Some-scrub.open c.take_back-in-Some-scrub.new.self turn_is.0 c.in-Some-scrub.is back.shown back.lagging kept
 
-pub returns-in-Some-2-clause-same : goal.returns-in-Some-2-clause-same
-returns-in-Some-2-clause-same c = λ layout now from call reply before seq is first.
+pub returns-in-Some-scrub-clause-same : goal.returns-in-Some-scrub-clause-same
+returns-in-Some-scrub-clause-same c = λ layout now from call reply before seq is first.
     let mid = c.args.self.now in
-    let back = c.take_back-in-Some-2.ensures in
+    let back = c.take_back-in-Some-scrub.ensures in
     record {
       me = first.me;
       boot = first.boot;
       of = λ of.
           let mid_is = first.of of in
-          let at = subst (λ (s : Option OpenScrub). IsScrubIn layout mid.work.calls mid.job s) c.in-Some-2.is mid_is.scrub_is in
+          let at = subst (λ (s : Option OpenScrub). IsScrubIn layout mid.work.calls mid.job s) c.in-Some-scrub.is mid_is.scrub_is in
           record {
             work_is = mid_is.work_is;
             job_is = mid_is.job_is;
-            scrub_is = scrub_goes_on layout mid.work.calls mid.work.calls mid.job c.in-Some-2.open c.take_back-in-Some-2.new.self refl refl
+            scrub_is = scrub_goes_on layout mid.work.calls mid.work.calls mid.job c.in-Some-scrub.open c.take_back-in-Some-scrub.new.self refl refl
                 (ap (λ (op : phased.Operation). op.state.call.seq) back.shown) (back.of layout at.scrub_is) at;
           };
     }
