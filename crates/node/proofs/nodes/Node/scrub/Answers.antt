@@ -71,8 +71,8 @@ scrub-requires-clause-enough g c =
     (subst (λ (members : List BrickId). AreEnough (kept_by view.members c.in-Some.kept.now) (Some members)) (sym c.in-Some-new.ensures.bricks)
     (c.scrub_refusal.ensures.enough c.in_default-scrub_refusal.is))
 
-pub returns-in_err-scrub-clause-refused : goal.returns-in_err-scrub-clause-refused
-returns-in_err-scrub-clause-refused g c =
+pub returns-in_err-outs-clause-refused : goal.returns-in_err-outs-clause-refused
+returns-in_err-outs-clause-refused g c =
     let x = c.self.inside in
     let found = sym c.in-Some.ensures.found in
     let none = subst (λ (n : Running g.row.D.Denot). scrub_refusal n.layout (state_of n) c.args.group c.args.stripe c.args.members.now ≡ None) c.self.view_is
@@ -82,16 +82,16 @@ returns-in_err-scrub-clause-refused g c =
     search (rules, none)
 
 -- a time and a call number are left
-pub unreachable-requires-2 : goal.unreachable-requires-2
-unreachable-requires-2 g c =
+pub unreachable-requires-in-None : goal.unreachable-requires-in-None
+unreachable-requires-in-None g c =
     let x = c.self.inside in
     let kept = parts_in x.layout x.store.state in
     let left = c.scrub_refusal.ensures.left kept c.in_default-scrub_refusal.is in
     true≢false
-    (sym (ap (λ (b : Bool). not b) left) ∙ sym (c.in_ok-scrub.ensures.spent kept) ∙ ap (λ (o : Option Outcome). is_some o) c.in-None.is)
+    (sym (ap (λ (b : Bool). not b) left) ∙ sym (c.in_ok-outs.ensures.spent kept) ∙ ap (λ (o : Option Outcome). is_some o) c.in-None.is)
 
-pub returns-in-Some-2-clause-refused : goal.returns-in-Some-2-clause-refused
-returns-in-Some-2-clause-refused g c =
+pub returns-clause-refused : goal.returns-clause-refused
+returns-clause-refused g c =
     let x = c.self.inside in
     let found = sym c.in-Some.ensures.found in
     subst (λ (n : Running g.row.D.Denot). scrub_refusal n.layout (state_of n) c.args.group c.args.stripe c.args.members.now ≡ None) c.self.view_is
@@ -99,8 +99,8 @@ returns-in-Some-2-clause-refused g c =
     (c.learnt_view-view.ensures.view x.layout found)
     ∙ sym (c.scrub_refusal.ensures.value (parts_in x.layout x.store.state)) ∙ c.in_default-scrub_refusal.is)
 
-pub returns-in-Some-2-clause-step : goal.returns-in-Some-2-clause-step
-returns-in-Some-2-clause-step g c =
+pub returns-clause-step : goal.returns-clause-step
+returns-clause-step g c =
     let x = c.self.inside in
     let me = x.tasks.work.calls.me in
     let now = c.args.now in
@@ -111,13 +111,13 @@ returns-in-Some-2-clause-step g c =
     let after = c.scrub.new.self in
     let outs = c.in-Some-2.outs in
     let begins = λ (members : List BrickId). scrubbed_by (coding x.layout) (group_in_view x.layout view.members c.args.group.0) view now c.args.group c.args.stripe members me node in
-    let steps = subst (λ (o : Option Outcome). IfSome o (StepsAs me (tasks_in kept after) (begins c.in-Some-new.members))) c.in-Some-2.is (c.in_ok-scrub.ensures.step kept) in
+    let steps = subst (λ (o : Option Outcome). IfSome o (StepsAs me (tasks_in kept after) (begins c.in-Some-new.members))) c.in-Some-2.is (c.in_ok-outs.ensures.step kept) in
     subst
     (λ (n : Running g.row.D.Denot). StepsAs n.me (state_of (running x.layout after x.store))
     (scrubbed_at (coding n.layout) n.me now (state_of n) c.args.group c.args.stripe c.args.members.now) outs)
     c.self.view_is
     (steps_so x.layout x.tasks after x.store c.self.invariant.boot
-    (λ (n : Node). scrubbed_at (coding x.layout) me now n c.args.group c.args.stripe c.args.members.now) outs c.in_ok-scrub.ensures.same.boot
+    (λ (n : Node). scrubbed_at (coding x.layout) me now n c.args.group c.args.stripe c.args.members.now) outs c.in_ok-outs.ensures.same.boot
     (subst (λ (step : NodeStep). StepsAs me (tasks_in kept after) step outs)
     (sym (scrubbed_so x.layout me now node c.args.group c.args.stripe c.args.members.now c.in-Some.kept.now view (c.learnt_view-view.ensures.view x.layout found) found))
     (subst (λ (members : List BrickId). StepsAs me (tasks_in kept after) (begins members) outs) c.in-Some-new.ensures.bricks steps)))

@@ -22,7 +22,7 @@ use Rattle.node.specs.declared.outs.Tellings.{Tellings}
 use Rattle.node.specs.declared.scrubs.OpenScrub.{OpenScrub}
 use Rattle.node.specs.declared.tasks.Tasks.{Tasks}
 use Rattle.node.specs.Jobs.{reading_in, with_reading}
-use Rattle.node.specs.Outcomes.{told_list}
+use Rattle.node.specs.Outcomes.{Outcome, told_list}
 use Rattle.node.specs.Scrubs.{GoesOnFrom, IsScrubOf, phase_of, scrub_coordinator_of, scrub_seq, scrubbed_by, scrubbing_in, with_scrubbing}
 use Rattle.node.specs.States.{KeptParts, StepsAs, parts_with, state_in, state_with}
 use Rattle.node.specs.Tasks.{tasks_in}
@@ -115,8 +115,9 @@ returns-clause-step c = λ kept.
     let call = c.call-call.ensures ∙ ap (λ (x : Coordinator). x.call) (held_is d) in
     let work = c.made_read.ensures.state (parts_with kept tasks.work.proposals) in
     let idle = ap (λ (s : Option OpenScrub). with_scrubbing (scrubbing_in s) (with_reading r node)) c.requires.idle in
+    let outs : Outcome = record { messages = c.in_ok-open.messages.items; told = told_list c.of_begun.result; answers = []; reports = [] } in
     subst (λ (n : Node). StepsAs me (tasks_in kept (record { work = record { calls = c.made_read.new.self; proposals = tasks.work.proposals }; job = tasks.job; scrub = Some begun }))
-    (scrubbed_by (coding layout) (group_in_view layout c.args.view.members c.args.group.0) c.args.view c.args.now c.args.group c.args.stripe c.args.members me n) _)
+    (scrubbed_by (coding layout) (group_in_view layout c.args.view.members c.args.group.0) c.args.view c.args.now c.args.group c.args.stripe c.args.members me n) outs)
     (sym idle)
     (record {
       packets = ap (packets_from me) c.in_ok-open.ensures.begins.sends
