@@ -13,7 +13,7 @@ use Rattle.stripe_code.specs.Codes.{coding}
 use Rattle.coord_phase.specs.Operations.{PriorIsWithinLimits, group_in_view}
 use Rattle.node.specs.Outcomes.{Outcome}
 use Rattle.node.specs.Scrubs.{scrubbed_by}
-use Rattle.node.specs.States.{StepsAs, parts_in}
+use Rattle.node.specs.States.{StepsAs, parts_in, state_with}
 use Rattle.node.specs.Running.{Running, running, state_of}
 use Rattle.node.specs.Tasks.{tasks_in}
 use Rattle.node.proofs.ScrubBegins.{refusal_so, scrubbed_so}
@@ -100,6 +100,7 @@ returns-clause-refused g c =
     ∙ sym (c.scrub_refusal.ensures.value (parts_in x.layout x.store.state)) ∙ c.in_default-scrub_refusal.is)
 
 pub returns-clause-step : goal.returns-clause-step
+unfolding state_with
 returns-clause-step g c =
     let x = c.self.inside in
     let me = x.tasks.work.calls.me in
