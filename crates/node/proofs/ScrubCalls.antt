@@ -3,6 +3,7 @@ use Rattle.std.proofs.Common.{◌≡◌, ◌≤◌, ◌+◌, ℕ, Bool, true, fa
 use Rattle.std.specs.Option.{option_map}
 use Rattle.std.specs.Ordering.{nat_cmp}
 use Rattle.std.specs.BTreeMap.{BTreeMap, get}
+use Rattle.std.proofs.lemmas.Bool.{true≢false}
 use Rattle.std.proofs.lemmas.Bool.Decides.{nat_tests}
 use Rattle.fab_base.specs.declared.answers.Answer.TheVariants.{Aborted}
 use Rattle.fab_base.specs.declared.answers.Cause.{Cause}
@@ -23,7 +24,7 @@ use Rattle.protocol.specs.declared.tellings.Told.TheVariants.{Closed}
 use Rattle.protocol.specs.Coordinators as machine
 use Rattle.protocol.specs.Coordinators.{Coordinator, Next, counts_at, hearing, on_reply, with_reply}
 use Rattle.protocol.specs.Jobs.{Job}
-use Rattle.protocol.specs.Nodes.{Node, NodeStep, carried_for, fresh_stamp, job_reading, known_after, members_alone, no_step, replied_at, with_known}
+use Rattle.protocol.specs.Nodes.{Node, NodeStep, carried_for, fresh_stamp, job_reading, known_after, members_alone, no_step, replied_at, view_in, with_known}
 use Rattle.stripe_code.specs.Codes.{block_code, coding}
 use Rattle.coord_phase.specs.Operations as phased
 use Rattle.coord_phase.specs.Operations.{counts, heard, heard_at, seat_told}
@@ -283,13 +284,13 @@ scrub_goes_on layout before after job held now same last seq of is =
     by (Some j) aside = ap (λ (n : ℕ). nat_eq (read_seq j) n) seq ∙ aside
 
 -- nothing is reported
-pub none_reported : (o : Option Report) (b : Bool) → b ≡ not (is_some o) → b ≡ true → option_to_list o ≡ []
+pub none_reported : (o : Option Report) (b : Bool) → is_some o ≡ not b → b ≡ true → option_to_list o ≡ []
 none_reported None b is none = refl
-none_reported (Some x) b is none = absurd cc
+none_reported (Some x) b is none = absurd (true≢false (is ∙ ap (λ (x : Bool). not x) none))
 
 -- something is
-pub one_reported : (o : Option Report) (b : Bool) → b ≡ not (is_some o) → b ≡ false → (x : Report) × (option_to_list o ≡ x ∷ [])
-one_reported None b is some = absurd cc
+pub one_reported : (o : Option Report) (b : Bool) → is_some o ≡ not b → b ≡ false → (x : Report) × (option_to_list o ≡ x ∷ [])
+one_reported None b is some = absurd (true≢false (sym (is ∙ ap (λ (x : Bool). not x) some)))
 one_reported (Some x) b is some = (x, refl)
 
 -- a synchronisation is of the brick still, where the operations are as they were
@@ -341,3 +342,17 @@ job_made layout before after (Some held) same later is =
       made = omega (arith, made, later);
       apart = ap (λ (operations : BTreeMap ℕ Operation). get nat_cmp operations (read_seq held)) same ∙ is.apart;
     }
+
+-- the view of a call is that of the scrub which has it
+pub seen_scrub : (scrub : Option OpenScrub) (f : ℕ → Option Coordinator) (seq : ℕ) → ScrubsAt scrub seq
+    → option_map (λ (held : OpenScrub). view_in (scrub_coordinator_of held)) scrub ≡ option_map view_in (calls_with_scrub (scrubbing_in scrub) f seq)
+seen_scrub None f seq scrubs = absurd scrubs
+seen_scrub (Some s) f seq scrubs =
+    sym (ap (λ (b : Bool). option_map view_in (cond b (Some (scrub_coordinator_of s)) (f seq))) (eq_turned seq (scrub_seq s) ∙ scrubs))
+
+-- or of the read
+pub seen_read : (job : Option OpenJob) (f : ℕ → Option Coordinator) (seq : ℕ) → ReadsAt job seq
+    → option_map (λ (held : OpenJob). view_in (coordinator_of held.read)) job ≡ option_map view_in (calls_with (reading_in job) f seq)
+seen_read None f seq reads = absurd reads
+seen_read (Some held) f seq reads =
+    sym (ap (λ (b : Bool). option_map view_in (cond b (Some (coordinator_of held.read)) (f seq))) (eq_turned seq (read_seq held) ∙ reads))

@@ -106,7 +106,6 @@ module _ (layout : Layout) (was now : looks.Scrubbing) (from : BrickId) (told : 
         goes_on = tt;
       }
 
-
   -- it waits
   pub look_waits : Hears was from told next.Wait now → StepsScrub layout (looking was) from told fresh known nothing_outs (looking now) known
   look_waits hears =

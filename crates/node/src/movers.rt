@@ -42,11 +42,7 @@ fn lowest_mover(counted: &[Counted], last: Mover) -> Mover
 
 /// By which cause an operation is aborted on a member's reply that counts and tells this later view: by the mover of the lowest seat. None where it waits for more
 /// replies.
-pub(crate) fn moved_cause(
-    op: &Operation,
-    from: BrickId,
-    view: ViewNo,
-) -> Option<Cause>
+pub(crate) fn moved_cause(op: &Operation, from: BrickId, view: ViewNo) -> Option<Cause>
     ensures { EndsOrWaits op.now.state from view (option_map (λ (cause : cause.Cause). Aborted cause) result) }
 {
     let Some(seat) = op.asked().seat_of(from) else {

@@ -275,10 +275,7 @@ impl<D: Disk> Node<D> {
         let Some(members) = Members::new(members) else {
             unreachable!()
         };
-        match self
-            .tasks
-            .scrub(self.alloc, &self.layout, group, view, stripe, members, now)?
-        {
+        match self.tasks.scrub(self.alloc, &self.layout, group, view, stripe, members, now)? {
             Some(outs) => Ok(outs),
             None => unreachable!(),
         }

@@ -47,21 +47,24 @@ pub(crate) fn has_later_time(known: u64) -> bool
     known < u64::MAX
 }
 
+/// Whether a brick is one of these members.
+fn is_member(members: &[BrickId], brick: BrickId) -> bool
+    ensures { result ≡ is_some (seat_in members.now brick.0) }
+{
+    members.iter().any(|member| member.0 == brick.0)
+}
+
 /// Whether each of these bricks is one of the members.
 fn are_members(members: &[BrickId], bricks: &[BrickId]) -> bool
     ensures { result ≡ list_all (λ brick. is_some (seat_in members.now brick.0)) bricks.now }
 {
-    bricks
-        .iter()
-        .all(|brick| members.iter().any(|member| member.0 == brick.0))
+    bricks.iter().all(|brick| is_member(members, *brick))
 }
 
-/// Whether a list names distinct members of a group of `m` data blocks, and at least a quorum of it: then it is no longer than the group.
-#[tactic(auto, using(crate::proofs::NamedQuorums::named_few))]
+/// Whether a list names distinct members of a group of `m` data blocks, and at least a quorum of it.
 pub(crate) fn names_quorum(m: u8, members: &Members, named: &[BrickId]) -> bool
     requires { IsWithinLimits m (length members.now) }
     ensures value { (stripes : ℕ) → result ≡ names_quorum (record { members = members.now; m = m; stripes = stripes }) named.now }
-    ensures few { result ≡ true → length named.now ≤ 32 }
     ensures enough { (stripes : ℕ) → result ≡ true → AreEnough (record { members = members.now; m = m; stripes = stripes }) (Some named.now) }
 {
     let members = members.as_slice();

@@ -131,13 +131,7 @@ impl OpenScrub {
     }
 
     /// What is sent, told and reported as it ends so in the phase of this call, with a version that it saw its members keep, if it did.
-    fn end(
-        &self,
-        call: Call,
-        messages: Messages,
-        seen: Option<Stamp>,
-        answer: ScrubAnswer,
-    ) -> Outs
+    fn end(&self, call: Call, messages: Messages, seen: Option<Stamp>, answer: ScrubAnswer) -> Outs
         ensures { result ≡ end_outs self.now call messages.items seen answer }
     {
         let seq = call.seq;
@@ -265,7 +259,12 @@ impl OpenScrub {
         ensures { MovesScrub self.now from view result }
     {
         let cause = moved_cause(self.shown(), from, view)?;
-        Some(self.end(self.call(), Vec::new(alloc), None, ScrubAnswer::Aborted { cause }))
+        Some(self.end(
+            self.call(),
+            Vec::new(alloc),
+            None,
+            ScrubAnswer::Aborted { cause },
+        ))
     }
 
     /// Counts a reply on which it waits for more.
@@ -290,7 +289,9 @@ impl OpenScrub {
 
     /// Takes the last reply that counted back.
     pub(crate) fn take_back(&mut self)
-        ensures { scrub_shown self.new ≡ without_reply (scrub_shown self.old) }
+        ensures shown { scrub_shown self.new ≡ without_reply (scrub_shown self.old) }
+        ensures lagging { self.new.scrub.lagging ≡ self.old.scrub.lagging }
+        ensures of { (layout : layouts.Layout) → IsScrubOf layout self.old → IsScrubOf layout self.new }
     {
         match &mut self.recovery {
             Some(recovery) => recovery.take_back(),

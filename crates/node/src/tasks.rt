@@ -56,11 +56,14 @@ impl Tasks {
     ghost use Rattle.coord_phase.specs.Operations.{PriorIsWithinLimits, group_in_view};
     ghost use Rattle.protocol.specs.Coordinators.{AreEnough};
     ghost use Rattle.coord_phase.specs.Messages.{packets_from};
+    ghost use Rattle.node.specs.declared.jobs.OpenJob.{OpenJob};
+    ghost use Rattle.node.specs.declared.scrubs.OpenScrub.{OpenScrub};
     ghost use Rattle.node.specs.declared.tasks.Tasks.{Tasks};
+    ghost use Rattle.node.specs.Operations.{coordinator_of};
     ghost use Rattle.node.specs.States.{KeptParts, fresh_node, state_in, BeginsAs, StepsAs};
     ghost use Rattle.node.specs.Moves.{IsMoved};
     ghost use Rattle.node.specs.Jobs.{FollowsFrom, IsKeptBy, followed_step, reading_in, then_told, sent_in, with_reading};
-    ghost use Rattle.node.specs.Scrubs.{IsScrubAside, ScrubsAt, scrubbed_by};
+    ghost use Rattle.node.specs.Scrubs.{IsScrubAside, ScrubsAt, scrub_coordinator_of, scrubbed_by};
     ghost use Rattle.node.specs.Tasks.{tasks_in, counts_at, step_on, AreTasksOf, AreSameTasks, IsAside, IsTaskTurn, MayFinish, ReadsAt};
 
     /// Nothing is under way, and nothing was since this opening of the store.
@@ -181,21 +184,35 @@ impl Tasks {
         self.work.calls.is_open(seq)
     }
 
+    /// The view of the read of the synchronisation, if there is one.
+    fn read_view(&self) -> Option<View>
+        ensures { result ≡ option_map (λ (held : OpenJob). view_in (coordinator_of held.read)) self.now.job }
+    {
+        match &self.job {
+            Some(open) => Some(open.view()),
+            None => None,
+        }
+    }
+
+    /// The view of the scrub, if there is one.
+    fn scrub_view(&self) -> Option<View>
+        ensures { result ≡ option_map (λ (held : OpenScrub). view_in (scrub_coordinator_of held)) self.now.scrub }
+    {
+        match &self.scrub {
+            Some(open) => Some(open.view()),
+            None => None,
+        }
+    }
+
     /// The view of the open operation of a call, of the read of the synchronisation, or of the scrub. None where there is none.
     pub(crate) fn view_of(&self, seq: u64) -> Option<View>
         ensures { (kept : KeptParts) → result ≡ option_map view_in ((tasks_in kept self.now).calls seq) }
     {
         if self.is_scrub(seq) {
-            return match &self.scrub {
-                Some(open) => Some(open.view()),
-                None => unreachable!(),
-            };
+            return self.scrub_view();
         }
         if self.reads(seq) {
-            return match &self.job {
-                Some(open) => Some(open.view()),
-                None => unreachable!(),
-            };
+            return self.read_view();
         }
         self.work.calls.view_of(seq)
     }

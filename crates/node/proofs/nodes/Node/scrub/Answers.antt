@@ -1,7 +1,9 @@
 -- The brick begins the scrub that is under way then.
-use Rattle.std.proofs.Common.{◌≡◌, ◌≤◌, true, false, not, length, List, Option, Some, None, refl, sym, ◌∙◌, ap, subst, rules}
+use Rattle.std.proofs.Common.{◌≡◌, Bool, not, length, List, Option, Some, None, is_some, sym, ◌∙◌, ap, subst, rules}
 use Rattle.std.specs.Option.{IfSome, option_copied, option_map}
+use Rattle.std.proofs.lemmas.Bool.{true≢false}
 use Rattle.fab_base.specs.declared.answers.Refusal.{Refusal}
+use Rattle.fab_base.specs.declared.identities.BrickId.{BrickId}
 use Rattle.fab_base.specs.Layouts.{Group, group_of}
 use Rattle.quorum.specs.Quorums.{IsWithinLimits}
 use Rattle.protocol.specs.Coordinators.{AreEnough}
@@ -11,7 +13,7 @@ use Rattle.stripe_code.specs.Codes.{coding}
 use Rattle.coord_phase.specs.Operations.{PriorIsWithinLimits, group_in_view}
 use Rattle.node.specs.Outcomes.{Outcome}
 use Rattle.node.specs.Scrubs.{scrubbed_by}
-use Rattle.node.specs.States.{StepsAs, parts_in}
+use Rattle.node.specs.States.{StepsAs, parts_in, state_with}
 use Rattle.node.specs.Running.{Running, running, state_of}
 use Rattle.node.specs.Tasks.{tasks_in}
 use Rattle.node.proofs.ScrubBegins.{refusal_so, scrubbed_so}
@@ -27,33 +29,22 @@ returns-in_default-clause-refused g c =
     subst (λ (n : Running g.row.D.Denot). scrub_refusal n.layout (state_of n) c.args.group c.args.stripe c.args.members.now ≡ Some Refusal.NoStripe) c.self.view_is
     (ap (λ (o : Option Group). scrub_refusal_in node c.args.stripe c.args.members.now (option_map (kept_by (node.learnt c.args.group.0).view.members) o)) found)
 
-pub returns-in-Some-refusal-clause-refused : goal.returns-in-Some-refusal-clause-refused
-returns-in-Some-refusal-clause-refused g c =
+pub returns-in-Some-scrub_refusal-clause-refused : goal.returns-in-Some-scrub_refusal-clause-refused
+returns-in-Some-scrub_refusal-clause-refused g c =
     let x = c.self.inside in
     let found = sym c.in-Some.ensures.found in
-    subst (λ (n : Running g.row.D.Denot). scrub_refusal n.layout (state_of n) c.args.group c.args.stripe c.args.members.now ≡ Some c.in-Some-refusal.refusal) c.self.view_is
+    subst (λ (n : Running g.row.D.Denot). scrub_refusal n.layout (state_of n) c.args.group c.args.stripe c.args.members.now ≡ Some c.in-Some-scrub_refusal.refusal) c.self.view_is
     (refusal_so x.layout x.tasks x.store c.args.group c.args.stripe c.args.members.now c.in-Some.kept.now c.learnt_view-view.result c.self.invariant.boot found
     (c.learnt_view-view.ensures.view x.layout found)
-    ∙ sym (c.scrub_refusal.ensures.value (parts_in x.layout x.store.state)) ∙ c.in-Some-refusal.is)
+    ∙ sym (c.scrub_refusal.ensures.value (parts_in x.layout x.store.state)) ∙ c.in-Some-scrub_refusal.is)
 
-pub returns-in_err-scrub-clause-refused : goal.returns-in_err-scrub-clause-refused
-returns-in_err-scrub-clause-refused g c =
-    let x = c.self.inside in
-    let found = sym c.in-Some.ensures.found in
-    let none = subst (λ (n : Running g.row.D.Denot). scrub_refusal n.layout (state_of n) c.args.group c.args.stripe c.args.members.now ≡ None) c.self.view_is
-    (refusal_so x.layout x.tasks x.store c.args.group c.args.stripe c.args.members.now c.in-Some.kept.now c.learnt_view-view.result c.self.invariant.boot found
-    (c.learnt_view-view.ensures.view x.layout found)
-    ∙ sym (c.scrub_refusal.ensures.value (parts_in x.layout x.store.state)) ∙ c.in_default-refusal.is) in
-    search (rules, none)
+-- ---- it is not refused
 
-pub returns-in-Some-outs-clause-refused : goal.returns-in-Some-outs-clause-refused
-returns-in-Some-outs-clause-refused g c =
-    let x = c.self.inside in
-    let found = sym c.in-Some.ensures.found in
-    subst (λ (n : Running g.row.D.Denot). scrub_refusal n.layout (state_of n) c.args.group c.args.stripe c.args.members.now ≡ None) c.self.view_is
-    (refusal_so x.layout x.tasks x.store c.args.group c.args.stripe c.args.members.now c.in-Some.kept.now c.learnt_view-view.result c.self.invariant.boot found
-    (c.learnt_view-view.ensures.view x.layout found)
-    ∙ sym (c.scrub_refusal.ensures.value (parts_in x.layout x.store.state)) ∙ c.in_default-refusal.is)
+-- the members are few enough
+pub unreachable-requires : goal.unreachable-requires
+unreachable-requires g c =
+    let few = c.scrub_refusal.ensures.few c.in_default-scrub_refusal.is in
+    true≢false (sym (c.new.ensures.room.1 few) ∙ ap (λ (o : Option (List BrickId)). is_some o) c.in_default-new.is)
 
 pub scrub-requires-clause-limits : goal.scrub-requires-clause-limits
 scrub-requires-clause-limits g c =
@@ -71,22 +62,63 @@ scrub-requires-clause-prior g c =
     subst (λ (k : Group). PriorIsWithinLimits k.m view.number view.prior) (sym (group_in_view_is x.layout view.members c.args.group.0 c.in-Some.kept.now found))
     (c.learnt_view-view.ensures.prior x.layout found c.self.invariant.lists)
 
-pub returns-in-Some-outs-clause-step : goal.returns-in-Some-outs-clause-step
-returns-in-Some-outs-clause-step g c =
+pub scrub-requires-clause-enough : goal.scrub-requires-clause-enough
+scrub-requires-clause-enough g c =
+    let x = c.self.inside in
+    let view = c.learnt_view-view.result in
+    let found = sym c.in-Some.ensures.found in
+    subst (λ (k : Group). AreEnough k (Some c.in-Some-new.members)) (sym (group_in_view_is x.layout view.members c.args.group.0 c.in-Some.kept.now found))
+    (subst (λ (members : List BrickId). AreEnough (kept_by view.members c.in-Some.kept.now) (Some members)) (sym c.in-Some-new.ensures.bricks)
+    (c.scrub_refusal.ensures.enough c.in_default-scrub_refusal.is))
+
+pub returns-in_err-outs-clause-refused : goal.returns-in_err-outs-clause-refused
+returns-in_err-outs-clause-refused g c =
+    let x = c.self.inside in
+    let found = sym c.in-Some.ensures.found in
+    let none = subst (λ (n : Running g.row.D.Denot). scrub_refusal n.layout (state_of n) c.args.group c.args.stripe c.args.members.now ≡ None) c.self.view_is
+    (refusal_so x.layout x.tasks x.store c.args.group c.args.stripe c.args.members.now c.in-Some.kept.now c.learnt_view-view.result c.self.invariant.boot found
+    (c.learnt_view-view.ensures.view x.layout found)
+    ∙ sym (c.scrub_refusal.ensures.value (parts_in x.layout x.store.state)) ∙ c.in_default-scrub_refusal.is) in
+    search (rules, none)
+
+-- a time and a call number are left
+pub unreachable-requires-in-None : goal.unreachable-requires-in-None
+unreachable-requires-in-None g c =
+    let x = c.self.inside in
+    let kept = parts_in x.layout x.store.state in
+    let left = c.scrub_refusal.ensures.left kept c.in_default-scrub_refusal.is in
+    true≢false
+    (sym (ap (λ (b : Bool). not b) left) ∙ sym (c.in_ok-outs.ensures.spent kept) ∙ ap (λ (o : Option Outcome). is_some o) c.in-None.is)
+
+pub returns-clause-refused : goal.returns-clause-refused
+returns-clause-refused g c =
+    let x = c.self.inside in
+    let found = sym c.in-Some.ensures.found in
+    subst (λ (n : Running g.row.D.Denot). scrub_refusal n.layout (state_of n) c.args.group c.args.stripe c.args.members.now ≡ None) c.self.view_is
+    (refusal_so x.layout x.tasks x.store c.args.group c.args.stripe c.args.members.now c.in-Some.kept.now c.learnt_view-view.result c.self.invariant.boot found
+    (c.learnt_view-view.ensures.view x.layout found)
+    ∙ sym (c.scrub_refusal.ensures.value (parts_in x.layout x.store.state)) ∙ c.in_default-scrub_refusal.is)
+
+pub returns-clause-step : goal.returns-clause-step
+unfolding state_with
+returns-clause-step g c =
     let x = c.self.inside in
     let me = x.tasks.work.calls.me in
     let now = c.args.now in
     let view = c.learnt_view-view.result in
     let found = sym c.in-Some.ensures.found in
-    let node = tasks_in (parts_in x.layout x.store.state) x.tasks in
+    let kept = parts_in x.layout x.store.state in
+    let node = tasks_in kept x.tasks in
+    let after = c.scrub.new.self in
+    let outs = c.in-Some-2.outs in
+    let begins = λ (members : List BrickId). scrubbed_by (coding x.layout) (group_in_view x.layout view.members c.args.group.0) view now c.args.group c.args.stripe members me node in
+    let steps = subst (λ (o : Option Outcome). IfSome o (StepsAs me (tasks_in kept after) (begins c.in-Some-new.members))) c.in-Some-2.is (c.in_ok-outs.ensures.step kept) in
     subst
-    (λ (n : Running g.row.D.Denot). StepsAs n.me (state_of (running x.layout c.scrub.new.self x.store))
-    (scrubbed_at (coding n.layout) n.me now (state_of n) c.args.group c.args.stripe c.args.members.now) c.in-Some-outs.outs)
+    (λ (n : Running g.row.D.Denot). StepsAs n.me (state_of (running x.layout after x.store))
+    (scrubbed_at (coding n.layout) n.me now (state_of n) c.args.group c.args.stripe c.args.members.now) outs)
     c.self.view_is
-    (steps_so x.layout x.tasks c.scrub.new.self x.store c.self.invariant.boot
-    (λ (n : Node). scrubbed_at (coding x.layout) me now n c.args.group c.args.stripe c.args.members.now) c.in-Some-outs.outs c.scrub.ensures.same.boot
-    (subst (λ (step : NodeStep). StepsAs me (tasks_in (parts_in x.layout x.store.state) c.scrub.new.self) step c.in-Some-outs.outs)
+    (steps_so x.layout x.tasks after x.store c.self.invariant.boot
+    (λ (n : Node). scrubbed_at (coding x.layout) me now n c.args.group c.args.stripe c.args.members.now) outs c.in_ok-outs.ensures.same.boot
+    (subst (λ (step : NodeStep). StepsAs me (tasks_in kept after) step outs)
     (sym (scrubbed_so x.layout me now node c.args.group c.args.stripe c.args.members.now c.in-Some.kept.now view (c.learnt_view-view.ensures.view x.layout found) found))
-    (subst (λ (o : Option Outcome). IfSome o (StepsAs me (tasks_in (parts_in x.layout x.store.state) c.scrub.new.self)
-    (scrubbed_by (coding x.layout) (group_in_view x.layout view.members c.args.group.0) view now c.args.group c.args.stripe c.args.members.now me node)))
-    c.in-Some-outs.is (c.in_ok-scrub.ensures.step (parts_in x.layout x.store.state)))))
+    (subst (λ (members : List BrickId). StepsAs me (tasks_in kept after) (begins members) outs) c.in-Some-new.ensures.bricks steps)))

@@ -168,6 +168,6 @@ returns-clause-turn c =
           me c.args.now (same_call d) refl refl waits now seen
           ∙ ap no_step (sym (swapped (scrubbing_in before.scrub) (reading_of now) (state_in kept before.work)
           (subst (ScrubApart (scrubbing_in before.scrub)) (sym (ap (λ (k : machine.Coordinator). k.call.seq) seen.now_is
-          ∙ ap (λ (k : Call). k.seq) (call_heard (shown_of held.read) from _))) (scrub_apart d)))))
+          ∙ ap (λ (k : Call). k.seq) (call_heard (shown_of held.read) from (message.Reply call (Moved c.args.view (Some c.requires.moved.0)))))) (scrub_apart d)))))
           has,
     )

@@ -1,8 +1,9 @@
 -- The scrub begins, beside the synchronisation.
 use Rattle.std.proofs.Common.{◌≡◌, ◌≤◌, ◌+◌, ◌-◌, ◌^◌, ◌||◌, ℕ, Bool, true, false, not, nat_eq, if◌then◌else◌, List, [], ◌∷◌, Option, Some, None, refl, sym, ◌∙◌, ap, subst, arith}
-use Rattle.std.proofs.lemmas.Option.{same_Some}
+use Rattle.std.proofs.lemmas.Option.{none-some, same_Some}
 use Rattle.fab_base.specs.declared.identities.BrickId.{BrickId}
 use Rattle.fab_base.specs.declared.identities.CallId.{CallId}
+use Rattle.fab_base.specs.declared.identities.ViewNo.{ViewNo}
 use Rattle.fab_base.specs.declared.stamps.Stamp.{Stamp}
 use Rattle.messages.specs.declared.calls.Call.{Call}
 use Rattle.stripe_code.specs.Codes.{coding}
@@ -21,7 +22,7 @@ use Rattle.node.specs.declared.outs.Tellings.{Tellings}
 use Rattle.node.specs.declared.scrubs.OpenScrub.{OpenScrub}
 use Rattle.node.specs.declared.tasks.Tasks.{Tasks}
 use Rattle.node.specs.Jobs.{reading_in, with_reading}
-use Rattle.node.specs.Outcomes.{told_list}
+use Rattle.node.specs.Outcomes.{Outcome, told_list}
 use Rattle.node.specs.Scrubs.{GoesOnFrom, IsScrubOf, phase_of, scrub_coordinator_of, scrub_seq, scrubbed_by, scrubbing_in, with_scrubbing}
 use Rattle.node.specs.States.{KeptParts, StepsAs, parts_with, state_in, state_with}
 use Rattle.node.specs.Tasks.{tasks_in}
@@ -35,12 +36,12 @@ use Rattle.node.proofs.tasks.Tasks.scrub.Goals.{In_ok-open}
 -- no call is left where none is made
 spent_by : {X : Type 0} (b : Bool) (x : X) → (if b then None else Some x) ≡ None → b ≡ true
 spent_by true x is = refl
-spent_by false x is = absurd cc
+spent_by false x is = absurd (none-some x (sym is))
 
 -- and else this one is
 made_by : {X : Type 0} (b : Bool) (x y : X) → (if b then None else Some x) ≡ Some y → (b ≡ false) × (x ≡ y)
-made_by true x y is = absurd cc
-made_by false x y is = (refl, same_Some is)
+made_by true x y is = absurd (none-some y is)
+made_by false x y is = (refl, same_Some x y is)
 
 -- whether no call is left for a source
 abbrev none_left : CallSource → Bool
@@ -50,22 +51,25 @@ none_left at = not (has_later_time at.stamps.known) || nat_eq at.seq (2 ^ 64 - 1
 abbrev next_of : CallSource → CallId
 next_of at = record { boot = at.stamps.boot; seq = at.seq + 1 }
 
+-- with its stamp of a view
+abbrev made_from : CallSource → ViewNo → CallId × Stamp
+made_from at view = (next_of at, new_stamp at.me view at.now at.stamps.boot at.stamps.known)
+
 pub returns-in_default-clause-spent : goal.returns-in_default-clause-spent
 unfolding state_with
 returns-in_default-clause-spent c = λ kept.
-    let tasks = c.args.self.now in
     let at : CallSource = c.source-at.result in
-    let spent = spent_by (none_left at) (next_of at, new_stamp at.me c.args.view.number at.now at.stamps.boot at.stamps.known) (sym c.next.ensures ∙ c.in_default.is) in
+    let spent = spent_by (none_left at) (made_from at c.args.view.number) (sym c.next.ensures ∙ c.in_default.is) in
     sym (ap (λ (b : Bool). not b) (ap none_left (sym c.source-at.ensures) ∙ spent))
 
--- what the source gives
-given : (c : In_ok-open) → (none_left c.source-at.result ≡ false)
-    × ((next_of c.source-at.result, new_stamp c.source-at.result.me c.args.view.number c.source-at.result.now c.source-at.result.stamps.boot c.source-at.result.stamps.known)
-    ≡ (c.in-Some.call, c.in-Some.stamp))
+-- what the brick takes from it
+abbrev taken : In_ok-open → CallId × Stamp
+taken c = (c.in-Some.call, c.in-Some.stamp)
+
+given : (c : In_ok-open) → (none_left c.source-at.result ≡ false) × (made_from c.source-at.result c.args.view.number ≡ taken c)
 given c =
     let at : CallSource = c.source-at.result in
-    made_by (none_left at) (next_of at, new_stamp at.me c.args.view.number at.now at.stamps.boot at.stamps.known) (c.in-Some.call, c.in-Some.stamp)
-    (sym c.next.ensures ∙ c.in-Some.is)
+    made_by (none_left at) (made_from at c.args.view.number) (taken c) (sym c.next.ensures ∙ c.in-Some.is)
 
 pub returns-clause-spent : goal.returns-clause-spent
 unfolding state_with
@@ -105,24 +109,25 @@ returns-clause-step c = λ kept.
     let me = tasks.work.calls.me in
     let r = reading_in tasks.job in
     let k = begun_at d in
-    let open : OpenScrub = c.in_ok-open.open in
+    let begun : OpenScrub = c.in_ok-open.open in
     let node = state_in kept tasks.work in
     let stamp = ap (λ (op : phased.Operation). op.state.stamp.time) (sym c.in_ok-open.ensures.begins.look) ∙ ap (λ (x : Coordinator). x.stamp.time) (look_is d) in
     let call = c.call-call.ensures ∙ ap (λ (x : Coordinator). x.call) (held_is d) in
     let work = c.made_read.ensures.state (parts_with kept tasks.work.proposals) in
     let idle = ap (λ (s : Option OpenScrub). with_scrubbing (scrubbing_in s) (with_reading r node)) c.requires.idle in
-    subst (λ (n : Node). StepsAs me (tasks_in kept (record { work = record { calls = c.made_read.new.self; proposals = tasks.work.proposals }; job = tasks.job; scrub = Some open }))
-    (scrubbed_by (coding layout) (group_in_view layout c.args.view.members c.args.group.0) c.args.view c.args.now c.args.group c.args.stripe c.args.members me n) _)
+    let outs : Outcome = record { messages = c.in_ok-open.messages.items; told = told_list c.of_begun.result; answers = []; reports = [] } in
+    subst (λ (n : Node). StepsAs me (tasks_in kept (record { work = record { calls = c.made_read.new.self; proposals = tasks.work.proposals }; job = tasks.job; scrub = Some begun }))
+    (scrubbed_by (coding layout) (group_in_view layout c.args.view.members c.args.group.0) c.args.view c.args.now c.args.group c.args.stripe c.args.members me n) outs)
     (sym idle)
     (record {
       packets = ap (packets_from me) c.in_ok-open.ensures.begins.sends
-          ∙ phase_sent layout open.scrub.look me (ap (λ (op : phased.Operation). op.block) c.in_ok-open.ensures.begins.look)
+          ∙ phase_sent layout begun.scrub.look me (ap (λ (op : phased.Operation). op.block) c.in_ok-open.ensures.begins.look)
           (ap (λ (op : phased.Operation). op.state.counted) c.in_ok-open.ensures.begins.look)
           ∙ ap (phase_packets (coding layout) me) (look_is d);
       told = ap told_list c.of_begun.ensures ∙ ap (λ (x : Call). Began x ∷ []) call;
       answers = refl;
       reports = refl;
-      state_is = (λ i. with_scrubbing (scrubbing_in (Some open)) (with_reading r (work i)))
+      state_is = (λ i. with_scrubbing (scrubbing_in (Some begun)) (with_reading r (work i)))
           ∙ (λ i. record node {
             seq = (call i).seq;
             known = stamp i;
@@ -138,11 +143,11 @@ returns-clause-same c =
     let d = (goal.at.returns-clause-same c).In_ok-open in
     let layout = c.args.layout.now in
     let tasks = c.args.self.now in
-    let open : OpenScrub = c.in_ok-open.open in
+    let begun : OpenScrub = c.in_ok-open.open in
     let begins = c.in_ok-open.ensures.begins in
     let same = c.made_read.ensures.same layout in
-    let next : scrub_seq open ≡ tasks.work.calls.seq + 1 = ap (λ (x : Coordinator). x.call.seq) (held_is d) in
-    let last : c.made_read.new.self.seq ≡ scrub_seq open =
+    let next : scrub_seq begun ≡ tasks.work.calls.seq + 1 = ap (λ (x : Coordinator). x.call.seq) (held_is d) in
+    let last : c.made_read.new.self.seq ≡ scrub_seq begun =
     ap (λ (n : Node). n.seq) (c.made_read.ensures.state (parts_with no_parts tasks.work.proposals)) ∙ ap (λ (x : Call). x.seq) c.call-call.ensures in
     record {
       me = same.me;
@@ -150,10 +155,10 @@ returns-clause-same c =
       of = λ of. record {
         work_is = record { calls = same.of of.work_is.calls; proposing = of.work_is.proposing };
         job_is = job_made layout tasks.work.calls c.made_read.new.self tasks.job c.made_read.ensures.operations (omega (arith, last, next)) of.job_is;
-        scrub_is = scrub_is_at layout tasks.work.calls c.made_read.new.self tasks.job open c.made_read.ensures.operations last
+        scrub_is = scrub_is_at layout tasks.work.calls c.made_read.new.self tasks.job begun c.made_read.ensures.operations last
             (record {
               block = ap (λ (op : phased.Operation). op.block) begins.look;
-              goes_on = subst (λ (o : Option Operation). GoesOnFrom open.scrub.look o) (sym begins.no_recovery) tt;
+              goes_on = subst (λ (o : Option Operation). GoesOnFrom begun.scrub.look o) (sym begins.no_recovery) tt;
             }) next (λ j there. made_before layout tasks.work.calls tasks.job j there of.job_is);
       };
     }

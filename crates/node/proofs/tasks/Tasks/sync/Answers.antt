@@ -47,8 +47,12 @@ pub returns-clause-same : goal.returns-clause-same
 returns-clause-same c =
     let same = c.take_up.ensures.same c.args.layout.now
     (subst (λ (at : CallSource). FollowsFrom c.args.layout.now at.seq c.args.group c.in_ok-next.next) c.source-at.ensures c.in_ok-next.ensures.from) in
-    record { me = same.me; boot = same.boot; of = λ of. same.of (record {
-      work_is = of.work_is;
-      job_is = tt;
-      scrub_is = alone c.args.layout.now c.args.self.now.work.calls c.args.self.now.job c.args.self.now.scrub of.scrub_is;
-    }) }
+    record {
+      me = same.me;
+      boot = same.boot;
+      of = λ of. same.of (record {
+        work_is = of.work_is;
+        job_is = tt;
+        scrub_is = alone c.args.layout.now c.args.self.now.work.calls c.args.self.now.job c.args.self.now.scrub of.scrub_is;
+      });
+    }

@@ -2,13 +2,16 @@
 use Rattle.std.proofs.Common.{◌≡◌, ℕ, Option, Some, None, refl, sym, ◌∙◌, ap, subst}
 use Rattle.messages.specs.declared.packets.Message.TheVariants as message
 use Rattle.node.specs.declared.jobs.OpenJob.{OpenJob}
+use Rattle.coord_phase.specs.Operations as phased
+use Rattle.node.specs.declared.scrubs.OpenScrub.{OpenScrub}
 use Rattle.node.specs.declared.tasks.TaskTurn.{TaskTurn}
 use Rattle.node.specs.Jobs.{reading_in, with_reading}
 use Rattle.protocol.specs.Nodes.{Node}
 use Rattle.node.specs.Scrubs.{scrub_seq, scrubbing_in, with_scrubbing}
 use Rattle.node.specs.States.{state_in}
 use Rattle.node.specs.Tasks.{IsJobIn, IsScrubIn, IsTaskTurn, read_seq}
-use Rattle.node.proofs.Turning.{read_back, taken_apart, taken_is, turn_same}
+use Rattle.node.proofs.ScrubCalls.{scrub_goes_on}
+use Rattle.node.proofs.Turning.{read_back, scrub_back, taken_apart, taken_is, turn_same}
 use Rattle.node.proofs.Underway.{no_parts, same_free}
 use Rattle.node.proofs.tasks.Tasks.take_back.Goals as goal
 
@@ -51,5 +54,30 @@ returns-in-Some-clause-same c = λ layout now from call reply before seq is firs
                 (subst (λ (j : Option OpenJob). IsJobIn layout mid.work.calls j) c.in-Some.is mid_is.job_is);
             scrub_is = taken_apart layout mid.work.calls c.in-Some.open c.take_back-in-Some.new.self mid.scrub back.read
                 (subst (λ (j : Option OpenJob). IsScrubIn layout mid.work.calls j mid.scrub) c.in-Some.is mid_is.scrub_is);
+          };
+    }
+
+pub returns-in-Some-scrub-clause-state : goal.returns-in-Some-scrub-clause-state
+returns-in-Some-scrub-clause-state c = λ layout now from call reply before seq is kept.
+    let mid = c.args.self.now in
+    let turn_is = subst (λ (turn : TaskTurn). IsTaskTurn layout now from call reply before turn mid) c.in-CountedScrub.is is in
+    let back = c.take_back-in-Some-scrub.ensures in
+    scrub_back from (message.Reply call reply) before mid c.in-Some-scrub.open c.take_back-in-Some-scrub.new.self turn_is.0 c.in-Some-scrub.is back.shown back.lagging kept
+
+pub returns-in-Some-scrub-clause-same : goal.returns-in-Some-scrub-clause-same
+returns-in-Some-scrub-clause-same c = λ layout now from call reply before seq is first.
+    let mid = c.args.self.now in
+    let back = c.take_back-in-Some-scrub.ensures in
+    record {
+      me = first.me;
+      boot = first.boot;
+      of = λ of.
+          let mid_is = first.of of in
+          let at = subst (λ (s : Option OpenScrub). IsScrubIn layout mid.work.calls mid.job s) c.in-Some-scrub.is mid_is.scrub_is in
+          record {
+            work_is = mid_is.work_is;
+            job_is = mid_is.job_is;
+            scrub_is = scrub_goes_on layout mid.work.calls mid.work.calls mid.job c.in-Some-scrub.open c.take_back-in-Some-scrub.new.self refl refl
+                (ap (λ (op : phased.Operation). op.state.call.seq) back.shown) (back.of layout at.scrub_is) at;
           };
     }
