@@ -1,6 +1,7 @@
 //! Changes, and an opening, whose disk stops or fails at each of its calls.
 
-use crate::bricks::{Brick, Change, Picture, ROOMY, disk_after, empty_disk, told_by};
+use crate::bricks::{Brick, Change, Origin, Picture, ROOMY, disk_after, empty_disk, told_by};
+use crate::olds::PREPARED_OLD;
 use anyhow::Result;
 use brick_store::OpenFault;
 use fab_disk::{Armed, MemDisk, Plan};
@@ -72,8 +73,8 @@ impl End {
 }
 
 /// The bytes of the disk of a store that was made, and of which these changes were asked.
-fn image_after(alloc: Global, changes: &[Change]) -> Result<Vec<u8>> {
-    let disk = disk_after(alloc, empty_disk(alloc), changes)?;
+fn image_after(alloc: Global, origin: Origin, changes: &[Change]) -> Result<Vec<u8>> {
+    let disk = disk_after(alloc, empty_disk(alloc), origin, changes)?;
     Ok(disk.content(alloc)?)
 }
 
@@ -106,10 +107,10 @@ fn with_orders(alloc: Global, count: u64) -> Result<Vec<Change>> {
 }
 
 /// The bytes of a prepared store that has no room for a further order once it is opened again.
-fn full_image(alloc: Global) -> Result<Vec<u8>> {
-    let disk = disk_after(alloc, empty_disk(alloc), &PREPARED)?;
+fn full_image(alloc: Global, origin: Origin) -> Result<Vec<u8>> {
+    let disk = disk_after(alloc, empty_disk(alloc), origin, &PREPARED)?;
     let count = orders_left(alloc, disk)?;
-    image_after(alloc, &with_orders(alloc, count)?)
+    image_after(alloc, origin, &with_orders(alloc, count)?)
 }
 
 /// The disk after a change of its store under this plan.
@@ -244,11 +245,22 @@ fn print_all(
     Ok(())
 }
 
-/// Prints each trial.
-pub fn run(rt: &(impl Print + AllocGlobal)) -> Result<()> {
+/// Prints each trial of a store that is made in this format.
+pub fn run(rt: &(impl Print + AllocGlobal), origin: Origin) -> Result<()> {
     let alloc = rt.alloc();
-    let plain = image_after(alloc, &PREPARED)?;
-    let learnt = image_after(alloc, &LEARNT)?;
-    let full = full_image(alloc)?;
+    let plain = image_after(alloc, origin, &PREPARED)?;
+    let learnt = image_after(alloc, origin, &LEARNT)?;
+    let full = full_image(alloc, origin)?;
     print_all(rt, &plain, &learnt, &full)
+}
+
+/// Prints an opening that brings a prepared store of the old format over.
+pub fn print_bringing(rt: &(impl Print + AllocGlobal)) -> Result<()> {
+    let trial = Trial {
+        name: "open_store of the old format",
+        deed: Deed::Opening,
+        calls: 13,
+        image: &PREPARED_OLD,
+    };
+    trial.print(rt)
 }

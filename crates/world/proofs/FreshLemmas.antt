@@ -1,14 +1,13 @@
 -- A fresh brick is started over a store that was never opened.
-use Rattle.std.proofs.Common.{◌≡◌, ⊎_elim, ℕ, ◌+◌, ◌≤◌, Bool, true, false, List, [], ◌∷◌, None, Result, Ok, Err, refl, sym, ap, ◌∙◌, subst, arith}
+use Rattle.std.proofs.Common.{◌≡◌, ⊎_elim, ℕ, ◌+◌, ◌≤◌, Bool, true, false, List, [], None, Result, Ok, Err, refl, sym, ap, ◌∙◌, subst, arith}
 use Rattle.std.specs.Prelude.{OnErr, IfOk}
 use Rattle.fab_base.specs.declared.faults.NoMem.{NoMem}
 use Rattle.fab_base.specs.declared.identities.BrickId.{BrickId}
 use Rattle.fab_base.specs.Layouts.{Layout}
 use Rattle.fab_disk.specs.MemDisk.{content_of, IsSound}
 use Rattle.fab_disk.specs.declared.mem_disk.MemDisk.{MemDisk}
-use Rattle.frame_store.specs.declared.frames.Frame.{Frame}
 use Rattle.frame_store.specs.Images.{OpensAs}
-use Rattle.frame_store.specs.Listed.{size_of}
+use Rattle.frame_store.specs.declared.shapes.Form.TheVariants.{New}
 use Rattle.version_log.specs.Versions.{Version}
 use Rattle.brick_state.specs.States.{StateOf}
 use Rattle.brick_store.specs.Images.{IsFound, IsListed}
@@ -42,6 +41,7 @@ never_opened : (layout : Layout) (me : BrickId) (disk : MemDisk) (openings : ℕ
 never_opened layout me disk openings node is kept shows =
     let st : StateOf Version = kept.has.st in
     let found : IsFound (shape_at layout me) st (content_of disk) = record {
+      form = kept.has.stands.form;
       frames = kept.has.stands.frames;
       closed = true;
       opens = kept.has.stands.opens;
@@ -81,24 +81,17 @@ not_cut : (layout : Layout) (me : BrickId) (disk : MemDisk) (power : Power)
     → WasCutShort layout me (unopened layout) (unopened layout) disk None power → ⊥
 not_cut layout me disk power was = let some : 1 ≤ 0 = was.reached.within.some in omega arith
 
--- frames of no bytes are none
-no_frames : (frames : List Frame) → size_of frames ≡ 0 → frames ≡ []
-no_frames [] none = refl
-no_frames (frame ∷ frames) none = absurd (omega (arith, none))
-
 -- an empty list can be appended to
 empty_appendable : (layout : Layout) (me : BrickId) → opens_appendable (shape_at layout me) [] true ≡ true
 unfolding is_whole
 empty_appendable layout me = fits_there (shape_at layout me) 0 boot_size (omega arith)
 
 -- and is as long as one frame, once it was opened
-first_opened : (layout : Layout) (me : BrickId) (node : machine.Node) (was disk : MemDisk) → IsListed (shape_at layout me) 0 (content_of was)
+first_opened : (layout : Layout) (me : BrickId) (node : machine.Node) (was disk : MemDisk) → OpensAs (shape_at layout me) [] true (content_of was)
     → ListsOpening layout me node was disk → IsListed (shape_at layout me) first_listed (content_of disk)
 first_opened layout me node was disk empty lists =
-    let opens : OpensAs (shape_at layout me) [] true (content_of was) =
-    subst (λ (frames : List Frame). OpensAs (shape_at layout me) frames true (content_of was)) (no_frames empty.frames empty.bytes) empty.opens
-    in
-    subst (λ (n : ℕ). IsListed (shape_at layout me) n (content_of disk)) ((lists.longer [] true opens).longer (empty_appendable layout me)) lists.is_listed
+    subst (λ (n : ℕ). IsListed (shape_at layout me) n (content_of disk)) ((lists.longer New [] true empty).longer (empty_appendable layout me))
+    lists.is_listed
 
 -- It runs, and its list is that of a first opening.
 pub record RunsFresh (layout : Layout) (me : BrickId) (power : Power) : Type 0 where
@@ -106,7 +99,7 @@ pub record RunsFresh (layout : Layout) (me : BrickId) (power : Power) : Type 0 w
   pub listed : IsListed (shape_at layout me) first_listed (content_of (disk_in power))
 
 fresh_runs : (layout : Layout) (me : BrickId) (disk : MemDisk) (power : Power) (started : Bool) → ShowsDisk layout me (unopened layout) disk
-    → IsListed (shape_at layout me) 0 (content_of disk) → TurnsOn layout me (unopened layout) (unopened layout) disk None power (Ok started)
+    → OpensAs (shape_at layout me) [] true (content_of disk) → TurnsOn layout me (unopened layout) (unopened layout) disk None power (Ok started)
     → RunsFresh layout me power
 fresh_runs layout me disk power true kept empty was = record {
   shows = fresh_started layout me disk power kept was;
@@ -119,7 +112,7 @@ fresh_runs layout me disk power false kept empty turns = ⊎_elim
 
 -- and is made with its clock at 0 where it started
 pub fresh_made : (layout : Layout) (me : BrickId) (disk : MemDisk) (power : Power) (started : Result Bool NoMem) (made : Result Brick NoMem)
-    → ShowsDisk layout me (unopened layout) disk → IsListed (shape_at layout me) 0 (content_of disk)
+    → ShowsDisk layout me (unopened layout) disk → OpensAs (shape_at layout me) [] true (content_of disk)
     → TurnsOn layout me (unopened layout) (unopened layout) disk None power started
     → IfOk made (λ brick. (brick.power ≡ power) × (brick.clock ≡ 0) × OnErr started ⊥)
     → IfOk made (IsFreshBrick layout me.0)

@@ -11,12 +11,12 @@ use Rattle.fab_base.specs.declared.member_lists.View.{View}
 use Rattle.fab_base.specs.declared.stamps.Stamp.{Stamp}
 use Rattle.fab_disk.specs.MemDisk.{IsSound, content_of}
 use Rattle.fab_disk.specs.declared.mem_disk.MemDisk.{MemDisk}
-use Rattle.brick_store.specs.Calls.{opening_calls}
 use Rattle.brick_store.specs.Images.{IsListed}
-use Rattle.brick_store.specs.Openings.{opens_appendable}
+use Rattle.brick_store.specs.Openings.{calls_on_opening}
 use Rattle.node.specs.Calls.{packet_calls}
 use Rattle.node.specs.Running.{Running, state_of, shape_at}
 use Rattle.fab_base.specs.Layouts.{Layout}
+use Rattle.frame_store.specs.Layouts.{formed}
 use Rattle.protocol.specs.Coordinators.{Coordinator}
 use Rattle.protocol.specs.Nodes as machine
 use Rattle.protocol.specs.declared.tellings.Answered.{Answered}
@@ -260,7 +260,7 @@ pub record WasCutShort (layout : Layout) (me : BrickId) (state after : machine.N
   pub may : machine.may_open (finds.openings + 1) state ≡ true
   pub reached : IsReachedOpening layout me disk (plan_of fault)
   pub off : ShowsPower layout me state after false power
-  pub left : IsLeftOpening layout me state after disk finds (opening_calls (opens_appendable (shape_at layout me) reached.frames reached.closed)) fault
+  pub left : IsLeftOpening layout me state after disk finds (calls_on_opening (formed reached.form (shape_at layout me)) reached.frames reached.closed) fault
       (disk_in power)
 
 -- or memory was refused

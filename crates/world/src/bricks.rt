@@ -1,12 +1,13 @@
 //! The bricks of a world: each is a disk in memory, and the brick that runs over it while it is up.
 
-ghost use Rattle.std.specs.Prelude.{◌≡◌, ◌≢◌, ◌+◌, ◌^◌, ◌<◌, ◌≤◌, true, false, List, Some, Err, IfOk, IfSome, OnErr, vec_len, length, map};
+ghost use Rattle.std.specs.Prelude.{◌≡◌, ◌≢◌, ◌+◌, ◌^◌, ◌<◌, ◌≤◌, true, false, List, [], Some, Err, IfOk, IfSome, OnErr, vec_len, length, map};
 ghost use Rattle.protocol.specs.Nodes as machine;
 ghost use Rattle.protocol.specs.Nodes.{ticked};
 ghost use Rattle.protocol.specs.Worlds.{first_world};
 ghost use Rattle.stripe_code.specs.Codes.{coding};
 ghost use Rattle.coord_phase.specs.Messages.{packets_from};
 ghost use Rattle.fab_disk.specs.MemDisk.{content_of, may_be_left, IsSound};
+ghost use Rattle.frame_store.specs.Images.{OpensAs};
 ghost use Rattle.brick_store.specs.Images.{IsListed};
 ghost use Rattle.node.specs.Running.{shape_at, state_of};
 ghost use Rattle.world.specs.Faults.{LeftBy, plan_of};
@@ -175,7 +176,7 @@ fn open_over(
 /// A disk with a store that was made for a brick, and not opened yet.
 fn fresh_disk(alloc: Global, layout: &Layout, me: BrickId) -> Result<MemDisk, NoMem>
     ensures kept { IfOk result (λ disk. ShowsDisk layout.now me (unopened layout.now) disk × IsSound disk) }
-    ensures listed { IfOk result (λ disk. IsListed (shape_at layout.now me) 0 (content_of disk)) }
+    ensures empty { IfOk result (λ disk. OpensAs (shape_at layout.now me) [] true (content_of disk)) }
 {
     let mut disk = MemDisk::new(alloc, Vec::new(alloc));
     match brick_store::format(alloc, &mut disk, me, layout.block(), layout.records()) {
