@@ -24,7 +24,7 @@ use Rattle.protocol.specs.Nodes as machine
 use Rattle.world.specs.Runs.{brick_of}
 use Rattle.world.specs.Disks.{AreFreshDisks, first_listed}
 use Rattle.world.specs.BrickSteps.{ChangesBrick, RunsOn, DoesHandle, Stops}
-use Rattle.world.specs.Shown.{IsRunning, ShowsPower, ShowsBrick, ShowsBricks, IsFreshBrick, Takes, IsNodeOf, IsUpWith, Runs, IsUp, FindsUp, AreNodesOf, disk_in, disks_of, node_in, running_at, clock_at}
+use Rattle.world.specs.Shown.{IsRunning, ShowsPower, ShowsBrick, ShowsBricks, IsFreshBrick, Takes, IsNodeOf, IsUpWith, Runs, IsUp, FindsUp, AreBricksOf, AreNodesOf, disk_in, disks_of, node_in, running_at, clock_at}
 use Rattle.lines.specs.declared.forms.Fault.{Fault}
 use Rattle.world.proofs.DiskLemmas.{contents_changed, disks_kept}
 use Rattle.world.specs.declared.bricks.Brick.{Brick}
@@ -268,11 +268,12 @@ disks_fresh layout bricks n fresh i disk at =
         (same_Some (disk_in brick.power) disk is) (fresh.each i brick here).listed
 
 -- each brick that is shown is one of the layout
-pub nodes_of : (layout : Layout) (bricks : List Brick) (nodes after : ℕ → machine.Node) (up : ℕ → Bool) (clocks : ℕ → ℕ)
-    → ShowsBricks layout bricks nodes after up clocks
-    → AreNodesOf layout bricks
-nodes_of layout bricks nodes after up clocks shows =
-    λ i brick at. record { state = nodes i; after = after i; up = up i; shows = (shows.each i brick at).power }
+pub bricks_there : {layout : Layout} {bricks : List Brick} {nodes after : ℕ → machine.Node} {up : ℕ → Bool} {clocks : ℕ → ℕ}
+    → ShowsBricks layout bricks nodes after up clocks → AreBricksOf layout bricks
+bricks_there {nodes = nodes} {after = after} {up = up} shows = record {
+  count = shows.count;
+  each = λ i brick at. record { state = nodes i; after = after i; up = up i; shows = (shows.each i brick at).power };
+}
 
 -- the brick of a number is one of the layout
 pub node_at : (layout : Layout) (bricks : List Brick) (b : ℕ) (brick : Brick) → b < length bricks → brick ≡ get_or bricks b brick
@@ -378,17 +379,10 @@ up_there layout bricks w brick up shows = by_brick (slice_get bricks brick.0) re
         ap (λ (b : Bool). b && w.up brick.0) (up_within layout bricks w brick.0 up.within shows)
         ∙ by_power x.power (up.on x at) (shows.each brick.0 x at).power
 
--- what was found of the bricks behind a slice
-pub down_at : (layout : Layout) (slice bricks : List Brick) (b : ℕ) (brick : BrickId) → slice ≡ bricks → b ≡ brick.0 → FindsUp slice b None
-    → (w : World) → ShowsBricks layout bricks w.nodes w.after w.up w.clocks → is_up layout w brick ≡ false
-down_at layout slice bricks b brick same here found w shows =
-    ap (λ (k : ℕ). is_up layout w (brick_of k)) (sym here)
-    ∙ running_not layout bricks w b shows (ap (λ (xs : List Brick). running_at xs b) (sym same) ∙ found)
-
-pub up_at : (slice bricks : List Brick) (b : ℕ) (brick found : BrickId) → slice ≡ bricks → b ≡ brick.0
-    → FindsUp slice b (Some found) → (found ≡ brick) × IsUp bricks found
-up_at slice bricks b brick found same here is =
-    (is.0 ∙ ap brick_of here, subst (λ (xs : List Brick). IsUp xs found) same is.1)
+-- so is one that was found up
+pub up_at : (layout : Layout) (bricks : List Brick) (b : ℕ) (found : BrickId) → FindsUp bricks b (Some found)
+    → (w : World) → ShowsBricks layout bricks w.nodes w.after w.up w.clocks → is_up layout w (brick_of b) ≡ true
+up_at layout bricks b found is w shows = subst (λ (brick : BrickId). is_up layout w brick ≡ true) is.0 (up_there layout bricks w found is.1 shows)
 
 -- a brick stopped
 pub shows_stopped : {layout : Layout} {old new : List Brick} {number : BrickId} (w : World) → w.up number.0 ≡ true

@@ -1,5 +1,5 @@
 -- An operation that has run alone is over.
-use Rattle.std.proofs.Common.{List, [], ◌∷◌, ◌++◌, append-nil, length, drop, map, ℕ, Bool, true, false, not, ◌≡◌, inl, inr, refl, sym, ap, ◌∙◌, subst, arith}
+use Rattle.std.proofs.Common.{List, [], ◌∷◌, ◌++◌, append-nil, length, drop, map, ℕ, Bool, true, false, not, ◌≡◌, inl, refl, sym, ap, ◌∙◌, subst, arith}
 use Rattle.std.proofs.lemmas.List.{drop_all}
 use Rattle.std.specs.Prelude.{if◌then◌else◌}
 use Rattle.fab_base.specs.Layouts.{Layout}
@@ -18,7 +18,7 @@ use Rattle.calm_laws.specs.Laws.{IsOver, LeavesItsOwn}
 use Rattle.calm_laws.proofs.Discharge.{calm_ends, marked_has_stripe}
 use Rattle.calm_laws.proofs.Leaving.{collects_leave}
 use Rattle.world.specs.Runs.{brick_of}
-use Rattle.world.specs.Shown.{Shows, Comes, Refused, HasRun, HasBegun, IsReachedBy, disks_of, is_empty}
+use Rattle.world.specs.Shown.{Shows, ComesTo, StopsAt, HasRun, HasBegun, IsReachedBy, is_empty}
 use Rattle.world.specs.Texts.{marks_text, reports_text, new_marks, new_reports, outcome_text, text_of, line_text}
 use Rattle.world.specs.declared.simulations.Outcome.TheVariants.{Marks, Idle}
 use Rattle.world.specs.declared.simulations.Simulation.{Simulation}
@@ -66,45 +66,38 @@ prints_marks setting w v n numbers (event ∷ events) false is prints none = abs
 -- the line of an operation that has run alone
 pub run_comes : (layout : Layout) (is : IsLayout layout) (w : World) (mark : ℕ) (numbers : List ℕ) (disks : List MemDisk) (state : Simulation) (some : Bool)
     → IsReachedBy layout w → IsCalm (coding layout) w (operation_marked w mark) (map brick_of numbers)
-    → HasRun layout w (operation_marked w mark) (map brick_of numbers) disks state some
-    → Comes layout w disks state (Calm mark numbers) (if some then Marks else Idle)
-run_comes layout is w mark numbers disks state some reached may has =
+    → (events : List Event) → HasRun layout w (operation_marked w mark) (map brick_of numbers) disks state some events
+    → ComesTo layout w disks state (Calm mark numbers) (if some then Marks else Idle) events
+run_comes layout is w mark numbers disks state some reached may events has =
     let n : ℕ = operation_marked w mark in
-    let after : has.last ≡ run (coding layout) has.events w = runs_run (coding layout) n (map brick_of numbers) w has.last has.events has.runs in
-    let runs = subst (λ (v : World). RunsAlone (coding layout) n (map brick_of numbers) w has.events v) after has.runs in (
-      has.events,
-      record {
-        are = inl (record {
-          may = may;
-          runs = runs;
-          over = over_alone layout is mark (map brick_of numbers) w (run (coding layout) has.events w) has.events reached may runs;
-          leaves = leaves_own layout is mark (map brick_of numbers) w (run (coding layout) has.events w) has.events reached may runs;
-        });
-        shows = subst (λ (v : World). Shows layout state v) after has.shows;
-        prints =
-            prints_marks (coding layout) w (run (coding layout) has.events w) mark numbers has.events some has.some_is
-            (subst (λ (v : World). text_of (coding layout) w has.events ≡ marks_text (new_marks w v)) after has.prints)
-            (subst (λ (v : World). new_reports w v ≡ []) after
-            (ap (drop (length w.choices.reports)) has.reports ∙ drop_all (length w.choices.reports) w.choices.reports (omega arith)));
-        kept = has.kept;
-      },
-    )
+    let after : has.last ≡ run (coding layout) events w = runs_run (coding layout) n (map brick_of numbers) w has.last events has.runs in
+    let runs = subst (λ (v : World). RunsAlone (coding layout) n (map brick_of numbers) w events v) after has.runs in
+    record {
+      are = inl (record {
+        may = may;
+        runs = runs;
+        over = over_alone layout is mark (map brick_of numbers) w (run (coding layout) events w) events reached may runs;
+        leaves = leaves_own layout is mark (map brick_of numbers) w (run (coding layout) events w) events reached may runs;
+      });
+      shows = subst (λ (v : World). Shows layout state v) after has.shows;
+      prints =
+          prints_marks (coding layout) w (run (coding layout) events w) mark numbers events some has.some_is
+          (subst (λ (v : World). text_of (coding layout) w events ≡ marks_text (new_marks w v)) after has.prints)
+          (subst (λ (v : World). new_reports w v ≡ []) after
+          (ap (drop (length w.choices.reports)) has.reports ∙ drop_all (length w.choices.reports) w.choices.reports (omega arith)));
+      kept = has.kept;
+    }
 
 -- no memory was left for an operation to run alone to its end
-pub begun_refused : (layout : Layout) (w : World) (old new : Simulation) (mark : ℕ) (numbers : List ℕ)
+pub begun_refused : (layout : Layout) (w : World) (disks : List MemDisk) (new : Simulation) (mark : ℕ) (numbers : List ℕ)
     → IsCalm (coding layout) w (operation_marked w mark) (map brick_of numbers)
-    → HasBegun layout w (operation_marked w mark) (map brick_of numbers) (disks_of old.bricks.items) new → Refused layout w old new (Calm mark numbers)
-begun_refused layout w old new mark numbers may has =
+    → (events : List Event) → HasBegun layout w (operation_marked w mark) (map brick_of numbers) disks new events
+    → StopsAt layout w disks new (Calm mark numbers) events
+begun_refused layout w disks new mark numbers may events has =
     let n : ℕ = operation_marked w mark in
-    let after : has.last ≡ run (coding layout) has.events w = begins_run (coding layout) n (map brick_of numbers) w has.last has.events has.begins in (
-      record { line = Calm mark numbers; events = has.events } ∷ [],
-      inr (
-        has.events,
-        record {
-          are = record { may = may; last = has.last; begins = has.begins };
-          shows = subst (λ (v : World). Shows layout new v) after has.shows;
-          kept = has.kept;
-        },
-        refl,
-      ),
-    )
+    let after : has.last ≡ run (coding layout) events w = begins_run (coding layout) n (map brick_of numbers) w has.last events has.begins in
+    record {
+      are = record { may = may; last = has.last; begins = has.begins };
+      shows = subst (λ (v : World). Shows layout new v) after has.shows;
+      kept = has.kept;
+    }

@@ -34,7 +34,9 @@ use Rattle.world.specs.Disks.{KeepsDisks}
 use Rattle.world.specs.Faults.{StopsMidway, IsDelivered}
 use Rattle.world.specs.Deliveries.{NoneLeft, FindsLeft, is_left_at}
 use Rattle.world.specs.Runs.{brick_of}
-use Rattle.world.specs.Shown.{Shows, Comes, HasRun, HasBegun, IsReachedBy, IsReachable, IsNumbered, OpensAs, TellsOperation, HasMarks, disks_of, reads_begun, is_empty}
+use Rattle.world.specs.Runs.{Course, with_events, world_at}
+use Rattle.world.proofs.SimulationLemmas.{course_on}
+use Rattle.world.specs.Shown.{world_in, Shows, ComesTo, HasRun, HasBegun, IsReachedBy, IsNumbered, OpensAs, TellsOperation, HasMarks, disks_of, reads_begun, is_empty}
 use Rattle.world.specs.Texts.{marks_if, is_deliverable, mark_text, marks_text, reports_text, new_marks, new_reports, outcome_text, event_text, text_of}
 use Rattle.world.specs.declared.histories.OperationRecord.{OperationRecord}
 use Rattle.world.specs.declared.simulations.Outcome.{Outcome}
@@ -296,18 +298,15 @@ receiver_up layout w n bricks packet says of_brick some opens ups = by_message p
         subst (λ (i : ℕ). is_up layout w (brick_of i) ≡ true) found.1.2.0 there
     by_message from to message its goes = absurd (let never : false ≡ true = goes in cc)
 
--- a schedule reaches the world that a state shows after a line
-pub stands_on : (layout : Layout) (w : World) (disks : List MemDisk) (state : Simulation) (line : _) (outcome : Outcome) → IsReachedBy layout w
-    → Comes layout w disks state line outcome → IsReachable layout state
-stands_on layout w disks state line outcome (before, is) (events, comes) = (
-  run (coding layout) events w,
-  (before ++ events, ap (run (coding layout) events) is ∙ sym (run-append (coding layout) (first_world layout) before events)),
-  comes.shows,
-)
+-- a delivery that nothing befalls is one event
+pub one_delivery : (layout : Layout) (w : World) (disks : List MemDisk) (next : Simulation) (number : ℕ) (outcome : Outcome) (events : List Event)
+    → ComesTo layout w disks next (Deliver number None) outcome events → events ≡ Delivers number ∷ []
+one_delivery layout w disks next number outcome events comes = ⊎_elim
+    (λ (stops : StopsMidway layout w disks (disks_of next.bricks.items) number None events). absurd (omega (arith, stops.struck.reached.within.some)))
+    (λ (is : IsDelivered layout w disks number None events). is.events_are) comes.are
 
 -- The deliveries so far were made alone, and none of the messages that were looked at is left.
-pub record SoFar (layout : Layout) (w : World) (n : ℕ) (numbers : List ℕ) (disks : List MemDisk) (state : Simulation) (from : ℕ) (some : Bool) : Type 0 where
-  pub events : List Event
+pub record SoFar (layout : Layout) (w : World) (n : ℕ) (numbers : List ℕ) (disks : List MemDisk) (state : Simulation) (from : ℕ) (some : Bool) (events : List Event) : Type 0 where
   pub last : World
   pub begins : BeginsAlone (coding layout) n (map brick_of numbers) w events last
   pub reached : IsReachedBy layout last
@@ -329,9 +328,8 @@ some_more (first ∷ events) event = refl
 
 -- there is none at first
 pub none_yet : (layout : Layout) (w : World) (n : ℕ) (numbers : List ℕ) (state : Simulation) → IsReachedBy layout w → Shows layout state w
-    → HasMarks w n → SoFar layout w n numbers (disks_of state.bricks.items) state 0 false
+    → HasMarks w n → SoFar layout w n numbers (disks_of state.bricks.items) state 0 false []
 none_yet layout w n numbers state reached shows marked = record {
-  events = [];
   last = w;
   begins = begun.Here w;
   reached = reached;
@@ -347,23 +345,30 @@ none_yet layout w n numbers state reached shows marked = record {
   seen = λ k packet less at. absurd (omega arith);
 }
 
+-- it is the world that the state has come to
+pub come_so : (layout : Layout) (old state : Simulation) (n : ℕ) (numbers : List ℕ) (disks : List MemDisk) (from : ℕ) (some : Bool) (events : List Event)
+    → (so : SoFar layout (world_in layout old) n numbers disks state from some events) → state.trail.course ≡ with_events old.trail.course events
+    → so.last ≡ world_in layout state
+come_so layout old state n numbers disks from some events so course =
+    begins_run (coding layout) n (map brick_of numbers) (world_in layout old) so.last events so.begins
+    ∙ sym (ap (λ (x : Course). world_at layout x) course ∙ course_on layout old.trail.course events)
+
 module _ (layout : Layout) (w : World) (n : ℕ) (numbers : List ℕ) (disks : List MemDisk) (state : Simulation) (from : ℕ) (some : Bool)
-    (may : IsCalm (coding layout) w n (map brick_of numbers)) (so : SoFar layout w n numbers disks state from some) where
+    (events : List Event) (may : IsCalm (coding layout) w n (map brick_of numbers)) (so : SoFar layout w n numbers disks state from some events) where
   abbrev bricks : List BrickId
   bricks = map brick_of numbers
 
-  prints_new : text_of (coding layout) w so.events ≡ marks_text (new_marks w so.last)
+  prints_new : text_of (coding layout) w events ≡ marks_text (new_marks w so.last)
   prints_new = so.prints ∙ ap marks_text (sym (ap (drop (length w.marks)) so.marks ∙ drop-append_seam w.marks so.made))
 
   -- the operation has ended
-  pub has_ended : OpensAs state so.last n None → HasRun layout w n bricks disks state some
+  pub has_ended : OpensAs state so.last n None → HasRun layout w n bricks disks state some events
   has_ended ended = record {
-    events = so.events;
     some_is = so.some_is;
     prints = prints_new;
     reports = so.reports;
     last = so.last;
-    runs = runs_ended (coding layout) n bricks w so.last so.events so.begins ended;
+    runs = runs_ended (coding layout) n bricks w so.last events so.begins ended;
     shows = so.shows;
     kept = so.kept;
   }
@@ -389,15 +394,14 @@ module _ (layout : Layout) (w : World) (n : ℕ) (numbers : List ℕ) (disks : L
 
     -- none of its messages is left
     pub has_stuck : FindsLeft state.history.delivered.reached.items kept numbers from so.last.packets None
-        → HasRun layout w n bricks disks state some
+        → HasRun layout w n bricks disks state some events
     has_stuck none = record {
-      events = so.events;
       some_is = so.some_is;
       prints = prints_new;
       reports = so.reports;
       last = so.last;
       runs =
-          runs_stuck (coding layout) n bricks w so.last so.events so.begins opens.0
+          runs_stuck (coding layout) n bricks w so.last events so.begins opens.0
           (next_none so.last n noted.0 says knows noted.3 noted.1 state.history kept so.shows.history noted.2 numbers from
           none_before none);
       shows = so.shows;
@@ -407,30 +411,28 @@ module _ (layout : Layout) (w : World) (n : ℕ) (numbers : List ℕ) (disks : L
     -- one is, and is delivered
     pub goes_on : (place : ℕ) (next : Simulation) (outcome : Outcome)
         → FindsLeft state.history.delivered.reached.items kept numbers from so.last.packets (Some place)
-        → Comes layout so.last (disks_of state.bricks.items) next (Deliver (place + 1) None) outcome
-        → SoFar layout w n numbers disks next (place + 1) true
-    goes_on place next outcome found (events, comes) = record {
-      events = so.events ++ Delivers (place + 1) ∷ [];
+        → ComesTo layout so.last (disks_of state.bricks.items) next (Deliver (place + 1) None) outcome (Delivers (place + 1) ∷ [])
+        → SoFar layout w n numbers disks next (place + 1) true (events ++ Delivers (place + 1) ∷ [])
+    goes_on place next outcome found comes = record {
       last = happens (coding layout) so.last (Delivers (place + 1));
-      begins = begins_more (coding layout) n bricks w so.last so.events (place + 1) so.begins opens.0 its_next;
+      begins = begins_more (coding layout) n bricks w so.last events (place + 1) so.begins opens.0 its_next;
       reached = (so.reached.0 ++ Delivers (place + 1) ∷ [], reached_is);
-      shows = subst (λ (l : List Event). Shows layout next (run (coding layout) l so.last)) one comes.shows;
+      shows = comes.shows;
       kept =
-          keeps_more (coding layout) w so.events (Delivers (place + 1) ∷ []) disks (disks_of state.bricks.items) (disks_of next.bricks.items) so.kept
+          keeps_more (coding layout) w events (Delivers (place + 1) ∷ []) disks (disks_of state.bricks.items) (disks_of next.bricks.items) so.kept
           (subst (λ (v : World). KeepsDisks (coding layout) v (Delivers (place + 1) ∷ []) (disks_of state.bricks.items) (disks_of next.bricks.items))
-          (begins_run (coding layout) n bricks w so.last so.events so.begins)
-          (subst (λ (l : List Event). KeepsDisks (coding layout) so.last l (disks_of state.bricks.items) (disks_of next.bricks.items)) one comes.kept));
-      some_is = some_more so.events (Delivers (place + 1));
+          (begins_run (coding layout) n bricks w so.last events so.begins) comes.kept);
+      some_is = some_more events (Delivers (place + 1));
       made = so.made ++ (marks_after (coding layout) so.last (place + 1) packet sent up).0;
       marks =
           (marks_after (coding layout) so.last (place + 1) packet sent up).1
           ∙ ap (λ (l : List Mark). l ++ (marks_after (coding layout) so.last (place + 1) packet sent up).0) so.marks
           ∙ append_assoc w.marks so.made (marks_after (coding layout) so.last (place + 1) packet sent up).0;
       prints =
-          text_of-more (coding layout) w so.events (Delivers (place + 1))
-          ∙ ap (λ (text : List ℕ). text ++ event_text (coding layout) (run (coding layout) so.events w) (Delivers (place + 1))) so.prints
+          text_of-more (coding layout) w events (Delivers (place + 1))
+          ∙ ap (λ (text : List ℕ). text ++ event_text (coding layout) (run (coding layout) events w) (Delivers (place + 1))) so.prints
           ∙ ap (λ (text : List ℕ). marks_text so.made ++ text)
-          (ap (λ (v : World). event_text (coding layout) v (Delivers (place + 1))) (sym (begins_run (coding layout) n bricks w so.last so.events so.begins))
+          (ap (λ (v : World). event_text (coding layout) v (Delivers (place + 1))) (sym (begins_run (coding layout) n bricks w so.last events so.begins))
           ∙ text_after (coding layout) so.last (place + 1) packet sent up quiet.reports)
           ∙ sym (marks_text-append so.made (marks_after (coding layout) so.last (place + 1) packet sent up).0);
       reports = reports_stay (coding layout) so.last (place + 1) packet sent up quiet.reports ∙ so.reports;
@@ -486,12 +488,6 @@ module _ (layout : Layout) (w : World) (n : ℕ) (numbers : List ℕ) (disks : L
             next_found so.last n noted.0 says knows noted.3 noted.1 state.history kept so.shows.history noted.2 numbers from
             place none_before found
 
-        one : events ≡ Delivers (place + 1) ∷ []
-        one = ⊎_elim
-            (λ (stops : StopsMidway layout so.last (disks_of state.bricks.items) (disks_of next.bricks.items) (place + 1) None events).
-            absurd (omega (arith, stops.struck.reached.within.some)))
-            (λ (is : IsDelivered layout so.last (disks_of state.bricks.items) (place + 1) None events). is.events_are) comes.are
-
         reached_is : happens (coding layout) so.last (Delivers (place + 1))
             ≡ run (coding layout) (so.reached.0 ++ Delivers (place + 1) ∷ []) (first_world layout)
         reached_is =
@@ -500,9 +496,8 @@ module _ (layout : Layout) (w : World) (n : ℕ) (numbers : List ℕ) (disks : L
 
   -- no memory was left for a delivery
   pub has_begun : (next : Simulation) → Shows layout next so.last
-      → map content_of (disks_of next.bricks.items) ≡ map content_of (disks_of state.bricks.items) → HasBegun layout w n bricks disks next
+      → map content_of (disks_of next.bricks.items) ≡ map content_of (disks_of state.bricks.items) → HasBegun layout w n bricks disks next events
   has_begun next shows contents = record {
-    events = so.events;
     last = so.last;
     begins = so.begins;
     shows = shows;

@@ -25,7 +25,7 @@ use Rattle.world.specs.Noted.{IsSameHistory}
 use Rattle.world.specs.Disks.{KeepsDisks, KeepsOthers, LeavesDisks, ListsEvent, ListsHandled, ListsPacket, receiver_of, changes_disk_of}
 use Rattle.world.specs.EventCalls.{handled_calls}
 use Rattle.world.specs.declared.bricks.Power.{Power}
-use Rattle.world.specs.Shown.{IsRunning, IsUpWith, Shows, ShowsBricks, ShowsPower, TookPart, TookWhole, disk_in, seqs_of, StartsAs, Tells, Comes, TakesEvent, StaysAs, RunsLine, RefusesLine, disks_of}
+use Rattle.world.specs.Shown.{IsRunning, IsUpWith, Shows, ShowsBricks, ShowsPower, TookPart, TookWhole, disk_in, StartsAs, Tells, Comes, ComesTo, TakesEvent, StaysAs, StopsShort, RunsLine, RefusesLine, IsOther, disks_of, world_in}
 use Rattle.world.specs.Texts.{marks_if, is_deliverable, outcome_of, outcome_text, new_marks, new_reports, event_text, text_of, line_text}
 use Rattle.world.specs.declared.simulations.Outcome.{Outcome}
 use Rattle.world.specs.declared.simulations.Outcome.TheVariants.{Marks, Idle}
@@ -35,10 +35,10 @@ use Rattle.world.specs.declared.histories.History.{History}
 use Rattle.world.proofs.BrickLemmas.{up_power}
 use Rattle.world.proofs.BrickListLemmas.{shows_down, shows_step}
 use Rattle.world.proofs.DiskLemmas.{disk_was, of_disk, of_now, one_kept, others_changed, same_kept, unwritten_changed}
-use Rattle.world.proofs.HistoryLemmas.{tells_during, tells_same}
+use Rattle.world.proofs.HistoryLemmas.{tells_during}
 use Rattle.world.proofs.MachineBegins.{happens_stopped_during, happens_unsent, happens_astray}
 use Rattle.world.proofs.RunLemmas.{nothing_text, came_text, start_few}
-use Rattle.world.proofs.SimulationLemmas.{shows_still, shows_handled, handled_here, handled_astray}
+use Rattle.world.proofs.SimulationLemmas.{shows_alike, shows_still, shows_handled, handled_here, handled_astray}
 use Rattle.protocol.proofs.Events.{world_handled}
 
 -- what follows of each value follows of a result
@@ -227,41 +227,49 @@ nothing_comes layout w state shows =
 -- an operation that may not run alone
 pub idle_comes : (layout : Layout) (w : World) (state : Simulation) (n : ℕ) (bricks : List ℕ)
     → (IsCalm (coding layout) w (operation_marked w n) (map brick_of bricks) → ⊥) → Shows layout state w
-    → Comes layout w (disks_of state.bricks.items) state (Calm n bricks) Idle
-idle_comes layout w state n bricks not shows =
-    ([], record { are = inr (not, refl); shows = shows; prints = refl; kept = refl })
-
--- a state of the same bricks, whose history tells what the other's told, shows what that shows
-pub shows_alike : (layout : Layout) (old new : Simulation) (w : World) → new.bricks.items ≡ old.bricks.items → IsSameHistory old.history new.history
-    → Shows layout old w → Shows layout new w
-shows_alike layout old new w same stays shows = record {
-  bricks = subst (λ (bricks : List Brick). ShowsBricks layout bricks w.nodes w.after w.up w.clocks) (sym same) shows.bricks;
-  history = tells_same (seqs_of w) old.history new.history w stays shows.history;
-}
+    → ComesTo layout w (disks_of state.bricks.items) state (Calm n bricks) Idle []
+idle_comes layout w state n bricks not shows = record { are = inr (not, refl); shows = shows; prints = refl; kept = refl }
 
 -- what a line came to is so of a state of the same bricks, whose history tells what the other's told
-pub comes_alike : (layout : Layout) (w : World) (disks : List MemDisk) (old new : Simulation) (line : Line) (outcome : Outcome)
-    → new.bricks.items ≡ old.bricks.items → IsSameHistory old.history new.history → Comes layout w disks old line outcome → Comes layout w disks new line outcome
-comes_alike layout w disks old new line outcome same stays (events, comes) = (
-  events,
-  record {
-    are = subst (λ (bricks : List Brick). IsEventsOf layout w disks (disks_of bricks) line events) (sym same) comes.are;
-    shows = shows_alike layout old new (run (coding layout) events w) same stays comes.shows;
-    prints = comes.prints;
-    kept = subst (λ (bricks : List Brick). KeepsDisks (coding layout) w events disks (disks_of bricks)) (sym same) comes.kept;
-  },
-)
+pub came_alike : (layout : Layout) (w : World) (disks : List MemDisk) (old new : Simulation) (line : Line) (outcome : Outcome) (events : List Event)
+    → new.bricks.items ≡ old.bricks.items → IsSameHistory old.history new.history → ComesTo layout w disks old line outcome events
+    → ComesTo layout w disks new line outcome events
+came_alike layout w disks old new line outcome events same stays comes = record {
+  are = subst (λ (bricks : List Brick). IsEventsOf layout w disks (disks_of bricks) line events) (sym same) comes.are;
+  shows = shows_alike layout old new (run (coding layout) events w) same stays comes.shows;
+  prints = comes.prints;
+  kept = subst (λ (bricks : List Brick). KeepsDisks (coding layout) w events disks (disks_of bricks)) (sym same) comes.kept;
+}
 
 -- so such a line runs that is one event, which makes no call of a disk
 pub takes_runs : (layout : Layout) (old new : Simulation) (line : Line) (event : Event) (outcome : Outcome)
-    → ((w : World) → IsEventsOf layout w (disks_of old.bricks.items) (disks_of new.bricks.items) line (event ∷ []))
-    → ((w : World) → ListsEvent layout w event (disks_of old.bricks.items) (disks_of new.bricks.items))
-    → TakesEvent layout old new event outcome → RunsLine layout old new line outcome
-takes_runs layout old new line event outcome are lists takes w reached shows =
-    one_event layout w (disks_of old.bricks.items) new line outcome event (are w) (takes.shows w reached shows) (takes.outcome_is w shows)
-    (same_kept layout w event (disks_of old.bricks.items) (disks_of new.bricks.items) takes.disks (lists w))
+    → (let w : World = world_in layout old in
+    IsEventsOf layout w (disks_of old.bricks.items) (disks_of new.bricks.items) line (event ∷ [])
+    → ListsEvent layout w event (disks_of old.bricks.items) (disks_of new.bricks.items)
+    → TakesEvent layout old new event outcome → RunsLine layout old new line outcome)
+takes_runs layout old new line event outcome are lists takes = record {
+  trail = takes.trail;
+  comes = one_event layout (world_in layout old) (disks_of old.bricks.items) new line outcome event are takes.shows takes.outcome_is
+      (same_kept layout (world_in layout old) event (disks_of old.bricks.items) (disks_of new.bricks.items) takes.disks lists);
+}
 
--- and no memory was left for one where nothing happened
-pub stays_refuses : (layout : Layout) (old new : Simulation) (line : Line) → StaysAs layout old new → RefusesLine layout old new line
-stays_refuses layout old new line stays w reached shows =
-    ([], inl (record { shows = stays.shows w shows; contents = stays.contents }, refl))
+-- a line that is no such one has an operation run alone
+pub other_is : (line : Line) → ((n : ℕ) (bricks : List ℕ) → line ≡ Calm n bricks → ⊥) → IsOther line
+other_is (Calm n bricks) never = absurd (never n bricks refl)
+other_is line never = tt
+
+pub other_refuses : (layout : Layout) (old new : Simulation) (line : Line) → ((n : ℕ) (bricks : List ℕ) → line ≡ Calm n bricks → ⊥)
+    → StaysAs layout old new → RefusesLine layout old new line
+other_refuses layout old new (Calm n bricks) never stays = absurd (never n bricks refl)
+other_refuses layout old new line never stays = stays
+
+pub other_stays : (layout : Layout) (old new : Simulation) (line : Line) → ((n : ℕ) (bricks : List ℕ) → line ≡ Calm n bricks → ⊥)
+    → RefusesLine layout old new line → StaysAs layout old new
+other_stays layout old new (Calm n bricks) never refuses = absurd (never n bricks refl)
+other_stays layout old new line never refuses = refuses
+
+-- and such a line was not run to its end
+pub calm_stops : (layout : Layout) (old new : Simulation) (line : Line) (n : ℕ) (bricks : List ℕ) → line ≡ Calm n bricks → RefusesLine layout old new line
+    → StopsShort layout old new line
+calm_stops layout old new line n bricks is =
+    subst (λ (l : Line). RefusesLine layout old new l → StopsShort layout old new l) (sym is) (λ refuses. refuses)

@@ -60,6 +60,10 @@ same_sent old new rest sent = record {
   calls = λ i. ap (λ (h : History). calls_in h.calls i) rest;
 }
 
+-- where nothing was written at all
+pub same_all : (history : History) → IsSameHistory history history
+same_all history = record { sent = refl; reached = λ k. refl; marks = refl; reports = refl; operations = refl; marked = refl; calls = λ i. refl }
+
 -- and so from one to the next
 pub same_then : (old mid new : History) → IsSameHistory old mid → IsSameHistory mid new → IsSameHistory old new
 same_then old mid new first second = record {

@@ -1,11 +1,10 @@
 -- The world that a run leaves, and what its disks keep.
-use Rattle.std.proofs.Common.{◌≡◌, ℕ, ◌+◌, ◌≤◌, ◌-◌, ◌⊎◌, inl, inr, ⊎_elim, Bool, List, [], ◌∷◌, ◌++◌, length, length-append, take, drop, map, take_all, length-drop, append-nil, append_assoc, Option, Some, None, refl, sym, ap, ◌∙◌, subst, arith}
+use Rattle.std.proofs.Common.{◌≡◌, ℕ, ◌+◌, ◌≤◌, ◌-◌, ◌⊎◌, inl, inr, ⊎_elim, Bool, List, [], ◌∷◌, ◌++◌, length, length-append, take, drop, take_all, length-drop, append-nil, append_assoc, Option, Some, None, refl, sym, ap, ◌∙◌, subst, arith}
 use Rattle.std.specs.Prelude.{slice_get}
 use Rattle.std.specs.Option.{option_map}
 use Rattle.std.proofs.lemmas.List.{drop_all, length-map}
 use Rattle.std.proofs.lemmas.Option.{slice_get-map}
 use Rattle.fab_base.specs.declared.identities.BrickId.{BrickId}
-use Rattle.fab_disk.specs.MemDisk.{content_of}
 use Rattle.fab_disk.specs.declared.mem_disk.MemDisk.{MemDisk}
 use Rattle.reg_model.specs.declared.marks.Mark.{Mark}
 use Rattle.reg_model.specs.declared.marks.Mark.TheVariants as mark
@@ -18,10 +17,10 @@ use Rattle.protocol.specs.Settings.{Setting}
 use Rattle.protocol.specs.declared.tellings.Report.{Report}
 use Rattle.protocol.specs.Worlds.{World, Event, Stops, Starts, Before, first_world, number_of, reports_of, world_stepped, run}
 use Rattle.protocol_laws.proofs.Books.{Books}
-use Rattle.world.specs.Runs.{Run, Step, world_of, all_events, brick_of}
+use Rattle.world.specs.Runs.{Course, Run, Step, world_of, all_events, brick_of, with_events, world_at}
 use Rattle.world.specs.Faults.{IsEventsOf, IsStartOf, StaysDown, IsStarted, IsNoStart}
-use Rattle.world.specs.Disks.{ShowsDiskOf, ShowsDisks, KeepsDisks, LeavesContents}
-use Rattle.world.specs.Shown.{IsNumbered, Shows, ShowsBricks, ShowsPower, ComesTo, Leaves, disk_in, disks_of, came_to}
+use Rattle.world.specs.Disks.{ShowsDiskOf, ShowsDisks}
+use Rattle.world.specs.Shown.{IsNumbered, GoesOn, StaysAs, StopsShort, Shows, ShowsBricks, ShowsPower, ComesTo, StopsAt, disk_in, disks_of, came_to, world_in}
 use Rattle.protocol.proofs.Events.{run-append, EventCases, step_on, world_counting, stepped_each, started_each, run_each}
 use Rattle.world.specs.Steps.{Runs, RunsTo, LeavesSome, with_step}
 use Rattle.world.specs.Texts.{text_of, event_text, marks_text, reports_text, outcome_text, new_marks, new_reports, line_text, step_text}
@@ -30,6 +29,7 @@ use Rattle.world.specs.declared.bricks.Power.{Power}
 use Rattle.world.specs.declared.bricks.Power.TheVariants.{Up, Down}
 use Rattle.world.specs.declared.simulations.Outcome.{Outcome}
 use Rattle.world.specs.declared.simulations.Simulation.{Simulation}
+use Rattle.world.specs.declared.trails.Trail.{Trail}
 
 -- the events of one step more
 pub all_events-more : (steps : List Step) (step : Step) → all_events (steps ++ step ∷ []) ≡ all_events steps ++ step.events
@@ -42,15 +42,6 @@ pub world_of-with_step : (r : Run) (step : Step) (disks : List MemDisk)
 world_of-with_step r step disks =
     ap (λ events. run (coding r.layout) events (first_world r.layout)) (all_events-more r.steps step)
     ∙ run-append (coding r.layout) (first_world r.layout) (all_events r.steps) step.events
-
--- what holds of the world after a step holds of the world of the run with that step
-pub stands_step : (P : World → Type 0) (layout : Layout) (old new : List Step) (step : Step) (before disks : List MemDisk) → new ≡ old ++ step ∷ []
-    → P (run (coding layout) step.events (world_of (record { layout = layout; steps = old; disks = before })))
-    → P (world_of (record { layout = layout; steps = new; disks = disks }))
-stands_step P layout old new step before disks grown holds =
-    subst P
-    (sym (ap (λ (steps : List Step). world_of (record { layout = layout; steps = steps; disks = disks })) grown
-    ∙ world_of-with_step (record { layout = layout; steps = old; disks = before }) step disks)) holds
 
 -- the disk of a brick that is shown keeps what the machine's brick keeps, or one of the two that its stop left possible
 disk_kept : (layout : Layout) (me : BrickId) (node after : Node) (up : Bool) (power : Power) → ShowsPower layout me node after up power
@@ -135,25 +126,6 @@ run_reports setting w events =
     run_each (λ (x : World). length w.choices.reports ≤ length x.choices.reports) (λ x. Unit {0}) setting
     (λ x known. report_cases setting (length w.choices.reports) x) events w (λ more. tt) (omega arith)
 
--- so a run with one step more has no fewer
-pub marks_grow : (layout : Layout) (old new : List Step) (step : Step) (before disks : List MemDisk) → new ≡ old ++ step ∷ []
-    → length (world_of (record { layout = layout; steps = old; disks = before })).marks
-    ≤ length (world_of (record { layout = layout; steps = new; disks = disks })).marks
-marks_grow layout old new step before disks grown =
-    let w : World = world_of (record { layout = layout; steps = old; disks = before }) in
-    subst (λ (v : World). length w.marks ≤ length v.marks)
-    (sym (ap (λ (steps : List Step). world_of (record { layout = layout; steps = steps; disks = disks })) grown
-    ∙ world_of-with_step (record { layout = layout; steps = old; disks = before }) step disks)) (run_grows (coding layout) w step.events)
-
-pub reports_grow : (layout : Layout) (old new : List Step) (step : Step) (before disks : List MemDisk) → new ≡ old ++ step ∷ []
-    → length (world_of (record { layout = layout; steps = old; disks = before })).choices.reports
-    ≤ length (world_of (record { layout = layout; steps = new; disks = disks })).choices.reports
-reports_grow layout old new step before disks grown =
-    let w : World = world_of (record { layout = layout; steps = old; disks = before }) in
-    subst (λ (v : World). length w.choices.reports ≤ length v.choices.reports)
-    (sym (ap (λ (steps : List Step). world_of (record { layout = layout; steps = steps; disks = disks })) grown
-    ∙ world_of-with_step (record { layout = layout; steps = old; disks = before }) step disks)) (run_reports (coding layout) w step.events)
-
 -- what a world's books say of its open calls
 pub numbered_from_books : (setting : Setting) (w : World) → Books setting w → IsNumbered w
 numbered_from_books setting w books i k c is =
@@ -210,84 +182,97 @@ text_is old new line step outcome marks reports text runs prints made told is =
     ∙ ap (λ (xs : List (BrickId × Report)). outcome_text outcome (new_marks (world_of old) (world_of new)) xs) told ∙ prints
     ∙ ap (λ (l : Line). line_text (coding old.layout) (world_of old) l step.events) (sym runs.line_is)
 
--- a step that a trail took is one that was run
-pub runs_to : (layout : Layout) (old new : List Step) (before disks : List MemDisk) (state : Simulation) (line : Line) (outcome : Outcome)
-    → disks ≡ disks_of state.bricks.items
-    → (events : List Event) × ComesTo layout (world_of (record { layout = layout; steps = old; disks = before })) before state line outcome events
-    × (new ≡ old ++ record { line = line; events = events } ∷ [])
-    → RunsTo (record { layout = layout; steps = old; disks = before }) (record { layout = layout; steps = new; disks = disks }) line outcome
-runs_to layout old new before disks state line outcome same (events, comes, grown) =
-    let r : Run = record { layout = layout; steps = old; disks = before } in
-    record {
-      step = record { line = line; events = events };
-      runs = record {
-        line_is = refl;
-        events_are = subst (λ (d : List MemDisk). IsEventsOf layout (world_of r) before d line events) (sym same) comes.are;
-        run = ap (λ (steps : List Step). record { layout = layout; steps = steps; disks = disks }) grown;
-        disks = subst (λ (d : List MemDisk). KeepsDisks (coding layout) (world_of r) events before d) (sym same) comes.kept;
-        shows = subst (λ (d : List MemDisk). ShowsDisks (record { layout = layout; steps = new; disks = d })) (sym same)
-            (disks_shown layout state new
-            (stands_step (Shows layout state) layout old new (record { line = line; events = events }) before disks grown comes.shows));
-      };
-      prints = ap (λ (v : World). outcome_text outcome (new_marks (world_of r) v) (new_reports (world_of r) v))
-          (ap (λ (steps : List Step). world_of (record { layout = layout; steps = steps; disks = disks })) grown
-          ∙ world_of-with_step r (record { line = line; events = events }) disks) ∙ comes.prints;
-    }
+-- a course in whose midst no line is being run
+pub at_rest : (layout : Layout) (course : Course) → course.events ≡ [] → world_at layout course ≡ run (coding layout) (all_events course.steps) (first_world layout)
+at_rest layout course none =
+    ap (λ (l : List Event). run (coding layout) l (first_world layout))
+    (ap (λ (l : List Event). all_events course.steps ++ l) none ∙ append-nil (all_events course.steps))
 
--- and the state shows the world behind it
-pub stands_run : (layout : Layout) (old new : List Step) (before disks : List MemDisk) (state : Simulation) (line : Line) (outcome : Outcome)
-    → (events : List Event) × ComesTo layout (world_of (record { layout = layout; steps = old; disks = before })) before state line outcome events
-    × (new ≡ old ++ record { line = line; events = events } ∷ [])
-    → Shows layout state (world_of (record { layout = layout; steps = new; disks = disks }))
-stands_run layout old new before disks state line outcome (events, comes, grown) =
-    stands_step (Shows layout state) layout old new (record { line = line; events = events }) before disks grown comes.shows
+-- A line was run in a simulation, to its end or as far as memory lasted, and its events were made a step.
+module _ (layout : Layout) (old new : Simulation) (trail : Trail) (line : Line) (was : Run) (none : old.trail.course.events ≡ [])
+    (ended : trail.course ≡ record { steps = new.trail.course.steps ++ record { line = line; events = new.trail.course.events } ∷ []; events = [] })
+    (view : record { layout = layout; steps = old.trail.course.steps; disks = disks_of old.bricks.items } ≡ was) where
+  abbrev before : Run
+  before = record { layout = layout; steps = old.trail.course.steps; disks = disks_of old.bricks.items }
 
--- what a line leaves for which no memory was left
-pub leaves_some : (layout : Layout) (old new : List Step) (before disks : List MemDisk) (state : Simulation) (line : Line)
-    → disks ≡ disks_of state.bricks.items
-    → (steps : List Step) × Leaves layout (world_of (record { layout = layout; steps = old; disks = before })) before state line steps
-    × (new ≡ old ++ steps)
-    → LeavesSome (record { layout = layout; steps = old; disks = before }) (record { layout = layout; steps = new; disks = disks }) line
-leaves_some layout old new before disks state line same (steps, leaves, grown) = left leaves
-  where
-    r : Run
-    r = record { layout = layout; steps = old; disks = before }
+  abbrev after : Run
+  after = record { layout = layout; steps = trail.course.steps; disks = disks_of new.bricks.items }
 
-    s : Run
-    s = record { layout = layout; steps = new; disks = disks }
+  rest : world_in layout old ≡ world_of before
+  rest = at_rest layout old.trail.course none
 
-    left : Leaves layout (world_of r) before state line steps → LeavesSome r s line
-    left (inl (stays, none)) =
-        inl (record {
-          layout = refl;
-          steps = grown ∙ ap (λ (more : List Step). old ++ more) none ∙ append-nil old;
-          contents = ap (λ (d : List MemDisk). map content_of d) same ∙ stays.contents;
-        })
-    left (inr (events, stops, one)) =
-        inr (
-          record { line = line; events = events },
-          record {
-            line_is = refl;
-            events_are = stops.are;
-            run = ap (λ (steps : List Step). record { layout = layout; steps = steps; disks = disks })
-                (grown ∙ ap (λ (more : List Step). old ++ more) one);
-            disks = subst (λ (d : List MemDisk). LeavesContents (coding layout) (world_of r) events before d) (sym same) stops.kept;
-          },
-        )
+  is_after : (events : List Event) → new.trail.course ≡ with_events old.trail.course events
+      → after ≡ with_step before (record { line = line; events = events }) after.disks
+  is_after events goes =
+      ap (λ (steps : List Step). record { layout = layout; steps = steps; disks = disks_of new.bricks.items })
+      (ap (λ (c : Course). c.steps) ended
+      ∙ ap (λ (c : Course). c.steps ++ record { line = line; events = c.events } ∷ []) goes
+      ∙ ap (λ (l : List Event). old.trail.course.steps ++ record { line = line; events = l ++ events } ∷ []) none)
 
--- and the state shows the world behind it
-pub stands_left : (layout : Layout) (old new : List Step) (before disks : List MemDisk) (state : Simulation) (line : Line)
-    → (steps : List Step) × Leaves layout (world_of (record { layout = layout; steps = old; disks = before })) before state line steps
-    × (new ≡ old ++ steps)
-    → Shows layout state (world_of (record { layout = layout; steps = new; disks = disks }))
-stands_left layout old new before disks state line (steps, leaves, grown) = left leaves
-  where
-    v : List Step → World
-    v steps = world_of (record { layout = layout; steps = steps; disks = disks })
+  world_after : (events : List Event) → new.trail.course ≡ with_events old.trail.course events
+      → world_of after ≡ run (coding layout) events (world_of before)
+  world_after events goes =
+      ap world_of (is_after events goes) ∙ world_of-with_step before (record { line = line; events = events }) (disks_of new.bricks.items)
 
-    left : Leaves layout (v old) before state line steps → Shows layout state (v new)
-    left (inl (stays, none)) =
-        subst (λ (x : List Step). Shows layout state (v x)) (sym (grown ∙ ap (λ (more : List Step). old ++ more) none ∙ append-nil old)) stays.shows
-    left (inr (events, stops, one)) =
-        stands_step (Shows layout state) layout old new (record { line = line; events = events }) before disks
-        (grown ∙ ap (λ (more : List Step). old ++ more) one) stops.shows
+  shows_ended : (events : List Event) → new.trail.course ≡ with_events old.trail.course events
+      → Shows layout new (run (coding layout) events (world_in layout old)) → Shows layout (record new { trail = trail }) (world_of after)
+  shows_ended events goes shows =
+      let now = subst (λ (v : World). Shows layout new v) (ap (run (coding layout) events) rest ∙ sym (world_after events goes)) shows in
+      record { bricks = now.bricks; history = now.history }
+
+  -- the state shows the world behind it
+  pub shows_ran : (outcome : Outcome) → GoesOn layout old new line outcome → Shows layout (record new { trail = trail }) (world_of after)
+  shows_ran outcome (events, comes, goes) = shows_ended events goes comes.shows
+
+  pub shows_short : StopsShort layout old new line → Shows layout (record new { trail = trail }) (world_of after)
+  shows_short (events, stops, goes) = shows_ended events goes stops.shows
+
+  -- the step is one that was run
+  pub runs_to : (outcome : Outcome) → GoesOn layout old new line outcome → RunsTo was after line outcome
+  runs_to outcome (events, comes, goes) =
+      let came = subst (λ (w : World). ComesTo layout w (disks_of old.bricks.items) new line outcome events) rest comes in
+      subst (λ (r : Run). RunsTo r after line outcome) view (record {
+        step = record { line = line; events = events };
+        runs = record {
+          line_is = refl;
+          events_are = came.are;
+          run = is_after events goes;
+          disks = came.kept;
+          shows = disks_shown layout (record new { trail = trail }) trail.course.steps (shows_ended events goes comes.shows);
+        };
+        prints = ap (λ (v : World). outcome_text outcome (new_marks (world_of before) v) (new_reports (world_of before) v)) (world_after events goes)
+            ∙ came.prints;
+      })
+
+  -- marks and reports are only added
+  pub all_grow : (outcome : Outcome) → GoesOn layout old new line outcome
+      → (length (world_of was).marks ≤ length (world_of after).marks) × (length (world_of was).choices.reports ≤ length (world_of after).choices.reports)
+  all_grow outcome (events, comes, goes) =
+      subst (λ (r : Run). (length (world_of r).marks ≤ length (world_of after).marks)
+      × (length (world_of r).choices.reports ≤ length (world_of after).choices.reports)) view
+      (subst (λ (v : World). (length (world_of before).marks ≤ length v.marks) × (length (world_of before).choices.reports ≤ length v.choices.reports))
+      (sym (world_after events goes)) (run_grows (coding layout) (world_of before) events, run_reports (coding layout) (world_of before) events))
+
+  -- or no memory was left for the rest of it
+  pub leaves_part : StopsShort layout old new line → LeavesSome was after line
+  leaves_part (events, stops, goes) =
+      let came = subst (λ (w : World). StopsAt layout w (disks_of old.bricks.items) new line events) rest stops in
+      subst (λ (r : Run). LeavesSome r after line) view (inr (
+        record { line = line; events = events },
+        record { line_is = refl; events_are = came.are; run = is_after events goes; disks = came.kept },
+      ))
+
+-- no memory was left for a line, and nothing was run
+module _ (layout : Layout) (old new : Simulation) (none : old.trail.course.events ≡ []) (stays : StaysAs layout old new) where
+  abbrev run_now : Simulation → Run
+  run_now state = record { layout = layout; steps = state.trail.course.steps; disks = disks_of state.bricks.items }
+
+  pub shows_kept : Shows layout new (world_of (run_now new))
+  shows_kept =
+      subst (λ (v : World). Shows layout new v)
+      (at_rest layout old.trail.course none ∙ ap (λ (t : Trail). run (coding layout) (all_events t.course.steps) (first_world layout)) (sym stays.trail)) stays.shows
+
+  pub leaves_none : (line : Line) (was : Run) → run_now old ≡ was → LeavesSome was (run_now new) line
+  leaves_none line was view =
+      subst (λ (r : Run). LeavesSome r (run_now new) line) view
+      (inl (record { layout = refl; steps = ap (λ (t : Trail). t.course.steps) stays.trail; contents = stays.contents }))

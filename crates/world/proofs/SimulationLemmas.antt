@@ -1,5 +1,5 @@
 -- What a state shows, line by line.
-use Rattle.std.proofs.Common.{◌≡◌, ℕ, ◌<◌, ◌≤◌, Bool, true, false, cond, nat_lt, List, ◌++◌, Option, Some, None, refl, sym, ap, ◌∙◌, subst, arith}
+use Rattle.std.proofs.Common.{◌≡◌, ℕ, ◌<◌, ◌≤◌, Bool, true, false, cond, nat_lt, List, [], ◌++◌, append-nil, append_assoc, Option, Some, None, refl, sym, ap, ◌∙◌, subst, arith}
 use Rattle.std.specs.Prelude.{Result, Ok, Err, IfNone, OnErr}
 use Rattle.std.proofs.lemmas.Bool.Decides.{nat_tests}
 use Rattle.fab_base.specs.declared.asks.Ask.{Ask}
@@ -10,17 +10,46 @@ use Rattle.messages.specs.declared.packets.Packet.{Packet}
 use Rattle.stripe_code.specs.Codes.{coding}
 use Rattle.fab_base.specs.Layouts.{Layout}
 use Rattle.protocol.specs.Nodes.{Node, NodeStep, put, refusal_of, proposal_refusal, sync_refusal, invoked, proposed, synced_at, received, ticked, stopped}
-use Rattle.protocol.specs.Worlds.{World, Invokes, Proposes, Syncs, Delivers, Sets, Ticks, Stops, is_brick, is_up, packet_of, world_began, world_stepped, world_stopped, happens}
-use Rattle.world.specs.Runs.{ask_of}
-use Rattle.world.specs.Shown.{Shows, ShowsBricks, Tells, seqs_of}
-use Rattle.world.specs.Texts.{marks_if, is_deliverable}
+use Rattle.protocol.specs.Worlds.{World, Event, first_world, run, Invokes, Proposes, Syncs, Delivers, Sets, Ticks, Stops, is_brick, is_up, packet_of, world_began, world_stepped, world_stopped, happens}
+use Rattle.world.specs.Runs.{Course, all_events, ask_of, with_events, world_at}
+use Rattle.protocol.proofs.Events.{run-append}
+use Rattle.world.specs.Noted.{IsSameHistory}
+use Rattle.world.specs.Shown.{IsReachedBy, Shows, Stands, StaysAs, TakesEvent, ShowsBricks, Tells, seqs_of, world_in}
+use Rattle.world.specs.Texts.{marks_if, is_deliverable, outcome_of}
+use Rattle.world.specs.declared.simulations.Outcome.{Outcome}
 use Rattle.world.specs.declared.simulations.Outcome.TheVariants.{Marks, Idle}
 use Rattle.world.specs.declared.bricks.Brick.{Brick}
 use Rattle.world.specs.declared.histories.History.{History}
 use Rattle.world.specs.declared.simulations.Simulation.{Simulation}
 use Rattle.world.proofs.MachineBegins.{happens_begun, happens_proposed, happens_synced, happens_handled, happens_set, happens_ticked, happens_stopped}
-use Rattle.world.proofs.HistoryLemmas.{tells_other, heard_keeps}
+use Rattle.world.proofs.BrickListLemmas.{shows_unput}
+use Rattle.world.proofs.HistoryLemmas.{tells_other, tells_same, heard_keeps}
 use Rattle.protocol.proofs.Events.{world_counting, world_handled}
+
+-- a schedule reaches the world that a state has come to
+pub come_to : (layout : Layout) (state : Simulation) → IsReachedBy layout (world_in layout state)
+come_to layout state = (all_events state.trail.course.steps ++ state.trail.course.events, refl)
+
+-- a course with no events more, and with some and then others
+pub with_more : (course : Course) → with_events course [] ≡ course
+with_more course = ap (λ (l : List Event). record course { events = l }) (append-nil course.events)
+
+pub with_both : (course : Course) (events more : List Event) → with_events (with_events course events) more ≡ with_events course (events ++ more)
+with_both course events more = ap (λ (l : List Event). record course { events = l }) (append_assoc course.events events more)
+
+-- the world that a course with some events more comes to
+pub course_on : (layout : Layout) (course : Course) (events : List Event)
+    → world_at layout (with_events course events) ≡ run (coding layout) events (world_at layout course)
+course_on layout course events =
+    ap (λ (l : List Event). run (coding layout) l (first_world layout)) (sym (append_assoc (all_events course.steps) course.events events))
+    ∙ run-append (coding layout) (first_world layout) (all_events course.steps ++ course.events) events
+
+-- a state stands that shows it
+pub stands_on : (layout : Layout) (old new : Simulation) (events : List Event) → new.trail.course ≡ with_events old.trail.course events
+    → Shows layout new (run (coding layout) events (world_in layout old)) → Stands layout new
+stands_on layout old new events course shows =
+    subst (λ (v : World). Shows layout new v)
+    (sym (ap (λ (c : Course). world_at layout c) course ∙ course_on layout old.trail.course events)) shows
 
 -- what holds anyway holds where there is an error
 pub on_err_always : {T E P : Type 0} (r : Result T E) → P → OnErr r P
@@ -51,6 +80,43 @@ shows_begun layout state w brick ask up none bricks history =
 -- an event that changes nothing
 pub shows_still : (layout : Layout) (state : Simulation) (w v : World) → v ≡ w → Shows layout state w → Shows layout state v
 shows_still layout state w v same shows = subst (λ (x : World). Shows layout state x) (sym same) shows
+
+-- so such an event takes a state to itself
+pub takes_still : (layout : Layout) (state : Simulation) (event : Event) (outcome : Outcome) → Stands layout state
+    → happens (coding layout) (world_in layout state) event ≡ world_in layout state → outcome ≡ outcome_of (coding layout) (world_in layout state) event
+    → TakesEvent layout state state event outcome
+takes_still layout state event outcome stands same is = record {
+  trail = refl;
+  shows = shows_still layout state (world_in layout state) (happens (coding layout) (world_in layout state) event) same stands;
+  outcome_is = is;
+  disks = refl;
+}
+
+-- a state of the same bricks, whose history tells what the other's told, shows what that shows
+pub shows_alike : (layout : Layout) (old new : Simulation) (w : World) → new.bricks.items ≡ old.bricks.items → IsSameHistory old.history new.history
+    → Shows layout old w → Shows layout new w
+shows_alike layout old new w same stays shows = record {
+  bricks = subst (λ (bricks : List Brick). ShowsBricks layout bricks w.nodes w.after w.up w.clocks) (sym same) shows.bricks;
+  history = tells_same (seqs_of w) old.history new.history w stays shows.history;
+}
+
+-- so nothing happened where the history alone was written, and tells what it told
+pub stays_alike : (layout : Layout) (old : Simulation) (history : History) → IsSameHistory old.history history → Stands layout old
+    → StaysAs layout old (record old { history = history })
+stays_alike layout old history same stands = record {
+  trail = refl;
+  shows = shows_alike layout old (record old { history = history }) (world_in layout old) refl same stands;
+  contents = refl;
+}
+
+-- a brick that was asked, and stays as it was
+pub shows_asked : (layout : Layout) (old new : Simulation) (w : World) (brick : BrickId) (next : Node) → next ≡ w.nodes brick.0
+    → ShowsBricks layout new.bricks.items (put w.nodes brick.0 next) w.after w.up w.clocks → IsSameHistory old.history new.history
+    → Shows layout old w → Shows layout new w
+shows_asked layout old new w brick next stays bricks same shows = record {
+  bricks = shows_unput layout new.bricks.items brick.0 w next stays bricks;
+  history = tells_same (seqs_of w) old.history new.history w same shows.history;
+}
 
 -- which replies count is told by no history
 pub tells_replies : (layout : Layout) (history : History) (w : World) (number : ℕ) (packet : Packet)

@@ -29,6 +29,11 @@ pub record Run : Type 0 where
   pub steps : List Step
   pub disks : List MemDisk
 
+-- how far a simulation has come: the steps that were run to their end, and the events so far of a line that is being run
+pub record Course : Type 0 where
+  pub steps : List Step
+  pub events : List Event
+
 -- the brick of a number
 abbrev pub brick_of : ℕ → BrickId
 brick_of b = record { 0 = b }
@@ -74,6 +79,14 @@ events_of (Calm n bricks) = []
 abbrev pub all_events : List Step → List Event
 all_events [] = []
 all_events (step ∷ steps) = step.events ++ all_events steps
+
+-- the world of the machine that a simulation has come to
+abbrev pub world_at : Layout → Course → World
+world_at layout course = run (coding layout) (all_events course.steps ++ course.events) (first_world layout)
+
+-- its course with these events more
+abbrev pub with_events : Course → List Event → Course
+with_events course more = record course { events = course.events ++ more }
 
 -- the world of the machine that a run leaves
 abbrev pub world_of : Run → World

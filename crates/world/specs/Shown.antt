@@ -27,13 +27,13 @@ use Rattle.protocol.specs.Worlds.{World, Operation, is_up, number_of, first_worl
 use Rattle.protocol.specs.Happenings.{is_marked, writes}
 use Rattle.protocol.specs.Settings.{Setting}
 use Rattle.protocol.specs.Worlds.{Event}
-use Rattle.world.specs.Runs.{Step, brick_of}
+use Rattle.world.specs.Runs.{brick_of, with_events, world_at}
 use Rattle.world.specs.CallNumbers.{AreCalls, HasCallRoom, calls_in}
 use Rattle.world.specs.Faults.{HoldsOne, IsEventsOf, IsStartOf, IsLeft, IsLeftOpening, IsReached, IsReachedOpening, Finds, plan_of, found_of}
 use Rattle.world.specs.Disks.{ShowsDisk, first_listed, IsUnwritten, KeepsDisks, LeavesContents, ListsPacket, ListsOpening}
 use Rattle.lines.specs.declared.forms.Fault.{Fault}
 use Rattle.lines.specs.declared.forms.Line.{Line}
-use Rattle.lines.specs.declared.forms.Line.TheVariants.{Calm}
+use Rattle.lines.specs.declared.forms.Line.TheVariants.{Calm, Deliver}
 use Rattle.messages.specs.declared.packets.Packet.{Packet}
 use Rattle.coord_phase.specs.Messages.{packets_from}
 use Rattle.node.specs.Outcomes.{Outcome as Sent}
@@ -180,6 +180,11 @@ pub record IsNodeOf (layout : Layout) (i : ℕ) (power : Power) : Type 0 where
 abbrev pub AreNodesOf : Layout → List Brick → Type 0
 AreNodesOf layout bricks = (i : ℕ) (brick : Brick) → slice_get bricks i ≡ Some brick → IsNodeOf layout i brick.power
 
+-- so it is, and there is one for each number of that
+pub record AreBricksOf (layout : Layout) (bricks : List Brick) : Type 0 where
+  pub count : length bricks ≡ layout.bricks
+  pub each : AreNodesOf layout bricks
+
 -- a brick is up, and this holds of what runs
 abbrev pub IsUpWith : Power → (Running MemDisk → Type 0) → Type 0
 IsUpWith (Up node) Holds = Holds node
@@ -291,6 +296,19 @@ pub record Shows (layout : Layout) (state : Simulation) (w : World) : Type 0 whe
   pub bricks : ShowsBricks layout state.bricks.items w.nodes w.after w.up w.clocks
   pub history : Tells state.history w
 
+-- the world of the machine that the state has come to
+abbrev pub world_in : Layout → Simulation → World
+world_in layout state = world_at layout state.trail.course
+
+-- and the state shows it
+abbrev pub Stands : Layout → Simulation → Type 0
+Stands layout state = Shows layout state (world_in layout state)
+
+-- it shows the first world, and has come no step
+pub record IsFirst (layout : Layout) (state : Simulation) : Type 0 where
+  pub shows : Shows layout state (first_world layout)
+  pub course : state.trail.course ≡ record { steps = []; events = [] }
+
 -- how many messages a step of a brick sends at most, on a message or as an operation, a proposal or a synchronisation begins: one to each member of a view, and
 -- one to each brick of a layout
 abbrev pub most_sent : ℕ
@@ -364,11 +382,6 @@ pub record OpensAside (w : World) (brick : BrickId) (step : machine.NodeStep) : 
   pub seq : step.node.seq ≡ (w.nodes brick.0).seq + calls_used step.reports
   pub unnumbered : number_of w brick.0 ((w.nodes brick.0).seq + 1) ≡ 0
 
--- the step opens the next call
-pub record OpensNext (node : machine.Node) (step : machine.NodeStep) : Type 0 where
-  pub boot : step.node.boot ≡ node.boot
-  pub seq : step.node.seq ≡ node.seq + 1
-
 -- what events that are none or one come to
 abbrev pub came_to : Setting → World → List Event → Outcome
 came_to setting w [] = Marks
@@ -403,49 +416,55 @@ IsBegunBy layout w line events = ⊥
 abbrev pub Comes : Layout → World → List MemDisk → Simulation → Line → Outcome → Type 0
 Comes layout w disks state line outcome = (events : List Event) × ComesTo layout w disks state line outcome events
 
--- No memory was left for a line: the state shows the world as it was, and a read of each disk gives what it gave; or an operation began to run alone.
+-- No memory was left for a line that has an operation run alone: it began to.
 pub record StopsAt (layout : Layout) (w : World) (disks : List MemDisk) (state : Simulation) (line : Line) (events : List Event) : Type 0 where
   pub are : IsBegunBy layout w line events
   pub shows : Shows layout state (run (coding layout) events w)
   pub kept : LeavesContents (coding layout) w events disks (disks_of state.bricks.items)
 
-pub record StaysAt (layout : Layout) (w : World) (disks : List MemDisk) (state : Simulation) : Type 0 where
-  pub shows : Shows layout state w
-  pub contents : map content_of (disks_of state.bricks.items) ≡ map content_of disks
+-- A line was run from one state to another, and came to this outcome; what it is has not gone into the state's course yet.
+pub record RunsLine (layout : Layout) (old new : Simulation) (line : Line) (outcome : Outcome) : Type 0 where
+  pub trail : new.trail ≡ old.trail
+  pub comes : Comes layout (world_in layout old) (disks_of old.bricks.items) new line outcome
 
--- the steps that a line adds for which no memory was left: none, or one that was not run to its end
-abbrev pub Leaves : Layout → World → List MemDisk → Simulation → Line → List Step → Type 0
-Leaves layout w disks state line steps =
-    (StaysAt layout w disks state × (steps ≡ []))
-    ⊎ ((events : List Event) × StopsAt layout w disks state line events × (steps ≡ record { line = line; events = events } ∷ []))
+-- A line was run from one state to another, came to this outcome, and is these events.
+abbrev pub GoesOn : Layout → Simulation → Simulation → Line → Outcome → Type 0
+GoesOn layout old new line outcome =
+    (events : List Event) × ComesTo layout (world_in layout old) (disks_of old.bricks.items) new line outcome events
+    × (new.trail.course ≡ with_events old.trail.course events)
 
--- so it adds some steps or other
-abbrev pub Refused : Layout → World → Simulation → Simulation → Line → Type 0
-Refused layout w old new line = (steps : List Step) × Leaves layout w (disks_of old.bricks.items) new line steps
-
--- a schedule reaches a world that the state shows
-abbrev pub IsReachable : Layout → Simulation → Type 0
-IsReachable layout state = (w : World) × IsReachedBy layout w × Shows layout state w
-
--- A line was run from one state to another, and came to this outcome, in the world that the first shows.
-abbrev pub RunsLine : Layout → Simulation → Simulation → Line → Outcome → Type 0
-RunsLine layout old new line outcome =
-    (w : World) → IsReachedBy layout w → Shows layout old w → Comes layout w (disks_of old.bricks.items) new line outcome
-
--- no memory was left for it
-abbrev pub RefusesLine : Layout → Simulation → Simulation → Line → Type 0
-RefusesLine layout old new line = (w : World) → IsReachedBy layout w → Shows layout old w → Refused layout w old new line
-
--- An event took one state to another, and came to this outcome. It makes no call of a disk.
+-- An event took one state to another, and came to this outcome. It makes no call of a disk, and has not gone into the state's course yet.
 pub record TakesEvent (layout : Layout) (old new : Simulation) (event : Event) (outcome : Outcome) : Type 0 where
-  pub shows : (w : World) → IsReachedBy layout w → Shows layout old w → Shows layout new (happens (coding layout) w event)
-  pub outcome_is : (w : World) → Shows layout old w → outcome ≡ outcome_of (coding layout) w event
+  pub trail : new.trail ≡ old.trail
+  pub shows : Shows layout new (happens (coding layout) (world_in layout old) event)
+  pub outcome_is : outcome ≡ outcome_of (coding layout) (world_in layout old) event
   pub disks : disks_of new.bricks.items ≡ disks_of old.bricks.items
 
 -- nothing happened from one state to another, and a read of each disk gives what it gave
 pub record StaysAs (layout : Layout) (old new : Simulation) : Type 0 where
-  pub shows : (w : World) → Shows layout old w → Shows layout new w
+  pub trail : new.trail ≡ old.trail
+  pub shows : Shows layout new (world_in layout old)
   pub contents : map content_of (disks_of new.bricks.items) ≡ map content_of (disks_of old.bricks.items)
+
+-- a message was delivered to an operation that runs alone
+abbrev pub DeliversAlone : Layout → Simulation → Simulation → ℕ → Type 0
+DeliversAlone layout old new message = (outcome : Outcome) × GoesOn layout old new (Deliver message None) outcome
+
+-- the line has no operation run alone
+abbrev pub IsOther : Line → Type 0
+IsOther (Calm n bricks) = ⊥
+IsOther line = Unit {0}
+
+-- no memory was left for an operation to run alone to its end
+abbrev pub StopsShort : Layout → Simulation → Simulation → Line → Type 0
+StopsShort layout old new line =
+    (events : List Event) × StopsAt layout (world_in layout old) (disks_of old.bricks.items) new line events
+    × (new.trail.course ≡ with_events old.trail.course events)
+
+-- no memory was left for a line: nothing happened, but for an operation that began to run alone
+abbrev pub RefusesLine : Layout → Simulation → Simulation → Line → Type 0
+RefusesLine layout old new (Calm n bricks) = StopsShort layout old new (Calm n bricks)
+RefusesLine layout old new line = StaysAs layout old new
 
 -- what the clock of the brick of a number reads, 0 where there is none
 abbrev pub clock_at : List Brick → ℕ → ℕ
@@ -523,8 +542,7 @@ is_empty [] = true
 is_empty (event ∷ events) = false
 
 -- An operation ran alone among these bricks: these are its deliveries, and the state shows the world that they leave.
-pub record HasRun (layout : Layout) (w : World) (n : ℕ) (bricks : List BrickId) (disks : List MemDisk) (state : Simulation) (some : Bool) : Type 0 where
-  pub events : List Event
+pub record HasRun (layout : Layout) (w : World) (n : ℕ) (bricks : List BrickId) (disks : List MemDisk) (state : Simulation) (some : Bool) (events : List Event) : Type 0 where
   pub some_is : some ≡ not (is_empty events)
   pub last : World
   pub prints : text_of (coding layout) w events ≡ marks_text (new_marks w last)
@@ -534,29 +552,33 @@ pub record HasRun (layout : Layout) (w : World) (n : ℕ) (bricks : List BrickId
   pub kept : KeepsDisks (coding layout) w events disks (disks_of state.bricks.items)
 
 -- so it began to
-pub record HasBegun (layout : Layout) (w : World) (n : ℕ) (bricks : List BrickId) (disks : List MemDisk) (state : Simulation) : Type 0 where
-  pub events : List Event
+pub record HasBegun (layout : Layout) (w : World) (n : ℕ) (bricks : List BrickId) (disks : List MemDisk) (state : Simulation) (events : List Event) : Type 0 where
   pub last : World
   pub begins : BeginsAlone (coding layout) n bricks w events last
   pub shows : Shows layout state last
   pub kept : LeavesContents (coding layout) w events disks (disks_of state.bricks.items)
 
--- it is said whether an operation may run alone among these bricks, in the world that the state shows
+-- it is said whether an operation may run alone among these bricks
 abbrev pub DecidesCalm : Layout → Simulation → ℕ → List ℕ → Bool → Type 0
-DecidesCalm layout state n bricks may =
-    (w : World) → IsReachedBy layout w → Shows layout state w → Decides may (IsCalm (coding layout) w n (map brick_of bricks))
+DecidesCalm layout state n bricks may = Decides may (IsCalm (coding layout) (world_in layout state) n (map brick_of bricks))
 
 -- the operation of a number has marks, if there is one
 abbrev pub HasMarks : World → ℕ → Type 0
 HasMarks w n = (o : Operation) → w.operations n ≡ Some o → is_marked o ≡ true
 
--- one that may and has marks did, from one state to another; or it began to
+-- it may run alone among these bricks, and has marks, in the world that the state shows
+pub record MayRun (layout : Layout) (state : Simulation) (n : ℕ) (bricks : List ℕ) : Type 0 where
+  pub stands : Stands layout state
+  pub calm : IsCalm (coding layout) (world_in layout state) n (map brick_of bricks)
+  pub marked : HasMarks (world_in layout state) n
+
+-- one that may did, from one state to another; or it began to
 abbrev pub RunsAloneTo : Layout → Simulation → Simulation → ℕ → List ℕ → Bool → Type 0
-RunsAloneTo layout old new n bricks some = (w : World) → IsReachedBy layout w → Shows layout old w → IsCalm (coding layout) w n (map brick_of bricks)
-    → HasMarks w n
-    → HasRun layout w n (map brick_of bricks) (disks_of old.bricks.items) new some
+RunsAloneTo layout old new n bricks some =
+    (events : List Event) × HasRun layout (world_in layout old) n (map brick_of bricks) (disks_of old.bricks.items) new some events
+    × (new.trail.course ≡ with_events old.trail.course events)
 
 abbrev pub BeginsAloneTo : Layout → Simulation → Simulation → ℕ → List ℕ → Type 0
-BeginsAloneTo layout old new n bricks = (w : World) → IsReachedBy layout w → Shows layout old w → IsCalm (coding layout) w n (map brick_of bricks)
-    → HasMarks w n
-    → HasBegun layout w n (map brick_of bricks) (disks_of old.bricks.items) new
+BeginsAloneTo layout old new n bricks =
+    (events : List Event) × HasBegun layout (world_in layout old) n (map brick_of bricks) (disks_of old.bricks.items) new events
+    × (new.trail.course ≡ with_events old.trail.course events)

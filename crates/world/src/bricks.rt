@@ -11,7 +11,7 @@ ghost use Rattle.brick_store.specs.Images.{IsListed};
 ghost use Rattle.node.specs.Running.{shape_at, state_of};
 ghost use Rattle.world.specs.Faults.{LeftBy, plan_of};
 ghost use Rattle.world.specs.Disks.{ShowsDisk, AreFreshDisks};
-ghost use Rattle.world.specs.Shown.{Rests, Runs, IsFreshBrick, ShowsBricks, Takes, TurnsOn, FindsUp, IsUp, AreNodesOf, most_sent, reads_begun, disk_in, disks_of, running_at, unopened};
+ghost use Rattle.world.specs.Shown.{Rests, Runs, IsFreshBrick, ShowsBricks, Takes, TurnsOn, FindsUp, IsUp, AreBricksOf, AreNodesOf, most_sent, reads_begun, disk_in, disks_of, running_at, unopened};
 ghost use Rattle.world.specs.BrickSteps.{ChangesBrick, RunsOn, DoesBegin, DoesPropose, DoesSync, DoesHandle, DoesStart, Stops};
 
 use brick_store::OpenFault;
@@ -219,8 +219,7 @@ pub fn fresh_bricks(alloc: Global, layout: &Layout) -> Result<Vec<Brick>, NoMem>
 
 /// The brick of a number, where there is one and it is up.
 pub fn find_up(bricks: &[Brick], layout: &Layout, number: u64) -> Option<BrickId>
-    requires nodes { AreNodesOf layout.now bricks.now }
-    requires bricks { length bricks.now ≡ layout.now.bricks }
+    requires { AreBricksOf layout.now bricks.now }
     ensures { FindsUp bricks.now number result }
 {
     if number >= u64::from(layout.bricks()) {

@@ -211,7 +211,7 @@ fn has_prior_quorum(bricks: &[Brick], m: u8, group: GroupId, view: &View, number
 
 impl Simulation {
     ghost use Rattle.std.specs.Prelude.{◌≡◌};
-    ghost use Rattle.world.specs.Shown.{DecidesCalm, open_record, open_view};
+    ghost use Rattle.world.specs.Shown.{DecidesCalm, Stands, open_record, open_view};
 
     /// What is kept of an operation, if it is open.
     pub fn open_record(&self, operation: u64) -> Option<OperationRecord>
@@ -236,6 +236,7 @@ impl Simulation {
 
     /// Whether an operation may run alone among these bricks.
     pub fn is_calm(&self, layout: &Layout, operation: u64, bricks: &[u64]) -> bool
+        requires { Stands layout.now self.now }
         ensures { DecidesCalm layout.now self.now operation bricks.now result }
     {
         let Some(record) = self.open_record(operation) else {

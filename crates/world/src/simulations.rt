@@ -10,6 +10,7 @@ use crate::bricks::{
     start_brick, stop_brick, tick_brick,
 };
 use crate::histories::{History, packet_at};
+use crate::trails::{Shelf, Trail};
 use fab_base::{Ask, BrickId, GroupId, NoMem, Op, Refusal, StripeNo};
 use layout::Layout;
 use lines::{Access, Fault, Line};
@@ -21,6 +22,7 @@ use std::alloc::Global;
 pub struct Simulation {
     pub bricks: Vec<Brick>,
     pub history: History,
+    pub trail: Trail,
 }
 
 /// What a line comes to.
@@ -53,8 +55,8 @@ fn place_of(layout: &Layout, group: u64, stripe: u64) -> Option<(GroupId, Stripe
 
 /// The group of a number. None exactly where there is none.
 fn group_of(layout: &Layout, group: u64) -> Option<GroupId>
-    ensures none { IfNone result ((node : machine.Node) → proposal_refusal layout.now node group ≡ Some Refusal.NoStripe) }
-    ensures unsynced { IfNone result ((node : machine.Node) → sync_refusal layout.now node group ≡ Some Refusal.NoStripe) }
+    ensures none { IfNone result ((node : machine.Node)
+        → (proposal_refusal layout.now node group ≡ Some Refusal.NoStripe) × (sync_refusal layout.now node group ≡ Some Refusal.NoStripe)) }
     ensures some { IfSome result (λ found. found ≡ group_no group) }
 {
     if group < layout.group_count() as u64 {
@@ -108,33 +110,59 @@ fn op_of(alloc: Global, access: &Access) -> Result<Op, NoMem>
 }
 
 impl Simulation {
-    ghost use Rattle.std.specs.Prelude.{◌≡◌, None, map, vec_len, IfOk, OnErr};
-    ghost use Rattle.protocol.specs.Worlds.{first_world};
+    ghost use Rattle.std.specs.Prelude.{None, map, IfOk, OnOk, OnErr};
     ghost use Rattle.protocol.specs.Worlds.Event.{Invokes, Proposes, Syncs, Sets, Ticks, Stops};
     ghost use Rattle.lines.specs.declared.forms.Line.TheVariants.{Deliver, Start, Calm};
     ghost use Rattle.world.specs.Runs.{brick_of, ask_of, group_no, member_no, op_of};
     ghost use Rattle.world.specs.Disks.{AreFreshDisks};
-    ghost use Rattle.world.specs.Shown.{AreNodesOf, Shows, IsUp, IsReachable, RunsAloneTo, BeginsAloneTo, RunsLine, RefusesLine, TakesEvent, StaysAs, disks_of};
+    ghost use Rattle.world.specs.Shown.{FindsUp, IsFirst, Stands, IsUp, IsOther, MayRun, RunsAloneTo, BeginsAloneTo, GoesOn, DeliversAlone, StopsShort, RunsLine, RefusesLine, TakesEvent, StaysAs, disks_of};
 
     /// All bricks up, their stores fresh, their clocks at 0, and nothing sent.
     pub fn new(alloc: Global, layout: &Layout) -> Result<Simulation, NoMem>
-        ensures shows { IfOk result (λ state. Shows layout.now state (first_world layout.now)) }
+        ensures first { IfOk result (IsFirst layout.now) }
         ensures listed { IfOk result (λ state. AreFreshDisks layout.now (disks_of state.bricks.items)) }
     {
         Ok(Simulation {
             bricks: fresh_bricks(alloc, layout)?,
             history: History::new(alloc),
+            trail: Trail::new(),
         })
     }
 
     /// Runs a line. After a refusal for want of memory the state shows what it showed, or what the first deliveries of an operation that runs alone
     /// leave.
     pub fn run(&mut self, alloc: Global, layout: &Layout, line: &Line) -> Result<Outcome, NoMem>
-        requires nodes { AreNodesOf layout.now self.old.bricks.items }
-        requires bricks { vec_len self.old.bricks ≡ layout.now.bricks }
-        requires shows { IsReachable layout.now self.old }
-        ensures ok { IfOk result (RunsLine layout.now self.old self.new line.now) }
+        requires { Stands layout.now self.old }
+        ensures ok { IfOk result (GoesOn layout.now self.old self.new line.now) }
         ensures err { OnErr result (RefusesLine layout.now self.old self.new line.now) }
+    {
+        match line {
+            Line::Calm { operation, bricks } => {
+                self.calm(alloc, layout, *operation, bricks.as_slice())
+            }
+            _ => self.take(alloc, layout, line),
+        }
+    }
+
+    /// Runs a line that has no operation run alone.
+    fn take(&mut self, alloc: Global, layout: &Layout, line: &Line) -> Result<Outcome, NoMem>
+        requires stands { Stands layout.now self.old }
+        requires line { IsOther line.now }
+        ensures ok { IfOk result (GoesOn layout.now self.old self.new line.now) }
+        ensures err { OnErr result (StaysAs layout.now self.old self.new) }
+    {
+        let shelf = Shelf::of(self);
+        let outcome = self.happen(alloc, layout, line)?;
+        self.trail = Trail::with(&self.trail, &shelf, layout, line, &outcome, self);
+        Ok(outcome)
+    }
+
+    /// What happens at such a line.
+    fn happen(&mut self, alloc: Global, layout: &Layout, line: &Line) -> Result<Outcome, NoMem>
+        requires stands { Stands layout.now self.old }
+        requires line { IsOther line.now }
+        ensures ok { IfOk result (RunsLine layout.now self.old self.new line.now) }
+        ensures err { OnErr result (StaysAs layout.now self.old self.new) }
     {
         match line {
             Line::Nothing => Ok(Outcome::Marks),
@@ -155,10 +183,16 @@ impl Simulation {
                 members,
             } => self.propose(alloc, layout, *brick, *group, members.as_slice()),
             Line::Sync { brick, group } => self.sync(alloc, layout, *brick, *group),
-            Line::Calm { operation, bricks } => {
-                self.calm(alloc, layout, *operation, bricks.as_slice())
-            }
+            Line::Calm { .. } => unreachable!(),
         }
+    }
+
+    /// The brick of a number, where there is one and it is up.
+    fn find_up(&self, layout: &Layout, number: u64) -> Option<BrickId>
+        requires { Stands layout.now self.now }
+        ensures { FindsUp self.now.bricks.items number result }
+    {
+        find_up(&self.bricks, layout, number)
     }
 
     /// Asks a brick for an operation.
@@ -171,12 +205,11 @@ impl Simulation {
         stripe: u64,
         access: &Access,
     ) -> Result<Outcome, NoMem>
-        requires nodes { AreNodesOf layout.now self.old.bricks.items }
-        requires bricks { vec_len self.old.bricks ≡ layout.now.bricks }
+        requires { Stands layout.now self.old }
         ensures ok { IfOk result (TakesEvent layout.now self.old self.new (Invokes (brick_of brick) (ask_of group stripe (op_of access.now)))) }
         ensures err { OnErr result (StaysAs layout.now self.old self.new) }
     {
-        let brick = match find_up(&self.bricks, layout, brick) {
+        let brick = match self.find_up(layout, brick) {
             Some(brick) => brick,
             None => return Ok(Outcome::Refused(Refusal::Down)),
         };
@@ -196,7 +229,8 @@ impl Simulation {
         brick: BrickId,
         ask: Ask,
     ) -> Result<Outcome, NoMem>
-        requires { IsUp self.old.bricks.items brick }
+        requires up { IsUp self.old.bricks.items brick }
+        requires stands { Stands layout.now self.old }
         ensures ok { IfOk result (TakesEvent layout.now self.old self.new (Invokes brick ask)) }
         ensures err { OnErr result (StaysAs layout.now self.old self.new) }
     {
@@ -222,12 +256,11 @@ impl Simulation {
         group: u64,
         members: &[u64],
     ) -> Result<Outcome, NoMem>
-        requires nodes { AreNodesOf layout.now self.old.bricks.items }
-        requires bricks { vec_len self.old.bricks ≡ layout.now.bricks }
+        requires { Stands layout.now self.old }
         ensures ok { IfOk result (TakesEvent layout.now self.old self.new (Proposes (brick_of brick) (group_no group) (map member_no members.now))) }
         ensures err { OnErr result (StaysAs layout.now self.old self.new) }
     {
-        let brick = match find_up(&self.bricks, layout, brick) {
+        let brick = match self.find_up(layout, brick) {
             Some(brick) => brick,
             None => return Ok(Outcome::Refused(Refusal::Down)),
         };
@@ -248,7 +281,8 @@ impl Simulation {
         group: GroupId,
         members: &[BrickId],
     ) -> Result<Outcome, NoMem>
-        requires { IsUp self.old.bricks.items brick }
+        requires up { IsUp self.old.bricks.items brick }
+        requires stands { Stands _layout.now self.old }
         ensures ok { IfOk result (TakesEvent _layout.now self.old self.new (Proposes brick group members.now)) }
         ensures err { OnErr result (StaysAs _layout.now self.old self.new) }
     {
@@ -272,12 +306,11 @@ impl Simulation {
         brick: u64,
         group: u64,
     ) -> Result<Outcome, NoMem>
-        requires nodes { AreNodesOf layout.now self.old.bricks.items }
-        requires bricks { vec_len self.old.bricks ≡ layout.now.bricks }
+        requires { Stands layout.now self.old }
         ensures ok { IfOk result (TakesEvent layout.now self.old self.new (Syncs (brick_of brick) (group_no group))) }
         ensures err { OnErr result (StaysAs layout.now self.old self.new) }
     {
-        let brick = match find_up(&self.bricks, layout, brick) {
+        let brick = match self.find_up(layout, brick) {
             Some(brick) => brick,
             None => return Ok(Outcome::Refused(Refusal::Down)),
         };
@@ -296,7 +329,8 @@ impl Simulation {
         brick: BrickId,
         group: GroupId,
     ) -> Result<Outcome, NoMem>
-        requires { IsUp self.old.bricks.items brick }
+        requires up { IsUp self.old.bricks.items brick }
+        requires stands { Stands _layout.now self.old }
         ensures ok { IfOk result (TakesEvent _layout.now self.old self.new (Syncs brick group)) }
         ensures err { OnErr result (StaysAs _layout.now self.old self.new) }
     {
@@ -320,8 +354,7 @@ impl Simulation {
         message: u64,
         fault: Option<Fault>,
     ) -> Result<Outcome, NoMem>
-        requires nodes { AreNodesOf layout.now self.old.bricks.items }
-        requires bricks { vec_len self.old.bricks ≡ layout.now.bricks }
+        requires { Stands layout.now self.old }
         ensures ok { IfOk result (RunsLine layout.now self.old self.new (Deliver message fault)) }
         ensures err { OnErr result (StaysAs layout.now self.old self.new) }
     {
@@ -353,7 +386,7 @@ impl Simulation {
 
     /// Sets a brick's clock.
     fn set_clock(&mut self, layout: &Layout, brick: u64, time: u64) -> Outcome
-        requires { vec_len self.old.bricks ≡ layout.now.bricks }
+        requires { Stands layout.now self.old }
         ensures { TakesEvent layout.now self.old self.new (Sets (brick_of brick) time) result }
     {
         if brick >= u64::from(layout.bricks()) {
@@ -366,12 +399,11 @@ impl Simulation {
 
     /// A brick's clock ticks: it sends again what its open operations, its proposal and its synchronisation wait for.
     fn tick(&mut self, layout: &Layout, brick: u64) -> Result<Outcome, NoMem>
-        requires nodes { AreNodesOf layout.now self.old.bricks.items }
-        requires bricks { vec_len self.old.bricks ≡ layout.now.bricks }
+        requires { Stands layout.now self.old }
         ensures ok { IfOk result (TakesEvent layout.now self.old self.new (Ticks (brick_of brick))) }
         ensures err { OnErr result (StaysAs layout.now self.old self.new) }
     {
-        let brick = match find_up(&self.bricks, layout, brick) {
+        let brick = match self.find_up(layout, brick) {
             Some(brick) => brick,
             None => return Ok(Outcome::Idle),
         };
@@ -382,12 +414,11 @@ impl Simulation {
 
     /// A brick stops: its open operations, its proposal and its synchronisation are gone, and what it keeps of stripes, views and ballots stays.
     fn crash(&mut self, alloc: Global, layout: &Layout, brick: u64) -> Result<Outcome, NoMem>
-        requires nodes { AreNodesOf layout.now self.old.bricks.items }
-        requires bricks { vec_len self.old.bricks ≡ layout.now.bricks }
+        requires { Stands layout.now self.old }
         ensures ok { IfOk result (TakesEvent layout.now self.old self.new (Stops (brick_of brick) None)) }
         ensures err { OnErr result (StaysAs layout.now self.old self.new) }
     {
-        let brick = match find_up(&self.bricks, layout, brick) {
+        let brick = match self.find_up(layout, brick) {
             Some(brick) => brick,
             None => return Ok(Outcome::Idle),
         };
@@ -405,8 +436,7 @@ impl Simulation {
         brick: u64,
         fault: Option<Fault>,
     ) -> Result<Outcome, NoMem>
-        requires nodes { AreNodesOf layout.now self.old.bricks.items }
-        requires bricks { vec_len self.old.bricks ≡ layout.now.bricks }
+        requires { Stands layout.now self.old }
         ensures ok { IfOk result (RunsLine layout.now self.old self.new (Start brick fault)) }
         ensures err { OnErr result (StaysAs layout.now self.old self.new) }
     {
@@ -434,9 +464,9 @@ impl Simulation {
         mark: u64,
         bricks: &[u64],
     ) -> Result<Outcome, NoMem>
-        requires { IsReachable layout.now self.old }
-        ensures ok { IfOk result (RunsLine layout.now self.old self.new (Calm mark bricks.now)) }
-        ensures err { OnErr result (RefusesLine layout.now self.old self.new (Calm mark bricks.now)) }
+        requires { Stands layout.now self.old }
+        ensures ok { IfOk result (GoesOn layout.now self.old self.new (Calm mark bricks.now)) }
+        ensures err { OnErr result (StopsShort layout.now self.old self.new (Calm mark bricks.now)) }
     {
         self.history.chain_sent();
         let operation = self.history.number_marked(mark);
@@ -460,7 +490,7 @@ impl Simulation {
         operation: u64,
         bricks: &[u64],
     ) -> Result<bool, NoMem>
-        requires { IsReachable layout.now self.old }
+        requires { MayRun layout.now self.old operation bricks.now }
         ensures run { IfOk result (RunsAloneTo layout.now self.old self.new operation bricks.now) }
         ensures cut { OnErr result (BeginsAloneTo layout.now self.old self.new operation bricks.now) }
     {
@@ -482,19 +512,17 @@ impl Simulation {
     }
 
     /// Delivers the message of a number to an operation that runs alone, and chains what its receiver sends.
-    fn deliver_alone(
-        &mut self,
-        alloc: Global,
-        layout: &Layout,
-        message: u64,
-    ) -> Result<Outcome, NoMem>
-        requires nodes { AreNodesOf layout.now self.old.bricks.items }
-        requires bricks { vec_len self.old.bricks ≡ layout.now.bricks }
-        ensures ok { IfOk result (RunsLine layout.now self.old self.new (Deliver message None)) }
+    fn deliver_alone(&mut self, alloc: Global, layout: &Layout, message: u64) -> Result<(), NoMem>
+        requires { Stands layout.now self.old }
+        ensures ok { OnOk result (DeliversAlone layout.now self.old self.new message) }
         ensures err { OnErr result (StaysAs layout.now self.old self.new) }
     {
-        let outcome = self.deliver(alloc, layout, message, None)?;
+        let line = Line::Deliver {
+            message,
+            fault: None,
+        };
+        self.take(alloc, layout, &line)?;
         self.history.chain_sent();
-        Ok(outcome)
+        Ok(())
     }
 }

@@ -1,21 +1,21 @@
-//! The steps that a world took. They stand in proofs alone, and take no memory.
+//! How far a simulation has come. It stands in proofs alone, and takes no memory.
 
 ghost use Rattle.std.specs.Prelude.{List};
 ghost use Rattle.std.specs.Borrow.{ftrue};
 ghost use Rattle.std.specs.Coded.{coded_list};
 ghost use Rattle.fab_disk.specs.declared.mem_disk.MemDisk.{MemDisk};
 ghost use Rattle.fab_disk.specs.contracts.mem_disk.MemDisk as disk;
-ghost use Rattle.world.specs.Runs.{Step};
+ghost use Rattle.world.specs.Runs.{Course};
 
 use crate::simulations::{Outcome, Simulation};
 use layout::Layout;
 use lines::Line;
 use std::marker::Model;
 
-/// The steps so far. It has no bytes.
+/// How far a simulation has come. It has no bytes.
 #[derive(Drop)]
 pub struct Trail {
-    pub ghost steps: { List Step },
+    pub ghost course: { Course },
 }
 
 impl Model for Trail {
@@ -49,17 +49,17 @@ impl Shelf {
 impl Trail {
     ghost use Rattle.std.specs.Prelude.{◌≡◌, [], ◌∷◌, ◌++◌};
     ghost use Rattle.protocol.specs.Worlds.{Event};
-    ghost use Rattle.world.specs.Runs.{world_of};
-    ghost use Rattle.world.specs.Shown.{Comes, ComesTo, Leaves};
+    ghost use Rattle.world.specs.Runs.{with_events, world_at};
+    ghost use Rattle.world.specs.Shown.{Comes, ComesTo};
 
     /// No step yet.
     pub fn new() -> Trail
-        ensures { result.steps ≡ [] }
+        ensures { result.course ≡ record { steps = []; events = [] } }
     {
         Trail {}
     }
 
-    /// One step more, of a line: which events it is was decided by the disks.
+    /// The events more that a line is: which they are was decided by the disks.
     pub fn with(
         _before: &Trail,
         _shelf: &Shelf,
@@ -68,32 +68,18 @@ impl Trail {
         _outcome: &Outcome,
         _state: &Simulation,
     ) -> Trail
-        requires { Comes _layout.now
-            (world_of (record { layout = _layout.now; steps = _before.now.steps; disks = _shelf.now.disks }))
-            _shelf.now.disks _state.now _line.now _outcome.now }
-        ensures { (events : List Event) × ComesTo _layout.now
-            (world_of (record { layout = _layout.now; steps = _before.now.steps; disks = _shelf.now.disks }))
-            _shelf.now.disks _state.now _line.now _outcome.now events
-            × (result.steps ≡ _before.now.steps ++ record { line = _line.now; events = events } ∷ []) }
+        requires { Comes _layout.now (world_at _layout.now _before.now.course) _shelf.now.disks _state.now _line.now _outcome.now }
+        ensures { (events : List Event)
+            × ComesTo _layout.now (world_at _layout.now _before.now.course) _shelf.now.disks _state.now _line.now _outcome.now events
+            × (result.course ≡ with_events _before.now.course events) }
     {
         Trail {}
     }
 
-    /// What a line adds for which no memory was left: no step, or one that was cut short.
-    pub fn left(
-        _before: &Trail,
-        _shelf: &Shelf,
-        _layout: &Layout,
-        _line: &Line,
-        _state: &Simulation,
-    ) -> Trail
-        requires { (steps : List Step) × Leaves _layout.now
-            (world_of (record { layout = _layout.now; steps = _before.now.steps; disks = _shelf.now.disks }))
-            _shelf.now.disks _state.now _line.now steps }
-        ensures { (steps : List Step) × Leaves _layout.now
-            (world_of (record { layout = _layout.now; steps = _before.now.steps; disks = _shelf.now.disks }))
-            _shelf.now.disks _state.now _line.now steps
-            × (result.steps ≡ _before.now.steps ++ steps) }
+    /// A line was run, to its end or as far as memory lasted: its events are a step.
+    pub fn ended(_before: &Trail, _line: &Line) -> Trail
+        ensures { result.course
+            ≡ record { steps = _before.now.course.steps ++ record { line = _line.now; events = _before.now.course.events } ∷ []; events = [] } }
     {
         Trail {}
     }

@@ -7,7 +7,7 @@ use crate::bricks::Power;
 use crate::simulations::{Outcome, Simulation};
 use crate::stripe_entries::StripeEntries;
 use crate::texts::{idle_text, marks_text, reports_text};
-use crate::trails::{Shelf, Trail};
+use crate::trails::Trail;
 use crate::walks;
 use fab_base::{BrickId, Bytes, GroupId, NoMem, Refusal, StripeNo, View};
 use layout::Layout;
@@ -25,7 +25,6 @@ pub struct World {
     alloc: Global,
     layout: Layout,
     simulation: Simulation,
-    trail: Trail,
 }
 
 impl Model for World {
@@ -52,7 +51,6 @@ impl Drop for World {
             alloc: _,
             layout: _,
             simulation: _,
-            trail: _,
         } = self;
     }
 }
@@ -121,7 +119,6 @@ impl World {
             alloc,
             layout,
             simulation,
-            trail: Trail::new(),
         })
     }
 
@@ -174,28 +171,23 @@ impl World {
     /// Runs a line.
     fn run(&mut self, line: &Line) -> Result<Outcome, NoMem>
         ensures ok { IfOk result (λ outcome. RunsTo self.old self.new line.now outcome) }
-        ensures marks { OnOk result (length (world_of self.old).marks ≤ length (world_of self.new).marks) }
-        ensures reports { OnOk result (length (world_of self.old).choices.reports ≤ length (world_of self.new).choices.reports) }
+        ensures grow { OnOk result ((length (world_of self.old).marks ≤ length (world_of self.new).marks)
+            × (length (world_of self.old).choices.reports ≤ length (world_of self.new).choices.reports)) }
         ensures err { OnErr result (LeavesSome self.old self.new line.now) }
         ensures disks { ShowsDisks self.new }
     {
-        let shelf = Shelf::of(&self.simulation);
         match self.simulation.run(self.alloc, &self.layout, line) {
             Ok(outcome) => {
-                self.trail = Trail::with(
-                    &self.trail,
-                    &shelf,
-                    &self.layout,
-                    line,
-                    &outcome,
-                    &self.simulation,
-                );
+                self.simulation.trail = Trail::ended(&self.simulation.trail, line);
                 Ok(outcome)
             }
-            Err(refused) => {
-                self.trail = Trail::left(&self.trail, &shelf, &self.layout, line, &self.simulation);
-                Err(refused)
-            }
+            Err(refused) => match line {
+                Line::Calm { .. } => {
+                    self.simulation.trail = Trail::ended(&self.simulation.trail, line);
+                    Err(refused)
+                }
+                _ => Err(refused),
+            },
         }
     }
 

@@ -6,8 +6,5 @@ use Rattle.world.proofs.simulations.group_of.Goals as goal
 
 pub returns-else-group-group_count-clause-none : goal.returns-else-group-group_count-clause-none
 returns-else-group-group_count-clause-none c node =
-    unproposed_no_group c.args.layout.now c.args.group node (slice_get_past c.args.layout.now.groups c.args.group (omega (arith, c.group_count.ensures.value, c.if-group-group_count.false)))
-
-pub returns-else-group-group_count-clause-unsynced : goal.returns-else-group-group_count-clause-unsynced
-returns-else-group-group_count-clause-unsynced c node =
-    unsynced_no_group c.args.layout.now c.args.group node (slice_get_past c.args.layout.now.groups c.args.group (omega (arith, c.group_count.ensures.value, c.if-group-group_count.false)))
+    let past = slice_get_past c.args.layout.now.groups c.args.group (omega (arith, c.group_count.ensures.value, c.if-group-group_count.false)) in
+    (unproposed_no_group c.args.layout.now c.args.group node past, unsynced_no_group c.args.layout.now c.args.group node past)

@@ -8,49 +8,48 @@ use Rattle.node.specs.declared.faults.NodeFault.{NodeFault}
 use Rattle.node.specs.declared.faults.NodeFault.TheVariants.{Refused}
 use Rattle.protocol.specs.Settings.{Setting}
 use Rattle.protocol.specs.Nodes.{Node, NodeStep, put, invoked}
-use Rattle.protocol.specs.Worlds.{is_brick}
+use Rattle.protocol.specs.Worlds.{World, is_brick}
 use Rattle.world.specs.BrickSteps.{ChangesBrick, RunsOn, DoesBegin}
-use Rattle.world.specs.Shown.{IsUp, ShowsBricks, running_at, seqs_of}
+use Rattle.world.specs.Shown.{IsUp, ShowsBricks, running_at, seqs_of, world_in}
 use Rattle.world.specs.declared.bricks.Brick.{Brick}
 use Rattle.world.specs.Texts.{refused_or_begun}
 use Rattle.world.proofs.MachineBegins.{refusal_here, invoked_boot, invoked_next, happens_refused}
 use Rattle.fab_disk.specs.MemDisk.{content_of}
 use Rattle.fab_disk.specs.declared.mem_disk.MemDisk.{MemDisk}
-use Rattle.world.proofs.BrickListLemmas.{boots_as, disks_on, shows_on, shows_unput, up_there}
+use Rattle.world.proofs.BrickListLemmas.{boots_as, disks_on, shows_on, up_there}
 use Rattle.world.proofs.HistoryLemmas.{tells_began, tells_same}
-use Rattle.world.proofs.SimulationLemmas.{on_err_always, shows_begun, shows_still}
+use Rattle.world.proofs.SimulationLemmas.{on_err_always, shows_asked, shows_begun, shows_still, stays_alike}
 use Rattle.world.proofs.simulations.Simulation.begin.Goals as goal
 
 pub ask_brick-requires : goal.ask_brick-requires
-ask_brick-requires c = c.requires
+ask_brick-requires c = c.requires.up
 
 pub boot_of-boot-requires : goal.boot_of-boot-requires
-boot_of-boot-requires c = subst (λ (bricks : List Brick). IsUp bricks c.args.brick) (sym c.deref.ensures.value) c.requires
+boot_of-boot-requires c = subst (λ (bricks : List Brick). IsUp bricks c.args.brick) (sym c.deref.ensures.value) c.requires.up
 
 -- the room that was made tells nothing
 pub returns-in_err-expect_call-clause-err : goal.returns-in_err-expect_call-clause-err
 returns-in_err-expect_call-clause-err c =
-    on_err_always c.from_residual.result
-    (record {
-      shows = λ w shows. record { bricks = shows.bricks; history = tells_same (seqs_of w) _ _ w c.expect_call.ensures.same shows.history };
-      contents = refl;
-    })
+    on_err_always c.from_residual.result (stays_alike c.args.layout.now c.args.self.now _ c.expect_call.ensures.same c.requires.stands)
 
 pub returns-in-Ok-clause-ok : goal.returns-in-Ok-clause-ok
 returns-in-Ok-clause-ok c =
     let layout = c.args.layout.now in
     let brick = c.args.brick in
     let setting : Setting = coding layout in
+    let w : World = world_in layout c.args.self.now in
+    let shows = c.requires.stands in
+    let did = shows_on w (DoesBegin c.args.ask (Ok c.in-Ok.begun)) shows.bricks c.in-Ok.ensures.asks in
     record {
-      shows = λ w reached shows.
+      trail = refl;
+      shows =
           (let node : Node = w.nodes brick.0 in
           let step : NodeStep = invoked setting brick (w.clocks brick.0) node c.args.ask in
-          let did = shows_on w (DoesBegin c.args.ask (Ok c.in-Ok.begun)) shows.bricks c.in-Ok.ensures.asks in
           let begun = did.holds.begun in
-          let up = up_there layout _ w _ c.requires shows.bricks in
+          let up = up_there layout _ w _ c.requires.up shows.bricks in
           let boot : step.node.boot ≡ node.boot = invoked_boot setting brick (w.clocks brick.0) node c.args.ask in
           let was : c.boot_of-boot.result ≡ node.boot =
-          boots_as layout c.args.self.now.bricks.items w brick c.boot_of-boot.result c.requires
+          boots_as layout c.args.self.now.bricks.items w brick c.boot_of-boot.result c.requires.up
           (subst (λ (bricks : List Brick). IfSome (running_at bricks brick.0) (λ one. c.boot_of-boot.result ≡ (state_of one).boot))
           c.deref.ensures.value c.boot_of-boot.ensures) shows.bricks in
           shows_begun layout _ w brick c.args.ask up did.holds.refused
@@ -58,9 +57,9 @@ returns-in-Ok-clause-ok c =
           (tells_began c.expect_call.new.self c.begin.new.self w brick c.boot_of-boot.result c.args.ask c.in-Ok.begun step
           (tells_same (seqs_of w) _ _ w c.expect_call.ensures.same shows.history) (and_parts (is_brick layout brick) (w.up brick.0) up).1
           begun.packets (was ∙ sym boot) begun.seq boot (invoked_next setting brick (w.clocks brick.0) node c.args.ask did.holds.refused) c.begin.ensures));
-      outcome_is = λ w shows.
-          sym (ap refused_or_begun (refusal_here setting w brick c.args.ask (up_there layout _ w _ c.requires shows.bricks)
-          ∙ (shows_on w (DoesBegin c.args.ask (Ok c.in-Ok.begun)) shows.bricks c.in-Ok.ensures.asks).holds.refused));
+      outcome_is =
+          sym (ap refused_or_begun (refusal_here setting w brick c.args.ask (up_there layout _ w _ c.requires.up shows.bricks)
+          ∙ did.holds.refused));
       disks = disks_on (DoesBegin c.args.ask (Ok c.in-Ok.begun)) c.in-Ok.ensures.asks;
     }
 
@@ -70,17 +69,14 @@ returns-in-Err-Refused-clause-ok c =
     let brick = c.args.brick in
     let asks = subst (λ (fault : NodeFault). ChangesBrick c.args.self.now.bricks.items c.ask_brick.new.bricks.items brick (RunsOn (DoesBegin c.args.ask (Err fault))))
     c.in-Err-Refused.field-0-is c.in-Err-Refused.ensures.asks in
+    let w : World = world_in layout c.args.self.now in
+    let did = shows_on w (DoesBegin c.args.ask (Err (Refused c.in-Err-Refused.refusal))) c.requires.stands.bricks asks in
     record {
-      shows = λ w reached shows.
-          (let did = shows_on w (DoesBegin c.args.ask (Err (Refused c.in-Err-Refused.refusal))) shows.bricks asks in
-          shows_still layout _ w _ (happens_refused (coding layout) w brick c.args.ask c.in-Err-Refused.refusal did.holds.refused)
-          (record {
-            bricks = shows_unput layout _ brick.0 w did.next did.holds.stays did.bricks;
-            history = tells_same (seqs_of w) _ _ w c.expect_call.ensures.same shows.history;
-          }));
-      outcome_is = λ w shows.
-          (let did = shows_on w (DoesBegin c.args.ask (Err (Refused c.in-Err-Refused.refusal))) shows.bricks asks in
-          rw c.in-Err-Refused.field-0-is (sym (ap refused_or_begun (refusal_here (coding layout) w brick c.args.ask (up_there layout _ w _ c.requires shows.bricks) ∙ did.holds.refused))));
+      trail = refl;
+      shows = shows_still layout _ w _ (happens_refused (coding layout) w brick c.args.ask c.in-Err-Refused.refusal did.holds.refused)
+          (shows_asked layout c.args.self.now _ w brick did.next did.holds.stays did.bricks c.expect_call.ensures.same c.requires.stands);
+      outcome_is =
+          rw c.in-Err-Refused.field-0-is (sym (ap refused_or_begun (refusal_here (coding layout) w brick c.args.ask (up_there layout _ w _ c.requires.up c.requires.stands.bricks) ∙ did.holds.refused)));
       disks = disks_on (DoesBegin c.args.ask (Err (Refused c.in-Err-Refused.refusal))) asks;
     }
 
@@ -88,14 +84,11 @@ pub returns-in-Err-NoMemory-clause-err : goal.returns-in-Err-NoMemory-clause-err
 returns-in-Err-NoMemory-clause-err c =
     let layout = c.args.layout.now in
     let brick = c.args.brick in
+    let w : World = world_in layout c.args.self.now in
+    let did = shows_on w (DoesBegin c.args.ask (Err c.in-Err-NoMemory.field-0)) c.requires.stands.bricks c.in-Err-NoMemory.ensures.asks in
     record {
-      shows = λ w shows.
-          (let did = shows_on w (DoesBegin c.args.ask (Err c.in-Err-NoMemory.field-0)) shows.bricks
-          c.in-Err-NoMemory.ensures.asks in
-          record {
-            bricks = shows_unput layout _ brick.0 w did.next did.holds.stays did.bricks;
-            history = tells_same (seqs_of w) _ _ w c.expect_call.ensures.same shows.history;
-          });
+      trail = refl;
+      shows = shows_asked layout c.args.self.now _ w brick did.next did.holds.stays did.bricks c.expect_call.ensures.same c.requires.stands;
       contents = ap (λ (disks : List MemDisk). map content_of disks)
           (disks_on (DoesBegin c.args.ask (Err c.in-Err-NoMemory.field-0)) c.in-Err-NoMemory.ensures.asks);
     }

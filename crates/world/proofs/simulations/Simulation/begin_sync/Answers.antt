@@ -9,48 +9,47 @@ use Rattle.node.specs.declared.faults.NodeFault.{NodeFault}
 use Rattle.node.specs.declared.faults.NodeFault.TheVariants.{Refused}
 use Rattle.protocol.specs.Settings.{Setting}
 use Rattle.protocol.specs.Nodes.{Node, NodeStep, put, synced_at}
-use Rattle.protocol.specs.Worlds.{is_brick}
+use Rattle.protocol.specs.Worlds.{World, is_brick}
 use Rattle.world.specs.Texts.{refused_or_begun}
 use Rattle.world.specs.BrickSteps.{ChangesBrick, RunsOn, DoesSync}
-use Rattle.world.specs.Shown.{ShowsBricks, seqs_of}
-use Rattle.world.proofs.BrickListLemmas.{disks_on, shows_on, shows_unput, up_there}
+use Rattle.world.specs.Shown.{ShowsBricks, seqs_of, world_in}
+use Rattle.world.proofs.BrickListLemmas.{disks_on, shows_on, up_there}
 use Rattle.world.proofs.HistoryLemmas.{tells_same}
 use Rattle.world.proofs.HearingLemmas.{tells_step}
 use Rattle.world.proofs.MachineBegins.{unsynced_here, happens_unsynced}
 use Rattle.world.proofs.MachineSteps.{synced_opens_reads}
-use Rattle.world.proofs.SimulationLemmas.{on_err_always, shows_synced, shows_still}
+use Rattle.world.proofs.SimulationLemmas.{on_err_always, shows_asked, shows_synced, shows_still, stays_alike}
 use Rattle.world.proofs.simulations.Simulation.begin_sync.Goals as goal
 
 pub ask_to_sync-requires : goal.ask_to_sync-requires
-ask_to_sync-requires c = c.requires
+ask_to_sync-requires c = c.requires.up
 
 -- the room that was made tells nothing
 pub returns-in_err-expect_call-clause-err : goal.returns-in_err-expect_call-clause-err
 returns-in_err-expect_call-clause-err c =
-    on_err_always c.from_residual.result
-    (record {
-      shows = λ w shows. record { bricks = shows.bricks; history = tells_same (seqs_of w) _ _ w c.expect_call.ensures.same shows.history };
-      contents = refl;
-    })
+    on_err_always c.from_residual.result (stays_alike c.args._layout.now c.args.self.now _ c.expect_call.ensures.same c.requires.stands)
 
 pub returns-in-Ok-clause-ok : goal.returns-in-Ok-clause-ok
 returns-in-Ok-clause-ok c =
     let layout = c.args._layout.now in
     let brick = c.args.brick in
     let setting : Setting = coding layout in
+    let w : World = world_in layout c.args.self.now in
+    let shows = c.requires.stands in
+    let did = shows_on w (DoesSync c.args.group (Ok c.in-Ok.outs)) shows.bricks c.in-Ok.ensures.asks in
     record {
-      shows = λ w reached shows.
+      trail = refl;
+      shows =
           (let step : NodeStep = synced_at setting brick (w.clocks brick.0) (w.nodes brick.0) c.args.group in
-          let did = shows_on w (DoesSync c.args.group (Ok c.in-Ok.outs)) shows.bricks c.in-Ok.ensures.asks in
-          let up = up_there layout _ w _ c.requires shows.bricks in
+          let up = up_there layout _ w _ c.requires.up shows.bricks in
           shows_synced layout _ w brick c.args.group up did.holds.refused
           (subst (λ (n : Node). ShowsBricks layout c.ask_to_sync.new.bricks.items (put w.nodes brick.0 n) w.after w.up w.clocks) did.holds.steps.state_is did.bricks)
           (tells_step setting c.expect_call.new.self c.step.new.self w brick c.in-Ok.outs did.next step
           (tells_same (seqs_of w) _ _ w c.expect_call.ensures.same shows.history) (and_parts (is_brick layout brick) (w.up brick.0) up).1
           (synced_opens_reads setting brick (w.clocks brick.0) (w.nodes brick.0) c.args.group) did.holds.steps c.step.ensures));
-      outcome_is = λ w shows.
-          sym (ap refused_or_begun (unsynced_here setting w brick c.args.group (up_there layout _ w _ c.requires shows.bricks)
-          ∙ (shows_on w (DoesSync c.args.group (Ok c.in-Ok.outs)) shows.bricks c.in-Ok.ensures.asks).holds.refused));
+      outcome_is =
+          sym (ap refused_or_begun (unsynced_here setting w brick c.args.group (up_there layout _ w _ c.requires.up shows.bricks)
+          ∙ did.holds.refused));
       disks = disks_on (DoesSync c.args.group (Ok c.in-Ok.outs)) c.in-Ok.ensures.asks;
     }
 
@@ -60,17 +59,14 @@ returns-in-Err-Refused-clause-ok c =
     let brick = c.args.brick in
     let asks = subst (λ (fault : NodeFault). ChangesBrick c.args.self.now.bricks.items c.ask_to_sync.new.bricks.items brick (RunsOn (DoesSync c.args.group (Err fault))))
     c.in-Err-Refused.field-0-is c.in-Err-Refused.ensures.asks in
+    let w : World = world_in layout c.args.self.now in
+    let did = shows_on w (DoesSync c.args.group (Err (Refused c.in-Err-Refused.refusal))) c.requires.stands.bricks asks in
     record {
-      shows = λ w reached shows.
-          (let did = shows_on w (DoesSync c.args.group (Err (Refused c.in-Err-Refused.refusal))) shows.bricks asks in
-          shows_still layout _ w _ (happens_unsynced (coding layout) w brick c.args.group c.in-Err-Refused.refusal did.holds.refused)
-          (record {
-            bricks = shows_unput layout _ brick.0 w did.next did.holds.stays did.bricks;
-            history = tells_same (seqs_of w) _ _ w c.expect_call.ensures.same shows.history;
-          }));
-      outcome_is = λ w shows.
-          (let did = shows_on w (DoesSync c.args.group (Err (Refused c.in-Err-Refused.refusal))) shows.bricks asks in
-          rw c.in-Err-Refused.field-0-is (sym (ap refused_or_begun (unsynced_here (coding layout) w brick c.args.group (up_there layout _ w _ c.requires shows.bricks) ∙ did.holds.refused))));
+      trail = refl;
+      shows = shows_still layout _ w _ (happens_unsynced (coding layout) w brick c.args.group c.in-Err-Refused.refusal did.holds.refused)
+          (shows_asked layout c.args.self.now _ w brick did.next did.holds.stays did.bricks c.expect_call.ensures.same c.requires.stands);
+      outcome_is =
+          rw c.in-Err-Refused.field-0-is (sym (ap refused_or_begun (unsynced_here (coding layout) w brick c.args.group (up_there layout _ w _ c.requires.up c.requires.stands.bricks) ∙ did.holds.refused)));
       disks = disks_on (DoesSync c.args.group (Err (Refused c.in-Err-Refused.refusal))) asks;
     }
 
@@ -78,14 +74,11 @@ pub returns-in-Err-NoMemory-clause-err : goal.returns-in-Err-NoMemory-clause-err
 returns-in-Err-NoMemory-clause-err c =
     let layout = c.args._layout.now in
     let brick = c.args.brick in
+    let w : World = world_in layout c.args.self.now in
+    let did = shows_on w (DoesSync c.args.group (Err c.in-Err-NoMemory.field-0)) c.requires.stands.bricks c.in-Err-NoMemory.ensures.asks in
     record {
-      shows = λ w shows.
-          (let did = shows_on w (DoesSync c.args.group (Err c.in-Err-NoMemory.field-0)) shows.bricks
-          c.in-Err-NoMemory.ensures.asks in
-          record {
-            bricks = shows_unput layout _ brick.0 w did.next did.holds.stays did.bricks;
-            history = tells_same (seqs_of w) _ _ w c.expect_call.ensures.same shows.history;
-          });
+      trail = refl;
+      shows = shows_asked layout c.args.self.now _ w brick did.next did.holds.stays did.bricks c.expect_call.ensures.same c.requires.stands;
       contents = ap (λ (disks : List MemDisk). map content_of disks)
           (disks_on (DoesSync c.args.group (Err c.in-Err-NoMemory.field-0)) c.in-Err-NoMemory.ensures.asks);
     }

@@ -21,7 +21,8 @@ use Rattle.protocol.specs.Worlds.{World, Operation, is_up}
 use Rattle.quorum.specs.Quorums.{q_of}
 use Rattle.world.specs.Deliveries.{IsUntouchedAt}
 use Rattle.world.specs.Runs.{brick_of}
-use Rattle.world.specs.Shown.{Shows, ShowsBricks, IsReachedBy, OpensAs, IsAble, IsInTime, open_record, open_view, node_view, running_at, node_knows_synced, may_ask_prior_at}
+use Rattle.world.specs.Shown.{Shows, ShowsBricks, IsReachedBy, OpensAs, IsAble, IsInTime, open_record, open_view, node_view, running_at, node_knows_synced, may_ask_prior_at, world_in}
+use Rattle.world.proofs.SimulationLemmas.{come_to}
 use Rattle.world.specs.declared.bricks.Brick.{Brick}
 use Rattle.world.specs.declared.histories.OperationRecord.{OperationRecord}
 use Rattle.world.specs.declared.simulations.Simulation.{Simulation}
@@ -62,28 +63,32 @@ view_here layout w state n kept found here shows is = is ∙ by_node (running_at
 
 -- an operation that is not open may not
 pub returns-in_default : goal.returns-in_default
-returns-in_default c w reached shows = (
-  λ on. absurd (let never : false ≡ true = on in cc),
-  λ calm. absurd (let never : None ≡ Some calm.coordinator = sym (opens_as c.args.layout.now w c.args.self.now c.args.operation _ c.in_default.ensures reached shows) ∙ calm.open_is in cc),
-)
+returns-in_default c =
+    let w : World = world_in c.args.layout.now c.args.self.now in (
+      λ on. absurd (let never : false ≡ true = on in cc),
+      λ calm. absurd (let never : None ≡ Some calm.coordinator = sym (opens_as c.args.layout.now w c.args.self.now c.args.operation _ c.in_default.ensures (come_to c.args.layout.now c.args.self.now) c.requires) ∙ calm.open_is in cc),
+    )
 
 -- it has a view
 pub returns-in_default-open_view : goal.returns-in_default-open_view
-returns-in_default-open_view c w reached shows =
-    let here = here_of c.args.layout.now w c.args.self.now c.args.operation c.in-Some.record reached shows c.in-Some.ensures in
+returns-in_default-open_view c =
+    let w : World = world_in c.args.layout.now c.args.self.now in
+    let here = here_of c.args.layout.now w c.args.self.now c.args.operation c.in-Some.record (come_to c.args.layout.now c.args.self.now) c.requires c.in-Some.ensures in
     absurd (let never : None ≡ Some (view_in here.coordinator) =
-    view_here c.args.layout.now w c.args.self.now c.args.operation c.in-Some.record None here shows c.in_default-open_view.ensures in cc)
+    view_here c.args.layout.now w c.args.self.now c.args.operation c.in-Some.record None here c.requires c.in_default-open_view.ensures in cc)
 
 -- there is its group
 pub returns-in_default-group : goal.returns-in_default-group
-returns-in_default-group c w reached shows =
-    let here = here_of c.args.layout.now w c.args.self.now c.args.operation c.in-Some.record reached shows c.in-Some.ensures in
-    let group = group_is c.args.layout.now w c.args.operation c.in-Some.record here c.bricks.ensures.limits reached in
+returns-in_default-group c =
+    let w : World = world_in c.args.layout.now c.args.self.now in
+    let here = here_of c.args.layout.now w c.args.self.now c.args.operation c.in-Some.record (come_to c.args.layout.now c.args.self.now) c.requires c.in-Some.ensures in
+    let group = group_is c.args.layout.now w c.args.operation c.in-Some.record here c.bricks.ensures.limits (come_to c.args.layout.now c.args.self.now) in
     absurd (let never : None ≡ Some group.0 = c.in_default-group.ensures.found ∙ group.1 in cc)
 
 pub returns-then-not-are_distinct : goal.returns-then-not-are_distinct
-returns-then-not-are_distinct c w reached shows =
-    let here = here_of c.args.layout.now w c.args.self.now c.args.operation c.in-Some.record reached shows c.in-Some.ensures in
+returns-then-not-are_distinct c =
+    let w : World = world_in c.args.layout.now c.args.self.now in
+    let here = here_of c.args.layout.now w c.args.self.now c.args.operation c.in-Some.record (come_to c.args.layout.now c.args.self.now) c.requires c.in-Some.ensures in
     against _ c.are_distinct.result c.if-not-are_distinct.true
     (λ calm. c.are_distinct.ensures.1 (parts_of c.args.layout.now w c.args.operation c.args.bricks.now here.coordinator here.opens here.at here.up calm).distinct)
 
@@ -153,29 +158,32 @@ module _ (layout : Layout) (w : World) (n : ℕ) (kept : OperationRecord) (view 
       ∙ ap (λ (g : ℕ). nat_lt 1 coordinator.stamp.view.0 && not (list_any (knows_synced w g) (map brick_of numbers))) group_same
 
 pub returns-then-not-has_quorum : goal.returns-then-not-has_quorum
-returns-then-not-has_quorum c w reached shows =
+returns-then-not-has_quorum c =
+    let w : World = world_in c.args.layout.now c.args.self.now in
     let found = found_of c.args.layout.now w c.args.self.now c.args.operation c.in-Some.record c.in-Some-open_view.view c.in-Some-group.group.now c.m.result
-    c.bricks.ensures.limits reached shows c.in-Some.ensures c.in-Some-open_view.ensures c.in-Some-group.ensures.found c.m.ensures in
+    c.bricks.ensures.limits (come_to c.args.layout.now c.args.self.now) c.requires c.in-Some.ensures c.in-Some-open_view.ensures c.in-Some-group.ensures.found c.m.ensures in
     against _ c.has_quorum.result c.if-not-has_quorum.true
     (λ calm. c.has_quorum.ensures.1 (enough_as _ _ _ _ c.args.bricks.now (sym found.m_is) (sym (members_is _ _ _ _ _ _ found))
     (parts_of c.args.layout.now w c.args.operation c.args.bricks.now found.here.coordinator found.here.opens found.here.at found.here.up calm).members))
 
 pub returns-then-not-is_in_time : goal.returns-then-not-is_in_time
-returns-then-not-is_in_time c w reached shows =
-    let here = here_of c.args.layout.now w c.args.self.now c.args.operation c.in-Some.record reached shows c.in-Some.ensures in
+returns-then-not-is_in_time c =
+    let w : World = world_in c.args.layout.now c.args.self.now in
+    let here = here_of c.args.layout.now w c.args.self.now c.args.operation c.in-Some.record (come_to c.args.layout.now c.args.self.now) c.requires c.in-Some.ensures in
     let bricks : ShowsBricks c.args.layout.now c.deref.result.now w.nodes w.after w.up w.clocks =
-    subst (λ (l : List Brick). ShowsBricks c.args.layout.now l w.nodes w.after w.up w.clocks) (sym c.deref.ensures.value) shows.bricks in
+    subst (λ (l : List Brick). ShowsBricks c.args.layout.now l w.nodes w.after w.up w.clocks) (sym c.deref.ensures.value) c.requires.bricks in
     against _ c.is_in_time.result c.if-not-is_in_time.true
     (λ calm. c.is_in_time.ensures.1 ((in_time_shown c.args.layout.now c.deref.result.now w c.from.result bricks).1
     (subst (λ (b : ℕ). IsInTime c.args.layout.now w b) (sym (c.from.ensures ∙ ap (λ (b : BrickId). b.0) here.same.brick))
     (parts_of c.args.layout.now w c.args.operation c.args.bricks.now here.coordinator here.opens here.at here.up calm).in_time)))
 
 pub returns-then-not-are_able : goal.returns-then-not-are_able
-returns-then-not-are_able c w reached shows =
+returns-then-not-are_able c =
+    let w : World = world_in c.args.layout.now c.args.self.now in
     let found = found_of c.args.layout.now w c.args.self.now c.args.operation c.in-Some.record c.in-Some-open_view.view c.in-Some-group.group.now c.m.result
-    c.bricks.ensures.limits reached shows c.in-Some.ensures c.in-Some-open_view.ensures c.in-Some-group.ensures.found c.m.ensures in
+    c.bricks.ensures.limits (come_to c.args.layout.now c.args.self.now) c.requires c.in-Some.ensures c.in-Some-open_view.ensures c.in-Some-group.ensures.found c.m.ensures in
     let bricks : ShowsBricks c.args.layout.now c.deref-2.result.now w.nodes w.after w.up w.clocks =
-    subst (λ (l : List Brick). ShowsBricks c.args.layout.now l w.nodes w.after w.up w.clocks) (sym c.deref-2.ensures.value) shows.bricks in
+    subst (λ (l : List Brick). ShowsBricks c.args.layout.now l w.nodes w.after w.up w.clocks) (sym c.deref-2.ensures.value) c.requires.bricks in
     against _ c.are_able.result c.if-not-are_able.true
     (λ calm. c.are_able.ensures.1 (λ k number at.
     (able_shown c.args.layout.now c.in-Some.record.group.0 c.in-Some-open_view.view.number.0 c.deref-2.result.now w number bricks).1
@@ -183,11 +191,12 @@ returns-then-not-are_able c w reached shows =
     ((parts_of c.args.layout.now w c.args.operation c.args.bricks.now found.here.coordinator found.here.opens found.here.at found.here.up calm).able k number at))))
 
 pub returns-then-not-has_prior_quorum : goal.returns-then-not-has_prior_quorum
-returns-then-not-has_prior_quorum c w reached shows =
+returns-then-not-has_prior_quorum c =
+    let w : World = world_in c.args.layout.now c.args.self.now in
     let found = found_of c.args.layout.now w c.args.self.now c.args.operation c.in-Some.record c.in-Some-open_view.view c.in-Some-group.group.now c.m-2.result
-    c.bricks.ensures.limits reached shows c.in-Some.ensures c.in-Some-open_view.ensures c.in-Some-group.ensures.found c.m-2.ensures in
+    c.bricks.ensures.limits (come_to c.args.layout.now c.args.self.now) c.requires c.in-Some.ensures c.in-Some-open_view.ensures c.in-Some-group.ensures.found c.m-2.ensures in
     let bricks : ShowsBricks c.args.layout.now c.deref-3.result.now w.nodes w.after w.up w.clocks =
-    subst (λ (l : List Brick). ShowsBricks c.args.layout.now l w.nodes w.after w.up w.clocks) (sym c.deref-3.ensures.value) shows.bricks in
+    subst (λ (l : List Brick). ShowsBricks c.args.layout.now l w.nodes w.after w.up w.clocks) (sym c.deref-3.ensures.value) c.requires.bricks in
     against _ c.has_prior_quorum.result c.if-not-has_prior_quorum.true
     (λ calm.
     let parts = parts_of c.args.layout.now w c.args.operation c.args.bricks.now found.here.coordinator found.here.opens found.here.at found.here.up calm in
@@ -195,22 +204,23 @@ returns-then-not-has_prior_quorum c w reached shows =
     (parts.prior (sym (may_as _ _ _ _ _ _ found c.deref-3.result.now c.args.bricks.now bricks (λ k number at. (parts.able k number at).up)) ∙ may))))
 
 pub returns : goal.returns
-returns c w reached shows =
+returns c =
+    let w : World = world_in c.args.layout.now c.args.self.now in
     let found = found_of c.args.layout.now w c.args.self.now c.args.operation c.in-Some.record c.in-Some-open_view.view c.in-Some-group.group.now c.m.result
-    c.bricks.ensures.limits reached shows c.in-Some.ensures c.in-Some-open_view.ensures c.in-Some-group.ensures.found c.m.ensures in
+    c.bricks.ensures.limits (come_to c.args.layout.now c.args.self.now) c.requires c.in-Some.ensures c.in-Some-open_view.ensures c.in-Some-group.ensures.found c.m.ensures in
     let here = found.here in
     let first : ShowsBricks c.args.layout.now c.deref.result.now w.nodes w.after w.up w.clocks =
-    subst (λ (l : List Brick). ShowsBricks c.args.layout.now l w.nodes w.after w.up w.clocks) (sym c.deref.ensures.value) shows.bricks in
+    subst (λ (l : List Brick). ShowsBricks c.args.layout.now l w.nodes w.after w.up w.clocks) (sym c.deref.ensures.value) c.requires.bricks in
     let second : ShowsBricks c.args.layout.now c.deref-2.result.now w.nodes w.after w.up w.clocks =
-    subst (λ (l : List Brick). ShowsBricks c.args.layout.now l w.nodes w.after w.up w.clocks) (sym c.deref-2.ensures.value) shows.bricks in
+    subst (λ (l : List Brick). ShowsBricks c.args.layout.now l w.nodes w.after w.up w.clocks) (sym c.deref-2.ensures.value) c.requires.bricks in
     let third : ShowsBricks c.args.layout.now c.deref-3.result.now w.nodes w.after w.up w.clocks =
-    subst (λ (l : List Brick). ShowsBricks c.args.layout.now l w.nodes w.after w.up w.clocks) (sym c.deref-3.ensures.value) shows.bricks in
+    subst (λ (l : List Brick). ShowsBricks c.args.layout.now l w.nodes w.after w.up w.clocks) (sym c.deref-3.ensures.value) c.requires.bricks in
     let able : (k number : ℕ) → slice_get c.args.bricks.now k ≡ Some number
     → IsAble c.args.layout.now w here.at.operation.ask.group.0 here.coordinator.stamp.view.0 number =
     (λ k number at. able_as _ _ _ _ _ _ found number
     ((able_shown c.args.layout.now c.in-Some.record.group.0 c.in-Some-open_view.view.number.0 c.deref-2.result.now w number second).0
     (c.are_able.ensures.0 c.if-not-are_able.false k number at))) in
-    let sent : c.args.self.now.history.sent.packets.items ≡ w.packets = shows.history.packets in (
+    let sent : c.args.self.now.history.sent.packets.items ≡ w.packets = c.requires.history.packets in (
       λ on. calm_of c.args.layout.now w c.args.operation c.args.bricks.now here.coordinator here.opens here.at
           (record {
             distinct = c.are_distinct.ensures.0 c.if-not-are_distinct.false;
@@ -221,13 +231,13 @@ returns c w reached shows =
             in_time = subst (λ (b : ℕ). IsInTime c.args.layout.now w b) (c.from.ensures ∙ ap (λ (b : BrickId). b.0) here.same.brick)
                 ((in_time_shown c.args.layout.now c.deref.result.now w c.from.result first).0 (c.is_in_time.ensures.0 c.if-not-is_in_time.false));
             able = able;
-            untouched = untouched_as w c.args.operation here.at.operation (reached_numbers c.args.layout.now w reached) (reached_knows c.args.layout.now w reached)
-                here.some here.at.is c.args.self.now.history c.in-Some.record shows.history here.same c.args.self.now.history.sent.packets.items sent
+            untouched = untouched_as w c.args.operation here.at.operation (reached_numbers c.args.layout.now w (come_to c.args.layout.now c.args.self.now)) (reached_knows c.args.layout.now w (come_to c.args.layout.now c.args.self.now))
+                here.some here.at.is c.args.self.now.history c.in-Some.record c.requires.history here.same c.args.self.now.history.sent.packets.items sent
                 (subst (λ (b : Bool). IsUntouchedAt c.args.self.now.history.delivered.reached.items c.args.self.now.history.sent.packets.items c.in-Some.record b) on c.is_untouched.ensures);
           }),
       λ calm. by_untouched c.args.self.now.history.delivered.reached.items c.args.self.now.history.sent.packets.items c.in-Some.record c.is_untouched.result c.is_untouched.ensures
-          (λ touched. touched_as w c.args.operation here.at.operation (reached_numbers c.args.layout.now w reached) (reached_knows c.args.layout.now w reached)
-          here.some here.at.is c.args.self.now.history c.in-Some.record shows.history here.same c.args.self.now.history.sent.packets.items sent touched
+          (λ touched. touched_as w c.args.operation here.at.operation (reached_numbers c.args.layout.now w (come_to c.args.layout.now c.args.self.now)) (reached_knows c.args.layout.now w (come_to c.args.layout.now c.args.self.now))
+          here.some here.at.is c.args.self.now.history c.in-Some.record c.requires.history here.same c.args.self.now.history.sent.packets.items sent touched
           calm.untouched),
     )
   where

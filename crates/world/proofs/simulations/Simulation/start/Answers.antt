@@ -1,44 +1,58 @@
 -- The brick of the number starts where the machine's may.
-use Rattle.std.proofs.Common.{Bool, true, false, Result, Ok, Err, arith, refl, subst}
-use Rattle.std.specs.Result.{OnErr}
-use Rattle.fab_base.specs.declared.faults.NoMem.{NoMem}
+use Rattle.std.proofs.Common.{Bool, true, false, Ok, arith, refl, subst}
+use Rattle.protocol.specs.Worlds.{World}
 use Rattle.world.specs.Runs.{brick_of}
-use Rattle.world.specs.declared.simulations.Outcome.{Outcome}
+use Rattle.world.specs.Shown.{world_in}
+use Rattle.world.proofs.BrickListLemmas.{bricks_there}
 use Rattle.world.proofs.DeliveryLemmas.{start_comes}
+use Rattle.world.proofs.SimulationLemmas.{on_err_always}
 use Rattle.world.proofs.StartLemmas.{StartedAs, refused_contents, started_as, starts_nowhere}
 use Rattle.world.proofs.simulations.Simulation.start.Goals as goal
 
+pub start_brick-requires-clause-nodes : goal.start_brick-requires-clause-nodes
+start_brick-requires-clause-nodes c = (bricks_there c.requires.bricks).each
+
+pub start_brick-requires-clause-brick : goal.start_brick-requires-clause-brick
+start_brick-requires-clause-brick c = omega (arith, c.args.self.now.bricks.ok.0, c.requires.bricks.count)
+
 pub returns-then-brick-from-clause-ok : goal.returns-then-brick-from-clause-ok
-returns-then-brick-from-clause-ok c w reached shows =
-    start_comes c.args.layout.now w c.args.self.now c.args.self.now (brick_of c.args.brick) c.args.fault false refl shows
-    (starts_nowhere c.args.layout.now c.args.self.now.bricks.items (brick_of c.args.brick) c.args.fault w (omega arith) shows.bricks)
+returns-then-brick-from-clause-ok c =
+    let layout = c.args.layout.now in
+    let w : World = world_in layout c.args.self.now in
+    record {
+      trail = refl;
+      comes = start_comes layout w c.args.self.now c.args.self.now (brick_of c.args.brick) c.args.fault false refl c.requires
+          (starts_nowhere layout c.args.self.now.bricks.items (brick_of c.args.brick) c.args.fault w (omega arith) c.requires.bricks);
+    }
 
 pub returns-then-branch-clause-ok : goal.returns-then-branch-clause-ok
-returns-then-branch-clause-ok c w reached shows =
-    start_comes c.args.layout.now w c.args.self.now (record { bricks = c.start_brick.new.bricks; history = c.args.self.now.history })
-    (brick_of c.args.brick) c.args.fault true refl shows
-    (subst (λ (b : Bool). StartedAs c.args.layout.now w (brick_of c.args.brick) c.args.fault c.args.self.now.bricks.items c.start_brick.new.bricks.items (Ok b))
-    c.if-branch.true (started_as c.args.fault _ w shows.bricks c.in_ok-start_brick.ensures))
+returns-then-branch-clause-ok c =
+    let layout = c.args.layout.now in
+    let w : World = world_in layout c.args.self.now in
+    record {
+      trail = refl;
+      comes = start_comes layout w c.args.self.now (record c.args.self.now { bricks = c.start_brick.new.bricks }) (brick_of c.args.brick) c.args.fault true refl c.requires
+          (subst (λ (b : Bool). StartedAs layout w (brick_of c.args.brick) c.args.fault c.args.self.now.bricks.items c.start_brick.new.bricks.items (Ok b))
+          c.if-branch.true (started_as c.args.fault _ w c.requires.bricks c.in_ok-start_brick.ensures));
+    }
 
 pub returns-else-branch-clause-ok : goal.returns-else-branch-clause-ok
-returns-else-branch-clause-ok c w reached shows =
-    start_comes c.args.layout.now w c.args.self.now (record { bricks = c.start_brick.new.bricks; history = c.args.self.now.history })
-    (brick_of c.args.brick) c.args.fault false refl shows
-    (subst (λ (b : Bool). StartedAs c.args.layout.now w (brick_of c.args.brick) c.args.fault c.args.self.now.bricks.items c.start_brick.new.bricks.items (Ok b))
-    c.if-branch.false (started_as c.args.fault _ w shows.bricks c.in_ok-start_brick.ensures))
-
--- what holds, holds of an error
-of_err : (result : Result Outcome NoMem) (P : Type 0) → P → OnErr result P
-of_err (Ok outcome) P holds = tt
-of_err (Err refused) P holds = holds
+returns-else-branch-clause-ok c =
+    let layout = c.args.layout.now in
+    let w : World = world_in layout c.args.self.now in
+    record {
+      trail = refl;
+      comes = start_comes layout w c.args.self.now (record c.args.self.now { bricks = c.start_brick.new.bricks }) (brick_of c.args.brick) c.args.fault false refl c.requires
+          (subst (λ (b : Bool). StartedAs layout w (brick_of c.args.brick) c.args.fault c.args.self.now.bricks.items c.start_brick.new.bricks.items (Ok b))
+          c.if-branch.false (started_as c.args.fault _ w c.requires.bricks c.in_ok-start_brick.ensures));
+    }
 
 pub returns-in_err-start_brick-clause-err : goal.returns-in_err-start_brick-clause-err
 returns-in_err-start_brick-clause-err c =
-    of_err c.from_residual.result _
+    let w : World = world_in c.args.layout.now c.args.self.now in
+    on_err_always c.from_residual.result
     (record {
-      shows = λ w shows. record {
-        bricks = started_as c.args.fault _ w shows.bricks c.in_err-start_brick.ensures;
-        history = shows.history;
-      };
-      contents = refused_contents c.args.fault _ c.requires.nodes c.in_err-start_brick.ensures;
+      trail = refl;
+      shows = record { bricks = started_as c.args.fault _ w c.requires.bricks c.in_err-start_brick.ensures; history = c.requires.history };
+      contents = refused_contents c.args.fault _ (bricks_there c.requires.bricks).each c.in_err-start_brick.ensures;
     })

@@ -1,6 +1,6 @@
--- The steps of a trail that a line follows: its events are those that are known of it.
+-- The events of a trail that a line follows are those that are known of it.
 use mathlib.Core.Path.{refl}
-use mathlib.Core.List.{[], ◌∷◌, ◌++◌}
+use mathlib.Core.List.{[], ◌∷◌}
 use seplogic.Ra.Ura.{Ura}
 use mir.Syntax.{named}
 use mir.Val.{Val, vptr, vstruct, vnil}
@@ -38,7 +38,7 @@ use Rattle.layout.specs.contracts.layouts.Layout as layout
 use Rattle.lines.specs.contracts.forms.Line as line
 use Rattle.world.specs.contracts.simulations.Outcome as outcome
 use Rattle.world.specs.contracts.simulations.Simulation as state
-use Rattle.world.specs.Runs.{world_of}
+use Rattle.world.specs.Runs.{with_events, world_at}
 use Rattle.world.specs.Shown.{Comes}
 
 abbrev stayed : Stays (f.ended).signature.params (f.ended).kept
@@ -73,7 +73,7 @@ module _ {M : Type 1} {𝓤 : Ura M} (𝓛 : Logic 𝓤) (mem : Memory → SProp
     passed = owns (types_at f.signature.params κs) a (p0 ∷ [], (p1 ∷ [], (p2 ∷ [], (p3 ∷ [], (p4 ∷ [], (p5 ∷ [], tt))))))
 
     abbrev wanted : Type 0
-    wanted = Comes a.1.1.0.now (world_of (record { layout = a.1.1.0.now; steps = a.0.now.steps; disks = a.1.0.now.disks })) a.1.0.now.disks
+    wanted = Comes a.1.1.0.now (world_at a.1.1.0.now a.0.now.course) a.1.0.now.disks
         a.1.1.1.1.1.0.now a.1.1.1.0.now a.1.1.1.1.0.now
 
     walk : wanted → ent 𝓤 (on_entry 𝓛 f.signature κs qs a (p0 ∷ [], (p1 ∷ [], (p2 ∷ [], (p3 ∷ [], (p4 ∷ [], (p5 ∷ [], tt)))))))
@@ -82,8 +82,8 @@ module _ {M : Type 1} {𝓤 : Ura M} (𝓛 : Logic 𝓤) (mem : Memory → SProp
         qed 𝓛 (raw (alive 𝓛 f.signature κs qs) ∷ ‵ passed ∷ []) ∵ enter ! C Λ code.function (p0 ∷ p1 ∷ p2 ∷ p3 ∷ p4 ∷ p5 ∷ []) _ $
         alloc_all ! (λ l. pass_all ! refl ((tt, tt), ((tt, tt), ((tt, tt), ((tt, tt), ((tt, tt), ((tt, tt), tt)))))) $ sets ! (agg ! (no_more !)) refl (tt, tt) $
         returns ! (look_at ! 0 refl) $ free_all ! refl $
-        suffices ! _ (ends_at 𝓛 f.ended stayed (f.clauses 𝓛 mem run) bound (vstruct vnil) (record { steps = a.0.now.steps ++ record { line = a.1.1.1.0.now; events = events } ∷ [] }) (tt, (tt, (tt, (tt, (tt, (tt, tt)))))) (tt, (tt, (tt, (tt, (tt, (tt, tt))))))) $
-        says ! (events, comes, refl) $ pure_i ! (made.the_row.own_val (record { steps = a.0.now.steps ++ record { line = a.1.1.1.0.now; events = events } ∷ [] }) (vstruct vnil ∷ [])) ((λ vss. (tt, tt)), tt) ((tt, (refl, tt)), tt) $
+        suffices ! _ (ends_at 𝓛 f.ended stayed (f.clauses 𝓛 mem run) bound (vstruct vnil) (record { course = with_events a.0.now.course events }) (tt, (tt, (tt, (tt, (tt, (tt, tt)))))) (tt, (tt, (tt, (tt, (tt, (tt, tt))))))) $
+        says ! (events, comes, refl) $ pure_i ! (made.the_row.own_val (record { course = with_events a.0.now.course events }) (vstruct vnil ∷ [])) ((λ vss. (tt, tt)), tt) ((tt, (refl, tt)), tt) $
         move ! (1 ∷ 2 ∷ 0 ∷ []) $ done !)
 
   walks : Walks 𝓛 f.ended stayed (WpFn 𝓤 H C Λ code.function) (f.clauses 𝓛 mem run)

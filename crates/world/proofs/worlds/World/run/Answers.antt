@@ -1,108 +1,81 @@
 -- The state shows the world that the run leaves, with or without the step.
-use Rattle.std.proofs.Common.{◌≡◌, ◌≤◌, List, [], ◌∷◌, ◌++◌, length, refl, sym, subst}
-use Rattle.fab_disk.specs.declared.mem_disk.MemDisk.{MemDisk}
-use Rattle.protocol.specs.Worlds.{Event}
-use Rattle.world.specs.Runs.{Run, Step, world_of}
-use Rattle.world.specs.Shown.{Comes, ComesTo, Leaves, disks_of}
-use Rattle.world.specs.Standing.{run_of}
-use Rattle.world.specs.Steps.{RunsTo, LeavesSome}
-use Rattle.world.proofs.BrickListLemmas.{nodes_of}
-use Rattle.world.proofs.RunLaws.{run_reached}
-use Rattle.world.proofs.RunLemmas.{runs_to, stands_run, leaves_some, stands_left, disks_shown, marks_grow, reports_grow}
+use Rattle.std.proofs.Common.{ap, ◌∙◌, sym, subst}
+use Rattle.protocol.specs.Worlds.{World}
+use Rattle.world.specs.Runs.{Course}
+use Rattle.world.specs.Shown.{Shows}
+use Rattle.world.specs.declared.trails.Trail.{Trail}
+use Rattle.world.proofs.DeliveryLemmas.{calm_stops, other_stays}
+use Rattle.world.proofs.RunLemmas.{all_grow, at_rest, disks_shown, leaves_none, leaves_part, runs_to, shows_kept, shows_ran, shows_short}
 use Rattle.world.proofs.worlds.World.run.Goals as goal
 
-pub run-requires-clause-nodes : goal.run-requires-clause-nodes
-run-requires-clause-nodes c = nodes_of _ _ _ _ _ _ c.self.invariant.shows.bricks
-
-pub run-requires-clause-shows : goal.run-requires-clause-shows
-run-requires-clause-shows c =
-    (world_of (run_of c.self.inside), run_reached (run_of c.self.inside), c.self.invariant.shows)
-
-pub with-self-inside-requires : goal.with-self-inside-requires
-with-self-inside-requires c =
-    subst (λ (disks : List MemDisk). Comes c.self.inside.layout
-    (world_of (record { layout = c.self.inside.layout; steps = c.self.inside.trail.steps; disks = disks })) disks c.run.new.self c.args.line.now
-    c.in-Ok.outcome) (sym c.of-shelf.ensures)
-    (c.in-Ok.ensures.ok (world_of (run_of c.self.inside)) (run_reached (run_of c.self.inside)) c.self.invariant.shows)
+pub run-requires : goal.run-requires
+run-requires c =
+    subst (λ (v : World). Shows c.self.inside.layout c.self.inside.simulation v)
+    (sym (at_rest c.self.inside.layout c.self.inside.simulation.trail.course c.self.invariant.ended)) c.self.invariant.shows
 
 pub invariant_of-self : goal.invariant_of-self
 invariant_of-self c =
     record {
-      shows = stands_run c.self.inside.layout c.self.inside.trail.steps c.with-self-inside.result.steps c.of-shelf.result.disks
-          (disks_of c.run.new.self.bricks.items) c.run.new.self c.args.line.now c.in-Ok.outcome c.with-self-inside.ensures;
-    }
-
-pub left-self-inside-requires : goal.left-self-inside-requires
-left-self-inside-requires c =
-    subst (λ (disks : List MemDisk). (steps : List Step) × Leaves c.self.inside.layout
-    (world_of (record { layout = c.self.inside.layout; steps = c.self.inside.trail.steps; disks = disks })) disks c.run.new.self c.args.line.now steps)
-    (sym c.of-shelf.ensures)
-    (c.in-Err.ensures.err (world_of (run_of c.self.inside)) (run_reached (run_of c.self.inside)) c.self.invariant.shows)
-
-pub invariant_of-self-in-Err : goal.invariant_of-self-in-Err
-invariant_of-self-in-Err c =
-    record {
-      shows = stands_left c.self.inside.layout c.self.inside.trail.steps c.left-self-inside.result.steps c.of-shelf.result.disks
-          (disks_of c.run.new.self.bricks.items) c.run.new.self c.args.line.now c.left-self-inside.ensures;
+      shows = shows_ran c.self.inside.layout c.self.inside.simulation c.run.new.self c.ended-self-inside.result c.args.line.now _ c.self.invariant.ended
+          c.ended-self-inside.ensures c.self.view_is c.in-Ok.outcome c.in-Ok.ensures.ok;
+      ended = ap (λ (course : Course). course.events) c.ended-self-inside.ensures;
     }
 
 pub returns-in-Ok-clause-ok : goal.returns-in-Ok-clause-ok
 returns-in-Ok-clause-ok c =
-    let new : Run = record {
-      layout = c.self.inside.layout;
-      steps = c.with-self-inside.result.steps;
-      disks = disks_of c.run.new.self.bricks.items;
-    } in
-    subst (λ (r : Run). RunsTo r new c.args.line.now c.in-Ok.outcome) c.self.view_is
-    (runs_to c.self.inside.layout c.self.inside.trail.steps c.with-self-inside.result.steps (disks_of c.self.inside.simulation.bricks.items)
-    (disks_of c.run.new.self.bricks.items) c.run.new.self c.args.line.now c.in-Ok.outcome refl
-    (subst (λ (disks : List MemDisk). (events : List Event) × ComesTo c.self.inside.layout
-    (world_of (record { layout = c.self.inside.layout; steps = c.self.inside.trail.steps; disks = disks })) disks c.run.new.self c.args.line.now
-    c.in-Ok.outcome events
-    × (c.with-self-inside.result.steps ≡ c.self.inside.trail.steps ++ record { line = c.args.line.now; events = events } ∷ []))
-    c.of-shelf.ensures c.with-self-inside.ensures))
+    runs_to c.self.inside.layout c.self.inside.simulation c.run.new.self c.ended-self-inside.result c.args.line.now _ c.self.invariant.ended
+    c.ended-self-inside.ensures c.self.view_is c.in-Ok.outcome c.in-Ok.ensures.ok
 
 pub returns-in-Ok-clause-disks : goal.returns-in-Ok-clause-disks
 returns-in-Ok-clause-disks c =
-    let stands = stands_run c.self.inside.layout c.self.inside.trail.steps c.with-self-inside.result.steps c.of-shelf.result.disks
-    (disks_of c.run.new.self.bricks.items) c.run.new.self c.args.line.now c.in-Ok.outcome c.with-self-inside.ensures
-    in
-    disks_shown c.self.inside.layout c.run.new.self c.with-self-inside.result.steps stands
+    (runs_to c.self.inside.layout c.self.inside.simulation c.run.new.self c.ended-self-inside.result c.args.line.now _ c.self.invariant.ended
+    c.ended-self-inside.ensures c.self.view_is c.in-Ok.outcome c.in-Ok.ensures.ok).runs.shows
 
-pub returns-in-Ok-clause-marks : goal.returns-in-Ok-clause-marks
-returns-in-Ok-clause-marks c =
-    let (events, comes, grown) = c.with-self-inside.ensures in
-    subst (λ (r : Run). length (world_of r).marks
-    ≤ length (world_of (record { layout = c.self.inside.layout; steps = c.with-self-inside.result.steps; disks = [] })).marks) c.self.view_is
-    (marks_grow c.self.inside.layout c.self.inside.trail.steps c.with-self-inside.result.steps
-    (record { line = c.args.line.now; events = events }) [] [] grown)
+pub returns-in-Ok-clause-grow : goal.returns-in-Ok-clause-grow
+returns-in-Ok-clause-grow c =
+    all_grow c.self.inside.layout c.self.inside.simulation c.run.new.self c.ended-self-inside.result c.args.line.now _ c.self.invariant.ended
+    c.ended-self-inside.ensures c.self.view_is c.in-Ok.outcome c.in-Ok.ensures.ok
 
-pub returns-in-Ok-clause-reports : goal.returns-in-Ok-clause-reports
-returns-in-Ok-clause-reports c =
-    let (events, comes, grown) = c.with-self-inside.ensures in
-    subst (λ (r : Run). length (world_of r).choices.reports
-    ≤ length (world_of (record { layout = c.self.inside.layout; steps = c.with-self-inside.result.steps; disks = [] })).choices.reports) c.self.view_is
-    (reports_grow c.self.inside.layout c.self.inside.trail.steps c.with-self-inside.result.steps
-    (record { line = c.args.line.now; events = events }) [] [] grown)
+-- no memory was left for the rest of what an operation was to do alone
+pub invariant_of-self-in-Calm : goal.invariant_of-self-in-Calm
+invariant_of-self-in-Calm c =
+    record {
+      shows = shows_short c.self.inside.layout c.self.inside.simulation c.run.new.self c.ended-self-inside-in-Calm.result c.args.line.now _
+          c.self.invariant.ended c.ended-self-inside-in-Calm.ensures c.self.view_is
+          (calm_stops c.self.inside.layout c.self.inside.simulation c.run.new.self c.args.line.now _ _ c.in-Calm.is c.in-Err.ensures.err);
+      ended = ap (λ (course : Course). course.events) c.ended-self-inside-in-Calm.ensures;
+    }
 
-pub returns-in-Err-clause-err : goal.returns-in-Err-clause-err
-returns-in-Err-clause-err c =
-    let new : Run = record {
-      layout = c.self.inside.layout;
-      steps = c.left-self-inside.result.steps;
-      disks = disks_of c.run.new.self.bricks.items;
-    } in
-    subst (λ (r : Run). LeavesSome r new c.args.line.now) c.self.view_is
-    (leaves_some c.self.inside.layout c.self.inside.trail.steps c.left-self-inside.result.steps (disks_of c.self.inside.simulation.bricks.items)
-    (disks_of c.run.new.self.bricks.items) c.run.new.self c.args.line.now refl
-    (subst (λ (disks : List MemDisk). (steps : List Step) × Leaves c.self.inside.layout
-    (world_of (record { layout = c.self.inside.layout; steps = c.self.inside.trail.steps; disks = disks })) disks c.run.new.self c.args.line.now steps
-    × (c.left-self-inside.result.steps ≡ c.self.inside.trail.steps ++ steps))
-    c.of-shelf.ensures c.left-self-inside.ensures))
+pub returns-in-Calm-clause-err : goal.returns-in-Calm-clause-err
+returns-in-Calm-clause-err c =
+    leaves_part c.self.inside.layout c.self.inside.simulation c.run.new.self c.ended-self-inside-in-Calm.result c.args.line.now _ c.self.invariant.ended
+    c.ended-self-inside-in-Calm.ensures c.self.view_is
+    (calm_stops c.self.inside.layout c.self.inside.simulation c.run.new.self c.args.line.now _ _ c.in-Calm.is c.in-Err.ensures.err)
 
-pub returns-in-Err-clause-disks : goal.returns-in-Err-clause-disks
-returns-in-Err-clause-disks c =
-    let stands = stands_left c.self.inside.layout c.self.inside.trail.steps c.left-self-inside.result.steps c.of-shelf.result.disks
-    (disks_of c.run.new.self.bricks.items) c.run.new.self c.args.line.now c.left-self-inside.ensures
-    in
-    disks_shown c.self.inside.layout c.run.new.self c.left-self-inside.result.steps stands
+pub returns-in-Calm-clause-disks : goal.returns-in-Calm-clause-disks
+returns-in-Calm-clause-disks c =
+    disks_shown c.self.inside.layout (record c.run.new.self { trail = c.ended-self-inside-in-Calm.result }) c.ended-self-inside-in-Calm.result.course.steps
+    (shows_short c.self.inside.layout c.self.inside.simulation c.run.new.self c.ended-self-inside-in-Calm.result c.args.line.now _
+    c.self.invariant.ended c.ended-self-inside-in-Calm.ensures c.self.view_is
+    (calm_stops c.self.inside.layout c.self.inside.simulation c.run.new.self c.args.line.now _ _ c.in-Calm.is c.in-Err.ensures.err))
+
+-- or for another line, and nothing was run
+pub invariant_of-self-in_default : goal.invariant_of-self-in_default
+invariant_of-self-in_default c =
+    let stays = other_stays c.self.inside.layout c.self.inside.simulation c.run.new.self c.args.line.now c.in_default.not-Calm c.in-Err.ensures.err in
+    record {
+      shows = shows_kept c.self.inside.layout c.self.inside.simulation c.run.new.self c.self.invariant.ended stays;
+      ended = ap (λ (trail : Trail). trail.course.events) stays.trail ∙ c.self.invariant.ended;
+    }
+
+pub returns-in_default-clause-err : goal.returns-in_default-clause-err
+returns-in_default-clause-err c =
+    leaves_none c.self.inside.layout c.self.inside.simulation c.run.new.self c.self.invariant.ended
+    (other_stays c.self.inside.layout c.self.inside.simulation c.run.new.self c.args.line.now c.in_default.not-Calm c.in-Err.ensures.err)
+    c.args.line.now _ c.self.view_is
+
+pub returns-in_default-clause-disks : goal.returns-in_default-clause-disks
+returns-in_default-clause-disks c =
+    disks_shown c.self.inside.layout c.run.new.self c.run.new.self.trail.course.steps
+    (shows_kept c.self.inside.layout c.self.inside.simulation c.run.new.self c.self.invariant.ended
+    (other_stays c.self.inside.layout c.self.inside.simulation c.run.new.self c.args.line.now c.in_default.not-Calm c.in-Err.ensures.err))

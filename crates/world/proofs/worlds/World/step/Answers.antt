@@ -29,9 +29,9 @@ returns-clause-ok c =
 pub returns-in_err-line-clause-disks : goal.returns-in_err-line-clause-disks
 returns-in_err-line-clause-disks c =
     subst ShowsDisks c.self.view_is
-    (disks_shown c.self.inside.layout c.self.inside.simulation c.self.inside.trail.steps c.self.invariant.shows)
+    (disks_shown c.self.inside.layout c.self.inside.simulation c.self.inside.simulation.trail.course.steps c.self.invariant.shows)
 
 pub returns-in-None-clause-disks : goal.returns-in-None-clause-disks
 returns-in-None-clause-disks c =
     subst ShowsDisks c.self.view_is
-    (disks_shown c.self.inside.layout c.self.inside.simulation c.self.inside.trail.steps c.self.invariant.shows)
+    (disks_shown c.self.inside.layout c.self.inside.simulation c.self.inside.simulation.trail.course.steps c.self.invariant.shows)
