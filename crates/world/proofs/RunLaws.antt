@@ -75,10 +75,6 @@ reached_bricks layout w (events, is) = subst (AreOfBricks layout) (sym is) (of_b
 pub reached_next : (layout : Layout) (w : World) → IsReachedBy layout w → (i : ℕ) → number_of w i ((w.nodes i).seq + 1) ≡ 0
 reached_next layout w reached = next_unnumbered w (reached_numbers layout w reached) (reached_knows layout w reached)
 
--- a run's world is reached by its events
-pub run_reached : (r : Run) → IsReachedBy r.layout (world_of r)
-run_reached r = (all_events r.steps, refl)
-
 -- each operation begins where the marks of its stripe say
 pub begins_agree : (r : Run) → BeginsAgree (world_of r)
 begins_agree r = begins_from_books (coding r.layout) (world_of r) (books_of r)

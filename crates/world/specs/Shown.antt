@@ -180,7 +180,7 @@ pub record IsNodeOf (layout : Layout) (i : ℕ) (power : Power) : Type 0 where
 abbrev pub AreNodesOf : Layout → List Brick → Type 0
 AreNodesOf layout bricks = (i : ℕ) (brick : Brick) → slice_get bricks i ≡ Some brick → IsNodeOf layout i brick.power
 
--- so it is, and there is one for each number of that
+-- so it is, and there is one for each number of the layout
 pub record AreBricksOf (layout : Layout) (bricks : List Brick) : Type 0 where
   pub count : length bricks ≡ layout.bricks
   pub each : AreNodesOf layout bricks

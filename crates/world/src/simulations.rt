@@ -17,7 +17,7 @@ use lines::{Access, Fault, Line};
 use node::NodeFault;
 use std::alloc::Global;
 
-/// What a world keeps: its bricks by number, and what happened.
+/// What a world keeps: its bricks by number, what happened, and how far it has come.
 #[derive(Drop)]
 pub struct Simulation {
     pub bricks: Vec<Brick>,
