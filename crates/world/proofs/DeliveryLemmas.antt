@@ -7,6 +7,7 @@ use Rattle.fab_base.specs.Layouts.{Layout}
 use Rattle.fab_disk.specs.declared.disk.Plan.{Plan}
 use Rattle.fab_disk.specs.Plan.{IsWithin}
 use Rattle.fab_disk.specs.declared.mem_disk.MemDisk.{MemDisk}
+use Rattle.frame_store.specs.declared.shapes.Form.TheVariants.{New}
 use Rattle.lines.specs.declared.forms.Fault.{Fault}
 use Rattle.lines.specs.declared.forms.Line.{Line}
 use Rattle.lines.specs.declared.forms.Line.TheVariants.{Nothing, Deliver, Start, Calm}
@@ -129,7 +130,7 @@ module _ (layout : Layout) (w : World) (old new : Simulation) (number : ℕ) (fa
       (handled_here layout w packet (packet_of w.packets number) sent up)
       (record {
         others = subst (λ (b : Option BrickId). KeepsOthers b (disks_of old.bricks.items) (disks_of new.bricks.items)) (sym changes_here) (others_changed changes);
-        still = λ none. unwritten_changed changes (took.still (λ listed. sym (calls_here listed) ∙ none listed true));
+        still = λ none. unwritten_changed changes (took.still (λ listed. sym (calls_here listed) ∙ none listed New true));
         lists = subst (λ (p : Option Packet). ListsHandled layout w p (disks_of old.bricks.items) (disks_of new.bricks.items)) (sym sent)
             (λ is. of_disk changes (ListsPacket layout packet.to (w.nodes packet.to.0) packet) took.lists);
       })
@@ -188,7 +189,7 @@ module _ (layout : Layout) (w : World) (old new : Simulation) (number : ℕ) (fa
       (record {
         others = others_changed changes;
         still = λ none.
-            absurd (never_within calls (plan_of fault) (sym (calls_here took.reached.listed) ∙ none took.reached.listed true) took.reached.within);
+            absurd (never_within calls (plan_of fault) (sym (calls_here took.reached.listed) ∙ none took.reached.listed New true) took.reached.within);
         lists = tt;
       })
 
