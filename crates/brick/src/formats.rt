@@ -67,7 +67,7 @@ fn make_store<H: Host>(
         Err(IoFault::NoMemory) => return Ending::Memory,
     };
     let is_old = layout.store() == 1;
-    let made = make_list(alloc, &mut disk, me, layout.block(), layout.records(), is_old);
+    let made = make_on(alloc, &mut disk, me, layout.block(), layout.records(), is_old);
     host.keep_disk(name, disk);
     match made {
         Ok(()) => Ending::Formatted(me),
@@ -77,7 +77,7 @@ fn make_store<H: Host>(
 }
 
 /// Makes an empty store on a disk, of the old format or of the new one.
-fn make_list<D: Disk>(
+fn make_on<D: Disk>(
     alloc: Global,
     disk: &mut D,
     me: BrickId,

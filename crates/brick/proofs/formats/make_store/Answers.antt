@@ -8,7 +8,7 @@ pub returns-in-Ok-made-clause-makes : goal.returns-in-Ok-made-clause-makes
 returns-in-Ok-made-clause-makes g c = (
   refl,
   (
-    c.make_list-made.new.disk,
+    c.make_on-made.new.disk,
     record {
       asked = c.keep_disk.ensures.asked ∙ c.in-Ok.ensures.asked;
       later = rw (c.keep_disk.ensures.faults) c.in-Ok.ensures.kept.later;
@@ -22,7 +22,7 @@ returns-in-Ok-made-clause-makes g c = (
 
 pub returns-in-Err-NoMemory-made-clause-makes : goal.returns-in-Err-NoMemory-made-clause-makes
 returns-in-Err-NoMemory-made-clause-makes g c = inr (
-  c.make_list-made.new.disk,
+  c.make_on-made.new.disk,
   record {
     asked = c.keep_disk.ensures.asked ∙ c.in-Ok.ensures.asked;
     later = rw (c.keep_disk.ensures.faults) c.in-Ok.ensures.kept.later;
