@@ -67,7 +67,14 @@ fn make_store<H: Host>(
         Err(IoFault::NoMemory) => return Ending::Memory,
     };
     let is_old = layout.store() == 1;
-    let made = make_on(alloc, &mut disk, me, layout.block(), layout.records(), is_old);
+    let made = make_on(
+        alloc,
+        &mut disk,
+        me,
+        layout.block(),
+        layout.records(),
+        is_old,
+    );
     host.keep_disk(name, disk);
     match made {
         Ok(()) => Ending::Formatted(me),
