@@ -17,7 +17,9 @@ use Rattle.frame_store.specs.declared.shapes.Shape.{Shape}
 use Rattle.frame_store.specs.declared.shapes.Form.{Form}
 use Rattle.frame_store.specs.declared.frames.Frame.{Frame}
 use Rattle.frame_store.specs.Layouts.{formed}
-use Rattle.frame_store.specs.Images.{OpensAs}
+use Rattle.frame_store.specs.declared.shapes.Half.{Half}
+use Rattle.frame_store.specs.declared.shapes.Half.TheVariants.{A, B}
+use Rattle.frame_store.specs.Images.{InForce, IsNoStore, OpensAs}
 use Rattle.frame_store.specs.Listed.{size_of}
 use Rattle.frame_store.proofs.Openings.{opens_once, opens_in_one_form}
 use Rattle.messages.specs.declared.packets.Packet.{Packet}
@@ -26,7 +28,9 @@ use Rattle.brick_state.specs.States.{StateOf}
 use Rattle.brick_store.specs.Images.{IsFound, IsListed}
 use Rattle.brick_store.specs.Calls.{Append, IsListedAfter}
 use Rattle.brick_store.specs.Openings.{calls_on_opening, IsCounted, IsListedOnOpening, IsWornOut}
+use Rattle.brick_store.proofs.Opened.{found_is}
 use Rattle.coord_phase.specs.Messages.{packets_from}
+use Rattle.replica.specs.Parts.{ListsStand}
 use Rattle.node.specs.Calls.{packet_append, packet_calls}
 use Rattle.node.specs.Ends.{StepChange, end_of}
 use Rattle.node.specs.Openings.{OpensBrick}
@@ -182,6 +186,11 @@ restarted_live : (openings : ℕ) (node : machine.Node) → (machine.restarted o
 unfolding machine.restarted
 restarted_live openings node = refl
 
+-- an image that is read by one half has an open header
+never_none : (shape : Shape) (form : Form) (half : Half) (image : List ℕ) → InForce (formed form shape) half image → IsNoStore shape image → ⊥
+never_none shape form A image force none = none.first form force.0
+never_none shape form B image force none = none.second form force.0
+
 -- A brick that is down is started over its disk, with a plan.
 module _ (layout : Layout) (me : BrickId) (state after : machine.Node) (fault : Option Fault) (disk armed : MemDisk)
     (rests : Rests layout me state after disk) (arms : IsArmed (plan_of fault) disk armed) where
@@ -210,6 +219,18 @@ module _ (layout : Layout) (me : BrickId) (state after : machine.Node) (fault : 
 
   unlisted_there : is_unlisted armed
   unlisted_there = arms.listed rests.sound.unlisted
+
+  -- it holds a store, and the lists that this keeps may keep their groups
+  pub holds_store : (U : Type 0)
+      → ((IsNoStore (shape_at layout me) (content_of armed) × U)
+      ⊎ ((st : StateOf Version) × IsFound (shape_at layout me) st (content_of armed) × (ListsStand layout st → ⊥))) → ⊥
+  holds_store U refused = ⊎_elim
+      (λ (none : IsNoStore (shape_at layout me) (content_of armed) × U).
+      never_none (shape_at layout me) found_there.shows.stands.form opens_there.half (content_of armed) opens_there.in_force none.0)
+      (λ (other : (st : StateOf Version) × IsFound (shape_at layout me) st (content_of armed) × (ListsStand layout st → ⊥)).
+      other.2 (subst (ListsStand layout) (sym (found_is (shape_at layout me) other.0 shows_there.st (content_of armed) other.1 shows_there.stands))
+      shows_there.lists))
+      refused
 
   -- its opening, over the frames that there are
   module _ (left : MemDisk) (end : End) (opens : OpensBrick in_memory layout me armed left end) where
