@@ -18,6 +18,7 @@ pub mod Places
 pub mod RunLaws
 pub mod RunLemmas
 pub mod Suspecting
+pub mod Asides
 pub mod SimulationLemmas
 pub mod DeliveryLemmas
 pub mod CallNumbers

@@ -178,6 +178,8 @@ impl World {
     {
         let marks = self.simulation.history.marks.len();
         let reports = self.simulation.history.reports.len();
+        // It tells that the layout is within its limits.
+        let _ = self.layout.bricks();
         let line = match parse(self.alloc, content)? {
             Some(line) => line,
             None => return Err(StepFault::BadLine),
@@ -230,7 +232,7 @@ impl World {
         ensures grow { Grows self.old self.new }
         ensures disks { ShowsDisks self.new }
     {
-        // It tells how many bricks there are at most.
+        // It tells that the layout is within its limits.
         let _ = self.layout.bricks();
         let both = self.spares.suspect(member_no(by), member_no(brick));
         self.simulation.trail = Trail::ended(&self.simulation.trail, line);
@@ -244,7 +246,7 @@ impl World {
         ensures grow { Grows self.old self.new }
         ensures disks { ShowsDisks self.new }
     {
-        // It tells how many bricks there are at most.
+        // It tells that the layout is within its limits.
         let _ = self.layout.bricks();
         let both = self.spares.trust(member_no(by), member_no(brick));
         self.simulation.trail = Trail::ended(&self.simulation.trail, line);
@@ -281,7 +283,7 @@ impl World {
     fn spare_list(&self, brick: u64, group: u64) -> Result<Option<BrickList>, NoMem>
         ensures { IfOk result (λ list. list ≡ option_map (λ members. map (λ member. member.0) members) (spare_list self.now brick group)) }
     {
-        // It tells how many bricks and groups there are at most.
+        // It tells that the layout is within its limits.
         let _ = self.layout.bricks();
         let by = member_no(brick);
         let view = match self.proposer(by, group_asked(group)) {
