@@ -1,6 +1,6 @@
 //! The world: a run of steps over the disk of a layout.
 
-ghost use Rattle.std.specs.Prelude.{◌≡◌, IfOk};
+ghost use Rattle.std.specs.Prelude.{◌≡◌, IfOk, map};
 ghost use Rattle.world.specs.Suspected.{group_asked};
 ghost use Rattle.world.specs.Texts.{marks_if, outcome_text};
 
@@ -103,7 +103,7 @@ fn print(
 fn group_asked(number: u64) -> GroupId
     ensures { result.0 ≡ group_asked number }
 {
-    if number < 1 << 32 {
+    if number < 4_294_967_296 {
         GroupId(number as u32)
     } else {
         GroupId(u32::MAX)
@@ -114,8 +114,11 @@ fn group_asked(number: u64) -> GroupId
 fn numbers_of(alloc: Global, bricks: &[BrickId]) -> Result<BrickList, NoMem>
     ensures { IfOk result (λ numbers. numbers ≡ map (λ brick. brick.0) bricks.now) }
 {
-    let numbers = bricks.iter().map(|brick| u64::from(brick.0));
-    Ok(BrickList::from_vec(numbers.collect(alloc)?))
+    let mut numbers = Vec::with_capacity(alloc, bricks.len())?;
+    for brick in bricks {
+        numbers.push(u64::from(brick.0))?;
+    }
+    Ok(BrickList::from_vec(numbers))
 }
 
 /// What a line comes to that is no event.
