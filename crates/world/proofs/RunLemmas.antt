@@ -9,7 +9,7 @@ use Rattle.fab_disk.specs.declared.mem_disk.MemDisk.{MemDisk}
 use Rattle.reg_model.specs.declared.marks.Mark.{Mark}
 use Rattle.reg_model.specs.declared.marks.Mark.TheVariants as mark
 use Rattle.lines.specs.declared.forms.Line.{Line}
-use Rattle.lines.specs.declared.forms.Line.TheVariants.{Propose, Spare}
+use Rattle.lines.specs.declared.forms.Line.TheVariants.{Propose, Suspect, Trust, Spare}
 use Rattle.lines.specs.declared.forms.Fault.{Fault}
 use Rattle.spares.specs.Suspicions.{Suspicions, unsuspecting}
 use Rattle.stripe_code.specs.Codes.{coding}
@@ -20,7 +20,7 @@ use Rattle.protocol.specs.declared.tellings.Report.{Report}
 use Rattle.protocol.specs.Worlds.{World, Event, Stops, Starts, Before, first_world, number_of, reports_of, world_stepped, run}
 use Rattle.protocol_laws.proofs.Books.{Books}
 use Rattle.world.specs.Runs.{Course, Run, Step, world_of, all_events, brick_of, with_events, world_at}
-use Rattle.world.specs.Suspected.{suspected_after, suspected_in, suspicions_of, meant}
+use Rattle.world.specs.Suspected.{has_both, suspected_after, suspected_in, suspicions_of, spare_list, proposing_line, meant}
 use Rattle.world.specs.Faults.{IsEventsOf, IsStartOf, StaysDown, IsStarted, IsNoStart}
 use Rattle.world.specs.Disks.{ShowsDiskOf, ShowsDisks}
 use Rattle.world.specs.Shown.{IsNumbered, GoesOn, StaysAs, StopsShort, Shows, ShowsBricks, ShowsPower, ComesTo, StopsAt, IsBegunBy, disk_in, disks_of, came_to, world_in}
@@ -31,6 +31,7 @@ use Rattle.world.specs.declared.bricks.Brick.{Brick}
 use Rattle.world.specs.declared.bricks.Power.{Power}
 use Rattle.world.specs.declared.bricks.Power.TheVariants.{Up, Down}
 use Rattle.world.specs.declared.simulations.Outcome.{Outcome}
+use Rattle.world.specs.declared.simulations.Outcome.TheVariants.{Idle}
 use Rattle.world.specs.declared.simulations.Simulation.{Simulation}
 use Rattle.world.specs.declared.trails.Trail.{Trail}
 use Rattle.world.proofs.Suspecting.{suspected_on}
@@ -298,6 +299,11 @@ module _ (layout : Layout) (old new : Simulation) (trail : Trail) (line other : 
       → StopsShort layout old new other → suspicions ≡ suspicions_of after
   suspects_short suspicions keeps is (events, stops, goes) = suspects_on suspicions events keeps is goes
 
+-- what is printed of two bricks for which there is nothing else to tell
+pub noted_text : (has : Bool) → outcome_text (marks_if has) [] [] ≡ suspicion_text has
+noted_text true = refl
+noted_text false = refl
+
 -- A line was run that is no event, and was made a step.
 module _ (layout : Layout) (state : Simulation) (trail : Trail) (line : Line) (was : Run) (none : state.trail.course.events ≡ [])
     (ended : trail.course ≡ record { steps = state.trail.course.steps ++ record { line = line; events = state.trail.course.events } ∷ []; events = [] })
@@ -350,6 +356,24 @@ module _ (layout : Layout) (state : Simulation) (trail : Trail) (line : Line) (w
             ∙ ap (outcome_text outcome []) none_told ∙ text;
       })
 
+  -- so are the lines that speak of two bricks, and one for which no seat changes
+  pub suspect_runs : (b c : ℕ) (both : Bool) → line ≡ Suspect b c → both ≡ has_both layout.bricks b c → RunsTo was passed line (marks_if both)
+  suspect_runs b c both is has =
+      passes (marks_if both) (subst (λ (l : Line). IsEventsOf layout (world_of was) was.disks was.disks (meant was l) []) (sym is) refl)
+      (noted_text both ∙ ap suspicion_text has ∙ sym (ap (empty_text layout.bricks) is))
+
+  pub trust_runs : (b c : ℕ) (both : Bool) → line ≡ Trust b c → both ≡ has_both layout.bricks b c → RunsTo was passed line (marks_if both)
+  trust_runs b c both is has =
+      passes (marks_if both) (subst (λ (l : Line). IsEventsOf layout (world_of was) was.disks was.disks (meant was l) []) (sym is) refl)
+      (noted_text both ∙ ap suspicion_text has ∙ sym (ap (empty_text layout.bricks) is))
+
+  pub idle_runs : (b g : ℕ) → line ≡ Spare b g → spare_list was b g ≡ None → RunsTo was passed line Idle
+  idle_runs b g is none =
+      passes Idle
+      (subst (λ (l : Line). IsEventsOf layout (world_of was) was.disks was.disks (meant was l) []) (sym is)
+      (subst (λ (o : Option (List BrickId)). IsEventsOf layout (world_of was) was.disks was.disks (proposing_line b g o) []) (sym none) refl))
+      (sym (ap (empty_text layout.bricks) is))
+
   -- what is suspected has changed by the line
   pub suspects_passed : (old new : Suspicions) → old ≡ suspicions_of at_first → new ≡ suspected_after old line → new ≡ suspicions_of passed
   suspects_passed old new is now = suspected_on layout state.trail.course.steps trail.course.steps empty_step old new steps_passed is now
@@ -359,11 +383,6 @@ module _ (layout : Layout) (state : Simulation) (trail : Trail) (line : Line) (w
       subst (λ (r : Run). Grows r passed) view
       (subst (λ (v : World). (length (world_of at_first).marks ≤ length v.marks) × (length (world_of at_first).choices.reports ≤ length v.choices.reports))
       (sym world_passed) (omega arith, omega arith))
-
--- what is printed of two bricks for which there is nothing else to tell
-pub noted_text : (has : Bool) → outcome_text (marks_if has) [] [] ≡ suspicion_text has
-noted_text true = refl
-noted_text false = refl
 
 -- a proposal prints as the line that stands for it
 pub proposal_text : (layout : Layout) (w : World) (old new : List MemDisk) (b g : ℕ) (members : List ℕ) (events : List Event)

@@ -4,7 +4,7 @@ use Rattle.std.specs.Prelude.{◌^◌, ◌↔◌, IsTrue, Result, Ok, Err, is_so
 use Rattle.std.specs.Option.{option_map}
 use Rattle.std.proofs.lemmas.Bool.{cond_both, and_parts, and_from, cases_Bool, false≢true}
 use Rattle.std.proofs.lemmas.Bool.Decides.{nat_tests}
-use Rattle.std.proofs.lemmas.Option.{slice_get_past}
+use Rattle.std.proofs.lemmas.Option.{same_Some, slice_get_past}
 use Rattle.fab_base.specs.declared.answers.Refusal.{Refusal}
 use Rattle.fab_base.specs.declared.answers.Refusal.TheVariants.{Down, NoStripe}
 use Rattle.fab_base.specs.declared.identities.BrickId.{BrickId}
@@ -12,13 +12,13 @@ use Rattle.fab_base.specs.declared.member_lists.View.{View}
 use Rattle.fab_base.specs.Layouts.{Layout, Group, group_of}
 use Rattle.layout.specs.Limits.{IsLayout}
 use Rattle.lines.specs.declared.forms.Line.{Line}
-use Rattle.lines.specs.declared.forms.Line.TheVariants.{Suspect, Trust, Spare}
+use Rattle.lines.specs.declared.forms.Line.TheVariants.{Propose, Suspect, Trust, Spare}
 use Rattle.protocol.specs.Nodes.{Node}
 use Rattle.protocol.specs.Worlds.{World, is_up}
 use Rattle.spares.specs.Suspicions.{Suspicions, HasBoth, unsuspecting, with_opinion}
 use Rattle.world.specs.Runs.{Run, Step, world_of, brick_of, member_no}
 use Rattle.world.specs.Shown.{AsksBricks}
-use Rattle.world.specs.Suspected.{has_both, with_suspicion, suspected_after, suspected_in, suspicions_of, group_asked, proposer_in, proposer_at, list_to_propose, spare_list, meant}
+use Rattle.world.specs.Suspected.{has_both, with_suspicion, suspected_after, suspected_in, suspicions_of, group_asked, proposer_in, proposer_at, list_to_propose, spare_list, proposing_line, meant}
 
 -- one step more changes it by its line
 pub suspected_in-more : (s : Suspicions) (steps : List Step) (step : Step)
@@ -113,6 +113,21 @@ noted_line old new b c suspected false few has noted idle =
         let there : nat_lt (member_no c).0 old.bricks ≡ true = asked_below old.bricks c few ∙ parts.1 in
         absurd (false≢true (has.1 (grind (arith, nat_tests, here), grind (arith, nat_tests, there))))
 
+-- the same of the bricks that were asked for
+pub noted_asked : (old new : Suspicions) (x y : BrickId) (b c : ℕ) (suspected both : Bool) → x ≡ member_no b → y ≡ member_no c → old.bricks ≤ 64
+    → (IsTrue both ↔ HasBoth old x y) → (IsTrue both → new ≡ with_opinion old x y suspected) → (both ≡ false → new ≡ old)
+    → (new ≡ with_suspicion old b c suspected) × (both ≡ has_both old.bricks b c)
+noted_asked old new x y b c suspected both x_is y_is few has noted idle =
+    noted_line old new b c suspected both few
+    (subst (λ (z : BrickId). IsTrue both ↔ HasBoth old z (member_no c)) x_is (subst (λ (z : BrickId). IsTrue both ↔ HasBoth old x z) y_is has))
+    (subst (λ (z : BrickId). IsTrue both → new ≡ with_opinion old z (member_no c) suspected) x_is
+    (subst (λ (z : BrickId). IsTrue both → new ≡ with_opinion old x z suspected) y_is noted))
+    idle
+
+-- there are at most 64 bricks, whatever is suspected
+pub few_suspicions : (r : Run) (s : Suspicions) → s ≡ suspicions_of r → IsLayout r.layout → s.bricks ≤ 64
+few_suspicions r s is within = subst (λ (n : ℕ). n ≤ 64) (sym (ap (λ (z : Suspicions). z.bricks) is ∙ bricks_of r)) within.few_bricks
+
 -- a brick past the last is not up
 past_down : (layout : Layout) (w : World) (i : ℕ) → nat_lt i layout.bricks ≡ false → is_up layout w (brick_of i) ≡ false
 past_down layout w i past = ap (λ (t : Bool). t && w.up i) past
@@ -149,6 +164,31 @@ asked_list r b g is =
     by false large =
         let few = is.few_bricks in
         down 65535 (grind (arith, nat_tests, few)) ∙ sym (down b (grind (arith, nat_tests, large, few)))
+
+pub found_list : (r : Run) (b g : ℕ) (by : BrickId) (asked : ℕ) (answer : Result View Refusal) → IsLayout r.layout → by ≡ member_no b → asked ≡ group_asked g
+    → answer ≡ proposer_at r by.0 asked → list_to_propose (suspicions_of r) by answer ≡ spare_list r b g
+found_list r b g by asked answer within by_is asked_is is =
+    ap (list_to_propose (suspicions_of r) by) is
+    ∙ ap (λ (n : ℕ). list_to_propose (suspicions_of r) by (proposer_at r by.0 n)) asked_is
+    ∙ ap (λ (z : BrickId). list_to_propose (suspicions_of r) z (proposer_at r z.0 (group_asked g))) by_is
+    ∙ asked_list r b g within
+
+-- the numbers of a list's bricks
+abbrev pub numbers_in : Option (List BrickId) → Option (List ℕ)
+numbers_in list = option_map (λ (members : List BrickId). map (λ (member : BrickId). member.0) members) list
+
+-- a line `spare` stands for the line of its list, or there is none
+pub stands_for : (r : Run) (line : Line) (b g : ℕ) (members : List ℕ) → line ≡ Spare b g → Some members ≡ numbers_in (spare_list r b g)
+    → meant r line ≡ Propose b g members
+stands_for r line b g members is list = ap (meant r) is ∙ by (spare_list r b g) list
+  where
+    by : (o : Option (List BrickId)) → Some members ≡ numbers_in o → proposing_line b g o ≡ Propose b g members
+    by None found = let never : Some members ≡ None = found in cc
+    by (Some found) same = ap (Propose b g) (sym (same_Some members (map (λ (member : BrickId). member.0) found) same))
+
+pub no_list : (o : Option (List BrickId)) → None ≡ numbers_in o → o ≡ None
+no_list None none = refl
+no_list (Some found) none = let never : None ≡ Some (map (λ (member : BrickId). member.0) found) = none in cc
 
 -- what is suspected after one step more
 pub suspected_on : (layout : Layout) (before after : List Step) (step : Step) (old new : Suspicions) → after ≡ before ++ step ∷ []
