@@ -1,8 +1,8 @@
 -- What lines leave that speak of suspicions: a list that a brick proposes by them may keep its group.
 use Rattle.std.proofs.Common.{◌≡◌, ℕ, ◌<◌, ◌≤◌, Bool, true, false, cond, ◌&&◌, ◌||◌, nat_lt, nat_le, nat_eq, List, [], ◌∷◌, ◌++◌, length, append-nil, Option, Some, None, refl, sym, ap, ◌∙◌, subst, arith}
-use Rattle.std.specs.Prelude.{not, is_some, map, Result, Ok, Err}
+use Rattle.std.specs.Prelude.{not, is_some, map, Ok, Err}
 use Rattle.std.specs.List.{IsDistinct, AllByRecursion, list_all}
-use Rattle.std.proofs.lemmas.Bool.{cond_both, and_parts, and_from, or_parts, not-true, false≢true}
+use Rattle.std.proofs.lemmas.Bool.{and_parts, and_from, or_parts, not-true, false≢true}
 use Rattle.std.proofs.lemmas.Bool.Decides.{nat_tests}
 use Rattle.fab_base.specs.declared.answers.Refusal.TheVariants.{Down, NoStripe, Busy}
 use Rattle.fab_base.specs.declared.identities.BrickId.{BrickId}
@@ -15,7 +15,6 @@ use Rattle.lines.specs.declared.forms.Line.TheVariants.{Suspect, Trust, Spare}
 use Rattle.quorum.specs.Memberships.{stands_in, are_distinct, is_membership}
 use Rattle.stripe_code.specs.Codes.{coding}
 use Rattle.stripe_code.proofs.Soundness.{coding_is_sound}
-use Rattle.protocol.specs.declared.tellings.Report.{Report}
 use Rattle.protocol.specs.Nodes.{Node, proposal_refusal_in, proposal_refusal, proposed}
 use Rattle.protocol.specs.Views.{members_of}
 use Rattle.protocol.specs.Worlds.{World, Event, Proposes, is_up, may_propose, world_stepped, happens, run}
@@ -31,7 +30,7 @@ use Rattle.world.specs.Runs.{Run, Step, world_of, all_events, brick_of, group_no
 use Rattle.world.specs.Suspected.{suspicions_of, proposer_in, proposer_at, list_to_propose, spare_list, proposing_line, meant}
 use Rattle.world.specs.Faults.{IsEventsOf}
 use Rattle.world.specs.Disks.{KeepsDisks}
-use Rattle.world.specs.Steps.{Runs, ChangesNothing, LeavesAside, with_step}
+use Rattle.world.specs.Steps.{Runs, ChangesNothing, LeavesAside}
 use Rattle.world.proofs.RunLemmas.{world_of-with_step}
 use Rattle.world.proofs.Suspecting.{bricks_of}
 

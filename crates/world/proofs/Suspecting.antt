@@ -1,8 +1,8 @@
 -- What lines change of what is suspected, and which lines are run as they stand.
-use Rattle.std.proofs.Common.{◌≡◌, ℕ, ◌<◌, ◌≤◌, ◌-◌, Bool, true, false, cond, ◌&&◌, nat_lt, List, [], ◌∷◌, ◌++◌, length, Option, Some, None, refl, sym, ap, ◌∙◌, subst, arith}
-use Rattle.std.specs.Prelude.{◌^◌, ◌↔◌, IsTrue, Result, Ok, Err, is_some, slice_get, map}
+use Rattle.std.proofs.Common.{◌≡◌, ℕ, ◌≤◌, ◌-◌, Bool, true, false, cond, ◌&&◌, nat_lt, List, [], ◌∷◌, ◌++◌, Option, Some, None, refl, sym, ap, ◌∙◌, subst, arith}
+use Rattle.std.specs.Prelude.{◌^◌, ◌↔◌, IsTrue, Result, Err, is_some, map}
 use Rattle.std.specs.Option.{option_map}
-use Rattle.std.proofs.lemmas.Bool.{cond_both, and_parts, and_from, cases_Bool, false≢true}
+use Rattle.std.proofs.lemmas.Bool.{cond_both, and_parts, and_from, false≢true}
 use Rattle.std.proofs.lemmas.Bool.Decides.{nat_tests}
 use Rattle.std.proofs.lemmas.Option.{same_Some, slice_get_past}
 use Rattle.fab_base.specs.declared.answers.Refusal.{Refusal}
@@ -13,7 +13,6 @@ use Rattle.fab_base.specs.Layouts.{Layout, Group, group_of}
 use Rattle.layout.specs.Limits.{IsLayout}
 use Rattle.lines.specs.declared.forms.Line.{Line}
 use Rattle.lines.specs.declared.forms.Line.TheVariants.{Propose, Suspect, Trust, Spare}
-use Rattle.protocol.specs.Nodes.{Node}
 use Rattle.protocol.specs.Worlds.{World, is_up}
 use Rattle.spares.specs.Suspicions.{Suspicions, HasBoth, unsuspecting, with_opinion}
 use Rattle.world.specs.Runs.{Run, Step, world_of, brick_of, member_no}

@@ -1,10 +1,10 @@
 -- The line of the list was run in the simulation, or there is no list, and nothing was.
-use Rattle.std.proofs.Common.{◌≡◌, ℕ, List, refl, sym, ap, ◌∙◌, subst}
+use Rattle.std.proofs.Common.{sym, ap, ◌∙◌, subst}
 use Rattle.lines.specs.declared.forms.Line.{Line}
 use Rattle.lines.specs.declared.forms.Line.TheVariants.{Propose}
 use Rattle.stripe_code.specs.Codes.{coding}
 use Rattle.protocol.specs.Worlds.{World}
-use Rattle.world.specs.Runs.{Run, Course, world_of}
+use Rattle.world.specs.Runs.{Course, world_of}
 use Rattle.world.specs.Shown.{Shows, disks_of}
 use Rattle.world.specs.Standing.{run_of}
 use Rattle.world.specs.Suspected.{suspected_after, spare_list}

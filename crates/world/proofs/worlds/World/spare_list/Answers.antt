@@ -1,9 +1,8 @@
 -- The list is that of the brick that is asked, by the number that it is asked by.
-use Rattle.std.proofs.Common.{◌≡◌, List, [], Option, Some, sym, ap, ◌∙◌, subst}
-use Rattle.fab_base.specs.declared.identities.BrickId.{BrickId}
+use Rattle.std.proofs.Common.{Some, sym, ap, ◌∙◌, subst}
 use Rattle.layout.specs.Limits.{IsLayout}
 use Rattle.world.specs.Runs.{Run}
-use Rattle.world.specs.Suspected.{suspicions_of, list_to_propose, spare_list}
+use Rattle.world.specs.Suspected.{suspicions_of, list_to_propose}
 use Rattle.world.proofs.Suspecting.{found_list, numbers_in}
 use Rattle.world.proofs.worlds.World.spare_list.Goals as goal
 

@@ -1,6 +1,5 @@
 -- The step is one of no event, and what is suspected has changed as the line says.
-use Rattle.std.proofs.Common.{◌≡◌, Bool, false, ℕ, sym, ap, ◌∙◌, subst}
-use Rattle.lines.specs.declared.forms.Line.TheVariants.{Trust}
+use Rattle.std.proofs.Common.{false, ℕ, sym, ap, ◌∙◌, subst}
 use Rattle.world.specs.Runs.{Course}
 use Rattle.world.specs.Standing.{run_of}
 use Rattle.world.specs.Steps.{RunsTo}
