@@ -4,6 +4,7 @@ use Rattle.std.specs.Prelude.{not, is_some, map, Ok, Err}
 use Rattle.std.specs.List.{IsDistinct, AllByRecursion, list_all}
 use Rattle.std.proofs.lemmas.Bool.{and_parts, and_from, or_parts, not-true, false≢true}
 use Rattle.std.proofs.lemmas.Bool.Decides.{nat_tests}
+use Rattle.fab_base.specs.declared.answers.Refusal.{Refusal}
 use Rattle.fab_base.specs.declared.answers.Refusal.TheVariants.{Down, NoStripe, Busy}
 use Rattle.fab_base.specs.declared.identities.BrickId.{BrickId}
 use Rattle.fab_base.specs.declared.member_lists.View.{View}
@@ -15,6 +16,8 @@ use Rattle.lines.specs.declared.forms.Line.TheVariants.{Suspect, Trust, Spare}
 use Rattle.quorum.specs.Memberships.{stands_in, are_distinct, is_membership}
 use Rattle.stripe_code.specs.Codes.{coding}
 use Rattle.stripe_code.proofs.Soundness.{coding_is_sound}
+use Rattle.protocol.specs.declared.tellings.Report.TheVariants as report
+use Rattle.protocol.specs.declared.tellings.ViewAnswer.TheVariants as answer
 use Rattle.protocol.specs.Nodes.{Node, proposal_refusal_in, proposal_refusal, proposed}
 use Rattle.protocol.specs.Views.{members_of}
 use Rattle.protocol.specs.Worlds.{World, Event, Proposes, is_up, may_propose, world_stepped, happens, run}
@@ -147,16 +150,21 @@ replaced_keeps s by m members next is list =
 
 -- ---- a line `spare` reports nothing
 
+-- where nothing is refused, the first reason is not so
+first_not : (t : Bool) (first : Refusal) (rest : Option Refusal) → is_some (cond t (Some first) rest) ≡ false → t ≡ false
+first_not true first rest none = absurd (false≢true (sym none))
+first_not false first rest none = refl
+
 -- a proposal that is not refused is of a group, by a brick that has none
-unrefused : (node : Node) (g : ℕ) (found : Option Group) → is_some (proposal_refusal_in node g found) ≡ false
+unrefused_in : (node : Node) (g : ℕ) (found : Option Group) → is_some (proposal_refusal_in node g found) ≡ false
     → (base : Group) × (found ≡ Some base) × (is_some node.proposal ≡ false)
-unrefused node g None none = absurd (false≢true (sym none))
-unrefused node g (Some base) none = (base, refl, by (is_some node.proposal) refl)
-  where
-    by : (t : Bool) → is_some node.proposal ≡ t → t ≡ false
-    by false is = refl
-    by true is =
-        absurd (false≢true (sym none ∙ ap (λ (t : Bool). is_some (cond t (Some Busy) _)) is))
+unrefused_in node g None none = absurd (false≢true (sym none))
+unrefused_in node g (Some base) none = (base, refl, first_not (is_some node.proposal) Busy _ none)
+
+unrefused : (layout : Layout) (node : Node) (g : ℕ) → is_some (proposal_refusal layout node g) ≡ false
+    → (base : Group) × (group_of layout g ≡ Some base) × (is_some node.proposal ≡ false)
+unfolding proposal_refusal
+unrefused layout node g none = unrefused_in node g (group_of layout g) none
 
 -- a brick may be asked for a proposal, and its view is this
 asked_view : (r : Run) (b g : ℕ) (base : Group) → is_up r.layout (world_of r) (brick_of b) ≡ true → group_of r.layout g ≡ Some base
@@ -195,7 +203,7 @@ quiet_proposal r b g members is list = by (may_propose (coding r.layout) (world_
         let w : World = world_of r in
         let s : Suspicions = suspicions_of r in
         let parts = and_parts (is_up r.layout w (brick_of b)) (not (is_some (proposal_refusal r.layout (w.nodes b) g))) may in
-        let (base, found, free) = here b g (not-true (is_some (proposal_refusal r.layout (w.nodes b) g)) parts.1) in
+        let (base, found, free) = unrefused r.layout (w.nodes b) g (not-true (is_some (proposal_refusal r.layout (w.nodes b) g)) parts.1) in
         let view : View = ((w.nodes b).learnt g).view in
         let bricks : s.bricks ≡ r.layout.bricks = bricks_of r in
         let few : s.bricks ≤ 64 = subst (λ (n : ℕ). n ≤ 64) (sym bricks) is.few_bricks in
@@ -209,12 +217,8 @@ quiet_proposal r b g members is list = by (may_propose (coding r.layout) (world_
         subst (λ (n : ℕ). is_membership base.m n asked ≡ true) bricks
         (subst (λ (l : List BrickId). is_membership base.m s.bricks l ≡ true) (sym same) may_keep_it) in
         bad_members_end (coding r.layout) w (brick_of b) (group_no g) asked base may found
-        ∙ ap (λ (t : Bool). w.choices.reports ++ cond t [] _) is_list ∙ append-nil w.choices.reports
-      where
-        here : (b g : ℕ) → is_some (proposal_refusal r.layout ((world_of r).nodes b) g) ≡ false
-            → (base : Group) × (group_of r.layout g ≡ Some base) × (is_some ((world_of r).nodes b).proposal ≡ false)
-        unfolding proposal_refusal
-        here b g none = unrefused ((world_of r).nodes b) g (group_of r.layout g) none
+        ∙ ap (λ (t : Bool). w.choices.reports ++ cond t [] ((brick_of b, report.View (group_no g) None answer.BadMembers) ∷ [])) is_list
+        ∙ append-nil w.choices.reports
 
 -- nor does the line
 quiet_line : (r : Run) (b g : ℕ) (new : List MemDisk) (events : List Event) → IsLayout r.layout
