@@ -82,7 +82,10 @@ fn note_spare(notes: &mut Text, spared: &SpareSeat) {
         spared.from.0.into(),
         spared.to.0.into(),
     ];
-    notes.fill("seat % of group % is to go from brick % to brick %\n", &numbers);
+    notes.fill(
+        "seat % of group % is to go from brick % to brick %\n",
+        &numbers,
+    );
 }
 
 /// What a line did, beside what `replay` prints for it: a note a line. These messages had been sent once it was run.

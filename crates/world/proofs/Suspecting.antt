@@ -93,9 +93,9 @@ noted_line old new b c suspected true few has noted idle =
     sym (asked_below old.bricks c few) ∙ (let below = (has.0 refl).1 in grind (arith, nat_tests, below)) in
     let both_are : has_both old.bricks b c ≡ true = and_from (nat_lt b old.bricks) (nat_lt c old.bricks) here there in (
       noted refl
-      ∙ ap (λ (z : BrickId). with_opinion old z (member_no c) suspected) (asked_is old.bricks b few here)
-      ∙ ap (λ (z : BrickId). with_opinion old (brick_of b) z suspected) (asked_is old.bricks c few there)
-      ∙ sym (ap (λ (t : Bool). cond t (with_opinion old (brick_of b) (brick_of c) suspected) old) both_are),
+          ∙ ap (λ (z : BrickId). with_opinion old z (member_no c) suspected) (asked_is old.bricks b few here)
+          ∙ ap (λ (z : BrickId). with_opinion old (brick_of b) z suspected) (asked_is old.bricks c few there)
+          ∙ sym (ap (λ (t : Bool). cond t (with_opinion old (brick_of b) (brick_of c) suspected) old) both_are),
       sym both_are,
     )
 noted_line old new b c suspected false few has noted idle =
@@ -138,6 +138,7 @@ asked_group r i g is = by (nat_lt g (2 ^ 32)) refl
     answer : ℕ → Bool → Result View Refusal
     answer g there =
         cond (is_up r.layout (world_of r) (brick_of i)) (cond there (proposer_in ((world_of r).nodes i) g) (Err NoStripe)) (Err Down)
+
     by : (t : Bool) → nat_lt g (2 ^ 32) ≡ t → proposer_at r i (cond t g (2 ^ 32 - 1)) ≡ proposer_at r i g
     by true small = refl
     by false large =
@@ -157,6 +158,7 @@ asked_list r b g is =
         ap (λ (t : Bool). list_to_propose (suspicions_of r) (brick_of i)
         (cond t (cond (is_some (group_of r.layout g)) (proposer_in ((world_of r).nodes i) g) (Err NoStripe)) (Err Down)))
         (past_down r.layout (world_of r) i past)
+
     by : (t : Bool) → nat_lt b 65536 ≡ t
         → list_to_propose (suspicions_of r) (brick_of (cond t b 65535)) (proposer_at r (cond t b 65535) g) ≡ spare_list r b g
     by true small = refl
