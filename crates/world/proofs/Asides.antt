@@ -189,13 +189,13 @@ same_members bricks (member ∷ members) few below =
 quiet_proposal : (r : Run) (b g : ℕ) (members : List BrickId) → IsLayout r.layout → spare_list r b g ≡ Some members
     → (happens (coding r.layout) (world_of r) (Proposes (brick_of b) (group_no g) (map member_no (map (λ (member : BrickId). member.0) members)))).choices.reports
     ≡ (world_of r).choices.reports
+unfolding happens
 quiet_proposal r b g members is list = by (may_propose (coding r.layout) (world_of r) (brick_of b) (group_no g)) refl
   where
     asked : List BrickId
     asked = map member_no (map (λ (member : BrickId). member.0) members)
     by : (t : Bool) → may_propose (coding r.layout) (world_of r) (brick_of b) (group_no g) ≡ t
         → (happens (coding r.layout) (world_of r) (Proposes (brick_of b) (group_no g) asked)).choices.reports ≡ (world_of r).choices.reports
-    unfolding happens
     by false not_so =
         ap (λ (t : Bool). (cond t (world_stepped (coding r.layout) (world_of r) (brick_of b)
         (proposed (coding r.layout) (brick_of b) ((world_of r).nodes b) (group_no g) asked)) (world_of r)).choices.reports) not_so
