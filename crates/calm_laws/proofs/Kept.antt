@@ -11,12 +11,12 @@ use Rattle.messages.specs.declared.replies.Reply.{Reply}
 use Rattle.messages.specs.declared.requests.Request.{Request}
 use Rattle.protocol.specs.Views.{is_later, view_told}
 use Rattle.protocol.specs.Coordinators.{Coordinator, Next, Ignores, Waits, Sends, Makes, Ends, on_reply, hearing, counts_at}
-use Rattle.protocol.specs.Nodes.{reading as reading_node, carried_for, job_reading, read_closed, synced_at, with_job, Node, NodeStep, put, requested, replied_at, received, carried_out, known_after, fresh_stamp, invoked, began, group_at, stopped, restarted, first_node, proposed, heard, with_known, with_round, with_learnt, node_taught_by, view_counted, lists_fit, with_scrub, scrub_of, scrubbed_at, scrubbing, scrub_coordinator}
+use Rattle.protocol.specs.Nodes.{reading as reading_node, carried_for, job_reading, read_closed, synced_at, with_job, Node, NodeStep, put, requested, replied_at, received, carried_out, known_after, fresh_stamp, invoked, began, group_at, stopped, restarted, proposed, heard, with_known, with_round, with_learnt, node_taught_by, view_counted, lists_fit, with_scrub, scrub_of, scrubbed_at, scrubbing, scrub_coordinator}
 use Rattle.protocol.specs.Settings.{Setting}
 use Rattle.protocol.specs.Jobs.{Job, begun_job}
 use Rattle.view_laws.proofs.SyncReads.{carried_each, synced_at_each, read_call, scrubbed_at_each}
 use Rattle.fab_base.specs.declared.identities.GroupId.{GroupId}
-use Rattle.protocol.specs.Worlds.{World, Event, Found, Before, After, first_world, world_found, run}
+use Rattle.protocol.specs.Worlds.{World, Event, Found, Before, After, first_brick, first_world, world_found, run}
 use Rattle.protocol_laws.specs.Laws.{WasSent}
 use Rattle.protocol_laws.proofs.BooksEvents.{start_fits}
 use Rattle.protocol_laws.proofs.Left.{IsLeft, Leaves, always_leaves, kept_of}
@@ -234,7 +234,7 @@ module _ (setting : Setting) (P : Node → Type 0) (same : IsOfParts P) (request
           (left_keeps w brick.0 (w.after brick.0) (known.1.nodes brick.0) (known.0 brick.0 down) all)
 
   -- what holds of a fresh brick holds always
-  pub always_kept : P (first_node setting.layout) → (events : List Event) (i : ℕ) → P ((run setting events (first_world setting.layout)).nodes i)
+  pub always_kept : P (first_brick setting.layout) → (events : List Event) (i : ℕ) → P ((run setting events (first_world setting.layout)).nodes i)
   always_kept fresh =
       always_where AllHave (λ w. Leaves setting w × StampViews setting.layout w) setting (λ events. (always_leaves setting events, always_views setting events))
       (λ i. fresh) have_cases

@@ -1,4 +1,4 @@
--- What a program reads, an auditor reads too: the keys that only an auditor knows are missing in it.
+-- What a program reads, an auditor reads too: the key that only an auditor knows is missing in it.
 use Rattle.std.proofs.Common.{◌≡◌, ℕ, Bool, true, false, ◌||◌, cond, List, [], ◌∷◌, Option, Some, None, Result, Ok, Err, IfOk, Ordering, Less, Equal, Greater, refl, sym, ap, ◌∙◌, nat_cmp}
 use Rattle.std.specs.Cmp.Lexicographic.{slice_cmp}
 use Rattle.std.specs.Ordering.{match_ordering}
@@ -14,7 +14,7 @@ use Rattle.layout.specs.declared.faults.FieldName.TheVariants.{Other}
 use Rattle.layout.specs.declared.faults.LayoutFault.{LayoutFault}
 use Rattle.layout.specs.declared.faults.LayoutFault.TheVariants.{Field, Toml}
 use Rattle.layout.specs.declared.faults.Reader.TheVariants.{Program, Auditor}
-use Rattle.layout.specs.Checks.{lesser, is_known, least_other, keys_of, refused_key, store_in, spares_in, top_keys, layout_in}
+use Rattle.layout.specs.Checks.{lesser, is_known, least_other, keys_of, refused_key, spares_in, top_keys, layout_in}
 use Rattle.layout.specs.Texts.{document_of, layout_or, layout_of, audited_layout_of}
 use Rattle.layout.proofs.Parts.{Parts, parts_of, says_parts}
 
@@ -46,7 +46,7 @@ missing known key (member text value rest) unknown none =
     by_order Greater is here behind = behind
 
 -- a key that a program knows, an auditor knows
-known_to_both : (a b c d s p e f : Bool) → (a || (b || (c || (d || (e || (f || false)))))) ≡ true
+known_to_both : (a b c d s p e f : Bool) → (a || (b || (c || (d || (s || (e || (f || false))))))) ≡ true
     → (a || (b || (c || (d || (s || (p || (e || (f || false)))))))) ≡ true
 known_to_both true b c d s p e f is = refl
 known_to_both false true c d s p e f is = refl
@@ -99,7 +99,7 @@ table_is_audited table layout is =
       bricks_read = p.bricks_read;
       records_read = p.records_read;
       port_read = p.port_read;
-      store_read = ap store_in (missing (top_keys Program) (key_text keys.Store) table refl none) ∙ p.store_read;
+      store_read = p.store_read;
       spares_read = ap (spares_in p.bricks) (missing (top_keys Program) (key_text keys.Spares) table refl none) ∙ p.spares_read;
       tables_read = p.tables_read;
       volume_tables_read = p.volume_tables_read;

@@ -117,9 +117,8 @@ volume_tables_checks (Some value) =
     (or_checks (option_and_then tables_in (as_array value)) (no_field keys.Volume) tt)
     (λ (tables : List Members). or_checks (up_to_64 tables) (Limit keys.Volume) tt)
 
-store_checks : (reader : Reader) (table : Members) → ChecksTable (store_at reader table)
-store_checks Program table = tt
-store_checks Auditor table = by_value (get_member (key_text keys.Store) table)
+store_checks : (table : Members) → ChecksTable (store_at table)
+store_checks table = by_value (get_member (key_text keys.Store) table)
   where
     by_value : (o : Option Data) → ChecksTable (store_in o)
     by_value None = tt
@@ -143,7 +142,7 @@ layout_checks reader table =
     then_checks (number_at table keys.Bricks 1 64) _ (within_checks keys.Bricks 1 64 (integer_at table keys.Bricks)) (λ (bricks : ℕ).
     then_checks (number_at table keys.Records 1 1048576) _ (within_checks keys.Records 1 1048576 (integer_at table keys.Records)) (λ (records : ℕ).
     then_checks (port_at table) _ (port_checks (get_member (key_text keys.Port) table)) (λ (port : ℕ).
-    then_checks (store_at reader table) _ (store_checks reader table) (λ (store : ℕ).
+    then_checks (store_at table) _ (store_checks table) (λ (store : ℕ).
     then_checks (spares_at reader bricks table) _ (spares_checks reader bricks table) (λ (spares : List BrickId).
     then_checks (tables_at table) _ (tables_checks table) (λ tables.
     then_checks (volume_tables_at table) _ (volume_tables_checks (get_member (key_text keys.Volume) table)) (λ volume_tables.

@@ -129,10 +129,8 @@ abbrev pub store_in : Option Data → Result ℕ LayoutFault
 store_in None = Ok 2
 store_in (Some value) = within keys.Store 1 2 (as_integer value)
 
--- the same, as a reader knows it: a program has stores of form 2 alone
-abbrev pub store_at : Reader → Members → Result ℕ LayoutFault
-store_at Program table = Ok 2
-store_at Auditor table = store_in (get_member (key_text keys.Store) table)
+abbrev pub store_at : Members → Result ℕ LayoutFault
+store_at table = store_in (get_member (key_text keys.Store) table)
 
 -- the bricks, if there are at most 64 and none stands twice
 abbrev pub up_to_64_bricks : List BrickId → Option (List BrickId)
@@ -314,7 +312,7 @@ volume_tables_at table = volume_tables_in (get_member (key_text keys.Volume) tab
 
 -- the keys at the top, as a reader knows them
 abbrev pub top_keys : Reader → List Key
-top_keys Program = keys.Block ∷ (keys.Bricks ∷ (keys.Records ∷ (keys.Port ∷ (keys.Group ∷ (keys.Volume ∷ [])))))
+top_keys Program = keys.Block ∷ (keys.Bricks ∷ (keys.Records ∷ (keys.Port ∷ (keys.Store ∷ (keys.Group ∷ (keys.Volume ∷ []))))))
 top_keys Auditor =
     keys.Block ∷ (keys.Bricks ∷ (keys.Records ∷ (keys.Port ∷ (keys.Store ∷ (keys.Spares ∷ (keys.Group ∷ (keys.Volume ∷ [])))))))
 
@@ -339,7 +337,7 @@ layout_in reader table = do
   bricks ← number_at table keys.Bricks 1 64
   records ← number_at table keys.Records 1 1048576
   port ← port_at table
-  store ← store_at reader table
+  store ← store_at table
   spares ← spares_at reader bricks table
   tables ← tables_at table
   volume_tables ← volume_tables_at table

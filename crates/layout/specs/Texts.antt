@@ -23,7 +23,7 @@ layout_or reader (Some table) = layout_in reader table
 abbrev pub layout_of : List ℕ → Result Layout LayoutFault
 layout_of text = layout_or Program (document_of text)
 
--- the same to one that only looks at what others ran: the text may say the form of their stores, and their spares
+-- the same to one that only looks at what others ran: the text may say their spares
 abbrev pub audited_layout_of : List ℕ → Result Layout LayoutFault
 audited_layout_of text = layout_or Auditor (document_of text)
 

@@ -97,10 +97,10 @@ impl fmt::Display for Key {
     }
 }
 
-/// Whose reading of a layout it is: the keys `store` and `spares` are known to an auditor alone.
+/// Whose reading of a layout it is: the key `spares` is known to an auditor alone.
 #[derive(Clone, Copy, Debug, PartialEq, Eq)]
 pub enum Reader {
-    /// A program that runs the disk. Its stores are of form 2, and it has no spares.
+    /// A program that runs the disk. It has no spares.
     Program,
     /// One that only looks at what others ran.
     Auditor,

@@ -15,11 +15,12 @@ use toml::value::Array;
 use toml::{Table, Value};
 
 // The keys at the top of a layout text, as a program knows them and as an auditor does, and those of a group.
-const PROGRAM_KEYS: [Key; 6] = [
+const PROGRAM_KEYS: [Key; 7] = [
     Key::Block,
     Key::Bricks,
     Key::Records,
     Key::Port,
+    Key::Store,
     Key::Group,
     Key::Volume,
 ];
@@ -179,14 +180,14 @@ fn members_at(alloc: Global, table: &Table, m: u8, bricks: u16) -> Result<Member
     Members::new(members).ok_or(limit(Key::GroupMembers))
 }
 
-// The form of the stores, as a reader knows it; 2 where the key is missing.
-pub fn store_at(table: &Table, reader: Reader) -> Result<u32, LayoutFault>
-    ensures value { result ≡ store_at reader (table_view table.now) }
+// The form of the stores; 2 where the key is missing.
+pub fn store_at(table: &Table) -> Result<u32, LayoutFault>
+    ensures value { result ≡ store_at (table_view table.now) }
     ensures range { IfOk result (λ store. (1 ≤ store) × (store ≤ 2)) }
 {
-    match (reader, value_at(table, Key::Store)) {
-        (Reader::Auditor, Some(value)) => within(Key::Store, 1, 2, value.as_integer()),
-        _ => Ok(2),
+    match value_at(table, Key::Store) {
+        None => Ok(2),
+        Some(value) => within(Key::Store, 1, 2, value.as_integer()),
     }
 }
 

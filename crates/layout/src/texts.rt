@@ -64,8 +64,8 @@ impl Layout {
         layout_in(alloc, &table, Reader::Program)
     }
 
-    /// The layout that a text says to one that only looks at what others ran. It may have the keys `store` and `spares`, which a
-    /// program refuses: 1 or 2, and 0 to 64 distinct bricks of the disk.
+    /// The layout that a text says to one that only looks at what others ran. It may have the key `spares`, which a program refuses:
+    /// 0 to 64 distinct bricks of the disk.
     ///
     /// # Errors
     ///

@@ -1,6 +1,6 @@
 -- The whole disk, and what a schedule of steps makes of it. Every message that was ever sent may be
 -- delivered, once, often or never, in any order: that is all that a network may do to it.
-use Rattle.std.specs.Prelude.{ℕ, zero, suc, ◌+◌, Bool, true, false, not, nat_eq, nat_lt, ◌&&◌, ◌||◌, if◌then◌else◌, List, [], ◌∷◌, ◌++◌, length, map, Option, Some, None, is_some, slice_get}
+use Rattle.std.specs.Prelude.{ℕ, zero, suc, ◌+◌, Bool, true, false, not, nat_eq, nat_lt, ◌==◌, ◌&&◌, ◌||◌, if◌then◌else◌, List, [], ◌∷◌, ◌++◌, length, map, Option, Some, None, is_some, slice_get}
 use Rattle.fab_base.specs.declared.identities.BrickId.{BrickId}
 use Rattle.fab_base.specs.declared.identities.GroupId.{GroupId}
 use Rattle.fab_base.specs.declared.identities.StripeNo.{StripeNo}
@@ -112,13 +112,21 @@ abbrev pub zero_content : ℕ → Option Group → List ℕ
 zero_content block None = []
 zero_content block (Some group) = zero_registers group.m block
 
--- all bricks up, their stores fresh, their clocks at 0, and nothing sent
+-- the stores are made in the old format, which an opening brings over
+abbrev pub has_old_stores : Layout → Bool
+has_old_stores layout = layout.store == 1
+
+-- A brick of a fresh store, as the first world has it: the store was opened once. One of the old format was not opened yet.
+abbrev pub first_brick : Layout → Node
+first_brick layout = record (first_node layout) { boot = if has_old_stores layout then 0 else 1 }
+
+-- The stores fresh, the clocks at 0, and nothing sent. All bricks are up, or, where their stores are of the old format, down.
 abbrev pub first_world : Layout → World
 first_world layout =
     record {
-      nodes = λ i. first_node layout;
-      after = λ i. first_node layout;
-      up = λ i. true;
+      nodes = λ i. first_brick layout;
+      after = λ i. first_brick layout;
+      up = λ i. not (has_old_stores layout);
       clocks = λ i. 0;
       packets = [];
       marks = [];

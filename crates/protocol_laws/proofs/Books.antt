@@ -175,7 +175,7 @@ pub record JobBooks (w : World) (i : ℕ) (job : Job) : Type 0 where
 pub record Books (setting : Setting) (w : World) : Type 0 where
   pub well_formed : IsWellFormed w.marks
   pub places : (k : ℕ) (mark : Mark) → slice_get w.marks k ≡ Some mark → position_of mark ≡ k
-  pub boots : (i : ℕ) → 1 ≤ (w.nodes i).boot
+  pub boots : (i : ℕ) → w.up i ≡ true → 1 ≤ (w.nodes i).boot
   pub own : OwnMarks w
   pub all_begun : (n : ℕ) → 1 ≤ n → n ≤ w.begun → (o : Operation) × IsOperation w n o
   pub operations : (n : ℕ) (o : Operation) → IsOperation w n o → OperationBooks setting w n o

@@ -242,7 +242,7 @@ module _ (setting : Setting) (w : World) (brick : BrickId) (now : ℕ) (ask : As
           from_one = omega arith;
           begun = omega arith;
           number = new_number;
-          booted = (books.boots i, (let e : (later.nodes i).boot ≡ node.boot = boots_stay i in omega arith));
+          booted = (books.boots i up, (let e : (later.nodes i).boot ≡ node.boot = boots_stay i in omega arith));
           called = (omega arith, λ present. (let e : (later.nodes i).seq ≡ k = last_seq in omega arith));
           group = group;
           group_is = group_is;
@@ -325,7 +325,7 @@ module _ (setting : Setting) (w : World) (brick : BrickId) (now : ℕ) (ask : As
             well_formed = well_formed;
             places = places;
             own = own;
-            boots = λ j. (let e : (later.nodes j).boot ≡ (w.nodes j).boot = boots_stay j in omega (arith, books.boots j));
+            boots = λ j is_up_now. (let e : (later.nodes j).boot ≡ (w.nodes j).boot = boots_stay j in omega (arith, books.boots j is_up_now));
             all_begun = λ m low high. ⊎_elim
                 (λ (mine : m ≡ n). (o, subst (λ (x : ℕ). IsOperation later x o) (sym mine) new_operation))
                 (λ (other : m ≢ n).

@@ -18,7 +18,7 @@ use Rattle.fab_base.specs.Layouts.{group_of}
 use Rattle.protocol.specs.Settings.{Setting}
 use Rattle.protocol.specs.declared.phases.Counted.{Counted}
 use Rattle.protocol.specs.Coordinators.{Coordinator}
-use Rattle.protocol.specs.Nodes.{Node, has_length, no_calls, stopped, has_block}
+use Rattle.protocol.specs.Nodes.{Node, put, has_length, no_calls, stopped, has_block}
 use Rattle.protocol.specs.Worlds.{World, Operation, is_answer, number_of, world_stopped, Choices}
 use Rattle.protocol_laws.proofs.Books.{Books, IsReadable, OperationBooks, LifeBooks, UnmarkedBooks, CallBooks, IsOperation, IsCall, ForScrub, own_seq}
 use Rattle.protocol_laws.proofs.MarkNumbers.{cases_marked, own_by, other_mark}
@@ -166,7 +166,7 @@ module _ (setting : Setting) (w : World) (i k : ℕ) (c : Coordinator) (before o
           places = places;
           own = own_by w.marked w.operations books.own (number_of w i k) before o operations ended.operation_was ended.operation_is ended.same.mark
               ended.other_operations;
-          boots = λ j. (let e : (nodes j).boot ≡ (w.nodes j).boot = (ended.keeps j).boot in omega (arith, books.boots j));
+          boots = λ j up. (let e : (nodes j).boot ≡ (w.nodes j).boot = (ended.keeps j).boot in omega (arith, books.boots j up));
           all_begun = λ n low high. ⊎_elim
               (λ (mine : n ≡ number_of w i k). (o, subst (λ (m : ℕ). IsOperation later m o) (sym mine) ended.operation_is))
               (λ (other : n ≢ number_of w i k).
@@ -441,7 +441,12 @@ module _ (setting : Setting) (w : World) (brick : BrickId) (during : Option ℕ)
         well_formed = well_formed_crash w.marks (length w.marks) brick books.well_formed places;
         places = places;
         own = books.own;
-        boots = λ j. (let e : (shut.nodes j).boot ≡ (w.nodes j).boot = (stopped_keeps j).boot in omega (arith, books.boots j));
+        boots = λ j up. ⊎_elim
+            (λ (mine : j ≡ i). absurd (false≢true (sym (ap (λ (x : ℕ). put w.up i false x) mine ∙ put_same w.up i false) ∙ up)))
+            (λ (other : j ≢ i).
+            let e : (shut.nodes j).boot ≡ (w.nodes j).boot = (stopped_keeps j).boot in
+            omega (arith, books.boots j (sym (put_other w.up i false j other) ∙ up)))
+            (cases_eq j i);
         all_begun = books.all_begun;
         operations = λ n o is. ⊎_elim
             (λ (mine : o.brick.0 ≡ i). own_stays n o (books.operations n o is) mine)

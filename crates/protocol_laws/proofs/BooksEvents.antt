@@ -36,7 +36,7 @@ use Rattle.protocol.specs.declared.phases.Phase.TheVariants.{Looks, LooksAt, Ord
 use Rattle.protocol.specs.declared.phases.Counted.{Counted}
 use Rattle.protocol.specs.Coordinators.{Coordinator, Next, Ignores, Waits, Sends, Makes, Ends, most_rounds, with_reply, once_full, counted_at, counts_at, on_reply, asked_view, AreEnough}
 use Rattle.protocol.specs.Nodes.{Node, NodeStep, put, no_step, has_block, has_length, refusal_in, refusal_of, began, invoked, with_replica, replica_at, full_at, reply_packets, requested, ticked, may_open, has_later_time, next_time, new_stamp, fresh_stamp, known_after, with_call, with_known, carried_out, phase_packets, collect_packets, synced_packets, reporting, with_job, job_reading, synced_at, sync_refusal, sending, replied_at, heard, received, group_at, vote_at, with_round, proposed, node_taught_by, node_learnt, view_counted, lists_fit, node_synced, scrub_of, scrub_ended, scrubbed_at, scrub_refusal_in, scrub_refusal}
-use Rattle.protocol.specs.Worlds.{World, world_found, Operation, Found, Before, After, Found, Before, After, Event, is_answer, first_world, is_brick, is_up, may_begin, number_of, may_start, world_found, world_began, world_stepped, with_made, with_seen, with_answer, with_closed, with_content, may_sync, replies_with, voiced, run, with_held, choices_after, Choices, may_scrub}
+use Rattle.protocol.specs.Worlds.{World, world_found, Operation, Found, Before, After, Found, Before, After, Event, is_answer, has_old_stores, first_world, is_brick, is_up, may_begin, number_of, may_start, world_found, world_began, world_stepped, with_made, with_seen, with_answer, with_closed, with_content, may_sync, replies_with, voiced, run, with_held, choices_after, Choices, may_scrub}
 use Rattle.protocol_laws.specs.Laws.{WasSent}
 use Rattle.protocol.proofs.Served.{request_each}
 use Rattle.protocol_laws.proofs.Left.{IsLeft, kept_of, Leaves, always_leaves, found_down}
@@ -1134,6 +1134,11 @@ module _ (setting : Setting) (w : World) where
         (found_down w brick found fits.0) fits.1);
   }
 
+-- a brick that is up at first was opened once
+first_boots : (old : Bool) → not old ≡ true → 1 ≤ cond old 0 1
+first_boots true up = absurd (let never : false ≡ true = up in cc)
+first_boots false up = omega arith
+
 -- at first nothing is booked
 books_first : (setting : Setting) → Books setting (first_world setting.layout)
 books_first setting = record {
@@ -1143,7 +1148,7 @@ books_first setting = record {
     ends_are_of_open = λ i p n answer is. absurd (let never : None ≡ Some _ = is in cc);
   };
   places = λ k mark is. absurd (let never : None ≡ Some mark = is in cc);
-  boots = λ i. omega arith;
+  boots = λ i up. first_boots (has_old_stores setting.layout) up;
   own = record {
     within = λ n o is. absurd (let never : None ≡ Some o = is in cc);
     in_turn = λ n m o p is. absurd (let never : None ≡ Some o = is in cc);

@@ -53,7 +53,7 @@ books_quiet setting w nodes held clocks packets replies reached choices books ke
       well_formed = books.well_formed;
       places = books.places;
       own = books.own;
-      boots = λ i. (let e : (nodes i).boot ≡ (w.nodes i).boot = (keeps i).boot in omega (arith, books.boots i));
+      boots = λ i up. (let e : (nodes i).boot ≡ (w.nodes i).boot = (keeps i).boot in omega (arith, books.boots i up));
       all_begun = books.all_begun;
       operations = λ n o is. (let mine : OperationBooks setting w n o = books.operations n o is in
           let seqs : (w.nodes o.brick.0).seq ≤ (nodes o.brick.0).seq = (keeps o.brick.0).seq in
@@ -212,11 +212,11 @@ module _ (setting : Setting) (w : World) (brick : BrickId) (openings : ℕ) (boo
     well_formed = books.well_formed;
     places = books.places;
     own = books.own;
-    boots = λ j. ⊎_elim
+    boots = λ j up. ⊎_elim
         (λ (mine : j ≡ i). let boot : (later.nodes j).boot ≡ (w.nodes i).boot + openings = ap (λ (x : ℕ). (later.nodes x).boot) mine
         ∙ own_boot in omega arith)
         (λ (other : j ≢ i). let boot : (later.nodes j).boot ≡ (w.nodes j).boot = ap (λ (x : Node). x.boot) (unstarted j other) in
-        omega (arith, books.boots j))
+        omega (arith, books.boots j (sym (put_other w.up i true j other) ∙ up)))
         (cases_eq j i);
     all_begun = books.all_begun;
     operations = λ n o is. ⊎_elim

@@ -240,7 +240,7 @@ module _ (setting : Setting) (w : World) (i k : ℕ) (c d : Coordinator) (before
     places = books.places;
     own = own_by w.marked w.operations books.own (number_of w i k) before o operations turned.operation_was turned.operation_is turned.same_ask.mark
         turned.other_operations;
-    boots = λ j. (let e : (nodes j).boot ≡ (w.nodes j).boot = (turned.keeps j).boot in omega (arith, books.boots j));
+    boots = λ j up. (let e : (nodes j).boot ≡ (w.nodes j).boot = (turned.keeps j).boot in omega (arith, books.boots j up));
     all_begun = λ n low high. ⊎_elim
         (λ (mine : n ≡ number_of w i k). (o, subst (λ (m : ℕ). IsOperation later m o) (sym mine) turned.operation_is))
         (λ (other : n ≢ number_of w i k).

@@ -350,10 +350,10 @@ module _ (setting : Setting) (w : World) where
         found;
   }
 
--- at first every brick is up
+-- at first every brick is as it was made, up or down
 pub always_leaves : (setting : Setting) (events : List Event) → Leaves setting (run setting events (first_world setting.layout))
 always_leaves setting events =
-    always (Leaves setting) setting (λ i down. absurd (let never : true ≡ false = down in cc)) (leaves_cases setting) events
+    always (Leaves setting) setting (λ i down. inl refl) (leaves_cases setting) events
 
 -- a brick that starts with what its store is found to hold is still down
 pub found_down : (w : World) (brick : BrickId) (found : Found) → w.up brick.0 ≡ false → (world_found w brick found).up brick.0 ≡ false

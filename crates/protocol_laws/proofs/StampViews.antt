@@ -32,8 +32,8 @@ use Rattle.protocol.specs.Replicas.{Replica, Reaction, first_replica, fresh_repl
 use Rattle.protocol.specs.declared.phases.Phase.{Phase}
 use Rattle.protocol.specs.declared.phases.Phase.TheVariants.{Looks, LooksAt, Orders, OrdersAt, Recovers, Descends, Modifies, Bases, Stores, LooksBack}
 use Rattle.protocol.specs.Coordinators.{Coordinator, Next, Ignores, Waits, Sends, Makes, Ends, with_reply, once_full, counted_at, counts_at, on_reply, request_of, asked_view, asked_group, looks_back, hearing}
-use Rattle.protocol.specs.Nodes.{Node, NodeStep, view_at, view_floor, put, first_node, no_step, phase_packets, new_coordinator, began, invoked, replica_at, full_at, requested, known_after, with_call, carried_out, has_later_time, new_stamp, fresh_stamp, group_at, replied_at, heard, received, absorbed, vote_at, with_learnt, node_taught_by, node_learnt, lists_fit, view_counted, with_known, with_round, proposed, ticked, stopped, restarted, has_accepted, node_synced, first_phase, synced_at, carried_for, job_reading, collect_packets, with_job, read_closed, synced_packets, reading_aside, with_scrub, scrub_of, scrub_coordinator, scrubbed_at}
-use Rattle.protocol.specs.Worlds.{World, Event, After, first_world, packet_during, left_after, world_found, world_started, run}
+use Rattle.protocol.specs.Nodes.{Node, NodeStep, view_at, view_floor, put, no_step, phase_packets, new_coordinator, began, invoked, replica_at, full_at, requested, known_after, with_call, carried_out, has_later_time, new_stamp, fresh_stamp, group_at, replied_at, heard, received, absorbed, vote_at, with_learnt, node_taught_by, node_learnt, lists_fit, view_counted, with_known, with_round, proposed, ticked, stopped, restarted, has_accepted, node_synced, first_phase, synced_at, carried_for, job_reading, collect_packets, with_job, read_closed, synced_packets, reading_aside, with_scrub, scrub_of, scrub_coordinator, scrubbed_at}
+use Rattle.protocol.specs.Worlds.{World, Event, After, first_brick, first_world, packet_during, left_after, world_found, world_started, run}
 use Rattle.protocol.proofs.Events.{EventCases, step_on, started_each, always, world_counting}
 use Rattle.protocol.proofs.Packets.{OfEach, each_none, each_both, each_member, each_collect, each_reply}
 use Rattle.protocol_laws.specs.Laws.{stamp_asked}
@@ -715,7 +715,7 @@ views_cases setting w has = record {
       packets = was.packets;
     }
 
-first_views : (layout : Layout) → NodeViews layout (first_node layout)
+first_views : (layout : Layout) → NodeViews layout (first_brick layout)
 first_views layout = record {
   views = λ g. omega arith;
   parts = λ g e s. fresh_part layout.block e;

@@ -573,6 +573,6 @@ always_calls setting =
         requests = λ k packet at. absurd (let never : None ≡ Some packet = at in cc);
         drafts = λ i p is. absurd (let never : None ≡ Some p = is in cc);
       };
-      left = λ i down. absurd (false≢true (sym down));
+      left = λ i down. record { boot = refl; seq = refl; round = refl; proposal = refl };
     })
     (calls_cases setting)

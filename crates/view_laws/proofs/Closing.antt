@@ -35,7 +35,7 @@ use Rattle.protocol.specs.Ballots.{moved_to, outbidding, granting, unless_barred
 use Rattle.protocol.specs.Proposals.{Proposal, Voting, Ignored, Waited, Asks, Ended, voted}
 use Rattle.protocol.specs.Coordinators.{Coordinator, Next, Ignores, Waits, Sends, Makes, Ends, request_of, hearing, counts_at, on_reply, asked_group}
 use Rattle.protocol.specs.Nodes.{Node, NodeStep, view_at, has_accepted, put, no_step, sending, with_known, with_round, known_after, fresh_stamp, group_at, began, invoked, phase_packets, replica_at, full_at, moved_at, vote_at, voted_on, requested, with_learnt, node_taught, node_taught_by, may_teach, node_learnt, view_counted, carried_out, ended_packets, carried_ballot, replied_ballot, replied_at, replied, lists_fit, heard, received, absorbed, ticked, new_proposal, proposing, proposed_in, proposed, stopped, restarted, node_synced, old_reply, new_coordinator, synced_at, carried_for, job_reading, scrub_of, scrub_coordinator, scrubbed_at, collect_packets, read_closed, synced_packets}
-use Rattle.protocol.specs.Worlds.{World, Event, first_world, is_up, packet_during, left_after, world_stepped, run}
+use Rattle.protocol.specs.Worlds.{World, Event, first_brick, first_world, is_up, packet_during, left_after, world_stepped, run}
 use Rattle.protocol.proofs.Events.{EventCases, step_on, world_counting, always, started_each}
 use Rattle.protocol.proofs.Packets.{OfEach, each_none, each_both, each_member, each_collect, each_reply, each_learn, each_ballot, each_ballot_resent}
 use Rattle.protocol.proofs.Served.{IsCollect, IsServed, request_each, parts_each, IsTold, TellsOld}
@@ -608,4 +608,5 @@ left_cases setting w left = record {
 
 -- so it is in every world that a run reaches
 pub always_left : (setting : Setting) (events : List Event) → LeavesParts setting.layout (run setting events (first_world setting.layout))
-always_left setting = always (LeavesParts setting.layout) setting (λ i down. absurd (false≢true (sym down))) (left_cases setting)
+always_left setting = always (LeavesParts setting.layout) setting
+    (λ i down. parts_same setting.layout (first_brick setting.layout) (first_brick setting.layout) refl) (left_cases setting)

@@ -1,5 +1,5 @@
 -- The number of a call is that of an operation of this very call, in every world that a schedule reaches.
-use Rattle.std.proofs.Common.{◌≡◌, ◌≢◌, ℕ, ◌+◌, ◌≤◌, ⊎_elim, Bool, true, false, cond, nat_eq, ◌&&◌, List, Option, Some, None, refl, sym, ap, ◌∙◌, subst, arith}
+use Rattle.std.proofs.Common.{◌≡◌, ◌≢◌, ℕ, ◌+◌, ◌≤◌, ⊎_elim, Bool, true, false, cond, nat_eq, ◌&&◌, List, [], length, Option, Some, None, refl, sym, ap, ◌∙◌, subst, arith}
 use Rattle.std.proofs.lemmas.Bool.{and_parts, cond_both, cases_eq, eqb-true}
 use Rattle.std.proofs.lemmas.Option.{same_Some}
 use Rattle.fab_base.specs.declared.answers.Answer.{Answer}
@@ -14,6 +14,7 @@ use Rattle.protocol.specs.Coordinators.{Coordinator}
 use Rattle.protocol.specs.Nodes.{NodeStep, put, invoked, proposed, synced_at, scrubbed_at}
 use Rattle.protocol.specs.Worlds.{World, Operation, Event, first_world, is_brick, is_up, number_of, read_of_call, with_made, with_seen, with_closed, with_answer, world_began, world_stepped, run}
 use Rattle.protocol_laws.proofs.Books.{Books}
+use Rattle.world.specs.CallNumbers.{AreCalls}
 use Rattle.world.proofs.Places.{value_here, value_elsewhere}
 use Rattle.protocol.proofs.Events.{EventCases, step_on, world_counting, stepped_each, started_each, always}
 
@@ -255,3 +256,8 @@ next_unnumbered w says knows i = ⊎_elim
     let count : (w.nodes o.brick.0).seq ≡ (w.nodes i).seq = ap (λ j. (w.nodes j).seq) at in
     absurd (omega (arith, knows.called (number_of w i ((w.nodes i).seq + 1)) o found.1.1 boot, found.1.2.2, count)))
     (cases_eq (number_of w i ((w.nodes i).seq + 1)) 0)
+
+-- at first no brick has made a call, up or down
+pub none_called : (up : Bool) (calls : List ℕ) (number : ℕ → ℕ) → calls ≡ [] → AreCalls up calls number 0
+none_called true calls number none = (ap length none, λ k below. absurd (omega (arith, below)))
+none_called false calls number none = none

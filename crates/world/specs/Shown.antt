@@ -23,14 +23,14 @@ use Rattle.protocol.specs.declared.tellings.Answered.{Answered}
 use Rattle.protocol.specs.declared.tellings.Report.{Report}
 use Rattle.protocol.specs.declared.tellings.Told.{Told}
 use Rattle.protocol.specs.declared.tellings.Told.TheVariants as told
-use Rattle.protocol.specs.Worlds.{World, Operation, is_up, number_of, first_world, happens, run}
+use Rattle.protocol.specs.Worlds.{World, Operation, is_up, number_of, first_brick, first_world, has_old_stores, happens, run}
 use Rattle.protocol.specs.Happenings.{is_marked, writes}
 use Rattle.protocol.specs.Settings.{Setting}
 use Rattle.protocol.specs.Worlds.{Event}
 use Rattle.world.specs.Runs.{brick_of, with_events, world_at}
 use Rattle.world.specs.CallNumbers.{AreCalls, HasCallRoom, calls_in}
 use Rattle.world.specs.Faults.{HoldsOne, IsEventsOf, IsStartOf, IsLeft, IsLeftOpening, IsReached, IsReachedOpening, Finds, plan_of, found_of}
-use Rattle.world.specs.Disks.{ShowsDisk, first_listed, IsUnwritten, KeepsDisks, LeavesContents, ListsPacket, ListsOpening}
+use Rattle.world.specs.Disks.{ShowsDisk, IsFreshList, IsUnwritten, KeepsDisks, LeavesContents, ListsPacket, ListsOpening}
 use Rattle.lines.specs.declared.forms.Fault.{Fault}
 use Rattle.lines.specs.declared.forms.Line.{Line}
 use Rattle.lines.specs.declared.forms.Line.TheVariants.{Calm, Deliver}
@@ -164,10 +164,11 @@ pub record ShowsBricks (layout : Layout) (bricks : List Brick) (nodes after : �
   pub count : length bricks ≡ layout.bricks
   pub each : (i : ℕ) (brick : Brick) → slice_get bricks i ≡ Some brick → ShowsBrick layout i brick (nodes i) (after i) (up i) (clocks i)
 
--- A brick as the first world has it: up, its clock at 0, and the list of its disk as long as the first opening left it.
+-- A brick as the first world has it: its clock at 0, and up, and the list of its disk as long as the first opening left it; or its store is of the old format,
+-- and was not opened yet.
 pub record IsFreshBrick (layout : Layout) (i : ℕ) (brick : Brick) : Type 0 where
-  pub shows : ShowsBrick layout i brick (machine.first_node layout) (machine.first_node layout) true 0
-  pub listed : IsListed (shape_at layout (brick_of i)) first_listed (content_of (disk_in brick.power))
+  pub shows : ShowsBrick layout i brick (first_brick layout) (first_brick layout) (not (has_old_stores layout)) 0
+  pub listed : IsFreshList (has_old_stores layout) (shape_at layout (brick_of i)) (content_of (disk_in brick.power))
 
 -- the power of a brick shows one of the machine's
 pub record IsNodeOf (layout : Layout) (i : ℕ) (power : Power) : Type 0 where

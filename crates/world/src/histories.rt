@@ -184,6 +184,7 @@ impl History {
     ghost use Rattle.world.specs.Noted.{IsSameHistory, NotesBegin, NotesRead, NotesCrash, ChangesCall, NotesTold, NotesEnds, NotesStep, NotesProposal, calls_aside};
 
     /// Nothing yet.
+    #[tactic(auto, using(crate::proofs::CallNumbers::none_called))]
     pub fn new(alloc: Global) -> History
         ensures { (layout : Layout) → Tells result (first_world layout) }
     {

@@ -107,11 +107,11 @@ impl World {
     ghost use Rattle.world.specs.Steps.{Ran, RunsTo, HasRun, LeavesSome, Stands, log_at, learnt_at, proposer_at};
     ghost use Rattle.world.specs.Walks.{AreEntriesOf};
 
-    /// All bricks up, their stores fresh, their clocks at 0, and nothing sent.
+    /// Stores fresh, clocks at 0, and nothing sent. All bricks are up, or, where their stores are of the old format, down.
     pub fn new(alloc: Global, layout: Layout) -> Result<World, NoMem>
         ensures first { IfOk result (λ world. world ≡ record { layout = layout; steps = []; disks = world.disks }) }
         ensures disks { IfOk result ShowsDisks }
-        // Each store was opened once: its list of frames is as long as that leaves it.
+        // Each store was opened once: its list of frames is as long as that leaves it. That of an old store is empty.
         ensures fresh { IfOk result HasFreshDisks }
     {
         let simulation = Simulation::new(alloc, &layout)?;
