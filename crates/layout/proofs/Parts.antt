@@ -27,7 +27,7 @@ pub record Parts (reader : Reader) (table : Members) : Type 0 where
   pub records_read : number_at table keys.Records 1 1048576 ≡ Ok records
   pub port_read : port_at table ≡ Ok port
   pub store_read : store_at table ≡ Ok store
-  pub spares_read : spares_at reader bricks table ≡ Ok spares
+  pub spares_read : spares_at bricks table ≡ Ok spares
   pub tables_read : tables_at table ≡ Ok tables
   pub volume_tables_read : volume_tables_at table ≡ Ok volume_tables
   pub groups_read : groups_in block bricks tables ≡ Ok groups
@@ -47,7 +47,7 @@ parts_of reader table layout is =
     let (records, records_read, after_records) = passed (number_at table keys.Records 1 1048576) _ layout after_bricks in
     let (port, port_read, after_port) = passed (port_at table) _ layout after_records in
     let (store, store_read, after_store) = passed (store_at table) _ layout after_port in
-    let (spares, spares_read, after_spares) = passed (spares_at reader bricks table) _ layout after_store in
+    let (spares, spares_read, after_spares) = passed (spares_at bricks table) _ layout after_store in
     let (tables, tables_read, after_tables) = passed (tables_at table) _ layout after_spares in
     let (volume_tables, volume_tables_read, after_volume_tables) = passed (volume_tables_at table) _ layout after_tables in
     let (groups, groups_read, after_groups) = passed (groups_in block bricks tables) _ layout after_volume_tables in

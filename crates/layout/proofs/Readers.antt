@@ -53,8 +53,7 @@ known_to_both false true c d s p e f is = refl
 known_to_both false false true d s p e f is = refl
 known_to_both false false false true s p e f is = refl
 known_to_both false false false false true p e f is = refl
-known_to_both false false false false false true e f is = refl
-known_to_both false false false false false false e f is = is
+known_to_both false false false false false p e f is = is
 
 -- one of these keys
 abbrev is_key : Key → List ℕ → Bool

@@ -124,9 +124,8 @@ store_checks table = by_value (get_member (key_text keys.Store) table)
     by_value None = tt
     by_value (Some value) = within_checks keys.Store 1 2 (as_integer value)
 
-spares_checks : (reader : Reader) (bricks : ℕ) (table : Members) → ChecksTable (spares_at reader bricks table)
-spares_checks Program bricks table = tt
-spares_checks Auditor bricks table = by_value (get_member (key_text keys.Spares) table)
+spares_checks : (bricks : ℕ) (table : Members) → ChecksTable (spares_at bricks table)
+spares_checks bricks table = by_value (get_member (key_text keys.Spares) table)
   where
     by_value : (o : Option Data) → ChecksTable (spares_in bricks o)
     by_value None = tt
@@ -143,7 +142,7 @@ layout_checks reader table =
     then_checks (number_at table keys.Records 1 1048576) _ (within_checks keys.Records 1 1048576 (integer_at table keys.Records)) (λ (records : ℕ).
     then_checks (port_at table) _ (port_checks (get_member (key_text keys.Port) table)) (λ (port : ℕ).
     then_checks (store_at table) _ (store_checks table) (λ (store : ℕ).
-    then_checks (spares_at reader bricks table) _ (spares_checks reader bricks table) (λ (spares : List BrickId).
+    then_checks (spares_at bricks table) _ (spares_checks bricks table) (λ (spares : List BrickId).
     then_checks (tables_at table) _ (tables_checks table) (λ tables.
     then_checks (volume_tables_at table) _ (volume_tables_checks (get_member (key_text keys.Volume) table)) (λ volume_tables.
     then_checks (groups_in block bricks tables) _ (groups_checks block bricks tables) (λ groups.

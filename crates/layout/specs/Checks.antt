@@ -143,10 +143,8 @@ spares_in bricks (Some value) = do
   numbers ← ok_or (option_and_then integers_in (as_array value)) (no_field keys.Spares)
   ok_or (option_and_then up_to_64_bricks (bricks_in bricks numbers)) (Limit keys.Spares)
 
--- the same, as a reader knows it: a program has none
-abbrev pub spares_at : Reader → ℕ → Members → Result (List BrickId) LayoutFault
-spares_at Program bricks table = Ok []
-spares_at Auditor bricks table = spares_in bricks (get_member (key_text keys.Spares) table)
+abbrev pub spares_at : ℕ → Members → Result (List BrickId) LayoutFault
+spares_at bricks table = spares_in bricks (get_member (key_text keys.Spares) table)
 
 -- ---- groups
 
@@ -312,7 +310,8 @@ volume_tables_at table = volume_tables_in (get_member (key_text keys.Volume) tab
 
 -- the keys at the top, as a reader knows them
 abbrev pub top_keys : Reader → List Key
-top_keys Program = keys.Block ∷ (keys.Bricks ∷ (keys.Records ∷ (keys.Port ∷ (keys.Store ∷ (keys.Group ∷ (keys.Volume ∷ []))))))
+top_keys Program =
+    keys.Block ∷ (keys.Bricks ∷ (keys.Records ∷ (keys.Port ∷ (keys.Store ∷ (keys.Spares ∷ (keys.Group ∷ (keys.Volume ∷ [])))))))
 top_keys Auditor =
     keys.Block ∷ (keys.Bricks ∷ (keys.Records ∷ (keys.Port ∷ (keys.Store ∷ (keys.Spares ∷ (keys.Group ∷ (keys.Volume ∷ [])))))))
 
@@ -338,7 +337,7 @@ layout_in reader table = do
   records ← number_at table keys.Records 1 1048576
   port ← port_at table
   store ← store_at table
-  spares ← spares_at reader bricks table
+  spares ← spares_at bricks table
   tables ← tables_at table
   volume_tables ← volume_tables_at table
   groups ← groups_in block bricks tables

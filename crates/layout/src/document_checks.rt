@@ -24,7 +24,7 @@ pub fn layout_in(alloc: Global, table: &Table, reader: Reader) -> Result<Layout,
     let records = number_at(table, Key::Records, 1, 1_048_576)?;
     let port = port_at(table)? as u16;
     let store = store_at(table)? as u8;
-    let spares = spares_at(alloc, table, reader, bricks)?;
+    let spares = spares_at(alloc, table, bricks)?;
     let tables = tables_at(alloc, table)?;
     let volume_tables = volume_tables_at(alloc, table)?;
     let groups = groups_in(alloc, block, bricks, tables.as_slice())?;

@@ -15,12 +15,13 @@ use toml::value::Array;
 use toml::{Table, Value};
 
 // The keys at the top of a layout text, as a program knows them and as an auditor does, and those of a group.
-const PROGRAM_KEYS: [Key; 7] = [
+const PROGRAM_KEYS: [Key; 8] = [
     Key::Block,
     Key::Bricks,
     Key::Records,
     Key::Port,
     Key::Store,
+    Key::Spares,
     Key::Group,
     Key::Volume,
 ];
@@ -191,20 +192,15 @@ pub fn store_at(table: &Table) -> Result<u32, LayoutFault>
     }
 }
 
-// The spares, as a reader knows them: a list of whole numbers, and then 0 to 64 distinct bricks of the disk; none where the key is missing.
-pub fn spares_at(
-    alloc: Global,
-    table: &Table,
-    reader: Reader,
-    bricks: u16,
-) -> Result<Vec<BrickId>, LayoutFault>
-    ensures ok { IfOk result (λ spares. spares_at reader bricks (table_view table.now) ≡ Ok spares.items) }
+// The spares: a list of whole numbers, and then 0 to 64 distinct bricks of the disk; none where the key is missing.
+pub fn spares_at(alloc: Global, table: &Table, bricks: u16) -> Result<Vec<BrickId>, LayoutFault>
+    ensures ok { IfOk result (λ spares. spares_at bricks (table_view table.now) ≡ Ok spares.items) }
     ensures err { IfErr result (λ fault. fault ≢ LayoutFault.NoMemory
-        → spares_at reader bricks (table_view table.now) ≡ Err fault) }
+        → spares_at bricks (table_view table.now) ≡ Err fault) }
 {
-    match (reader, value_at(table, Key::Spares)) {
-        (Reader::Auditor, Some(value)) => spares_in(alloc, bricks, value),
-        _ => Ok(Vec::new(alloc)),
+    match value_at(table, Key::Spares) {
+        None => Ok(Vec::new(alloc)),
+        Some(value) => spares_in(alloc, bricks, value),
     }
 }
 

@@ -1,6 +1,6 @@
 -- What stands behind a line's first word, where there are so many words of it.
 use Rattle.std.proofs.Common.{◌≡◌, ◌≢◌, ◌-◌, ◌<◌, ◌≤◌, ℕ, List, [], ◌∷◌, length, map, take, drop, take_all, get_or, Bor, Some, None, refl, arith}
-use Rattle.lines.specs.Grammar.{write_block, read_block, write_all, read_all, fault, deliver, start, clock, one_brick, calm, propose, sync, scrub}
+use Rattle.lines.specs.Grammar.{write_block, read_block, write_all, read_all, fault, deliver, start, clock, one_brick, calm, propose, sync, scrub, two_bricks, spare}
 
 -- the words that stand in a slice
 abbrev pub words : List (Bor (List ℕ)) → List (List ℕ)
@@ -139,6 +139,20 @@ sync_count [] other = refl
 sync_count (b ∷ []) other = refl
 sync_count (b ∷ g ∷ []) other = absurd (other refl)
 sync_count (b ∷ g ∷ s ∷ more) other = refl
+
+pub two_bricks_count : (found : List (Bor (List ℕ))) → length found ≢ 2 → None ≡ two_bricks (words found)
+unfolding two_bricks
+two_bricks_count [] other = refl
+two_bricks_count (b ∷ []) other = refl
+two_bricks_count (b ∷ c ∷ []) other = absurd (other refl)
+two_bricks_count (b ∷ c ∷ a ∷ more) other = refl
+
+pub spare_count : (found : List (Bor (List ℕ))) → length found ≢ 2 → None ≡ spare (words found)
+unfolding spare
+spare_count [] other = refl
+spare_count (b ∷ []) other = refl
+spare_count (b ∷ g ∷ []) other = absurd (other refl)
+spare_count (b ∷ g ∷ s ∷ more) other = refl
 
 pub read_all_count : (found : List (Bor (List ℕ))) → length found ≢ 3 → None ≡ read_all (words found)
 unfolding read_all

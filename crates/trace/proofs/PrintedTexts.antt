@@ -1,5 +1,5 @@
 -- What `replay` prints for a line is whole lines, none of which begins with a space.
-use Rattle.std.proofs.Common.{◌≡◌, ℕ, zero, suc, ◌+◌, ◌/◌, ◌%◌, ◌<◌, ◌==◌, not, true, false, List, [], ◌∷◌, ◌++◌, codes, nat_lt, slice_index, refl, sym, ap, ◌∙◌, subst, arith, lit<, append_assoc}
+use Rattle.std.proofs.Common.{◌≡◌, Bool, ℕ, zero, suc, ◌+◌, ◌/◌, ◌%◌, ◌<◌, ◌==◌, not, true, false, List, [], ◌∷◌, ◌++◌, codes, nat_lt, slice_index, refl, sym, ap, ◌∙◌, subst, arith, lit<, append_assoc}
 use Rattle.std.specs.List.{list_all}
 use Rattle.std.specs.Fmt.{decimal, digits, digits_onto, digit_glyph}
 use Rattle.std.proofs.lemmas.Bool.{cond_both}
@@ -33,7 +33,8 @@ use Rattle.lines.specs.declared.forms.Line.TheVariants as line
 use Rattle.protocol.specs.Settings.{Setting}
 use Rattle.protocol.specs.Worlds.{World, Event, happens}
 use Rattle.fab_base.specs.Texts.{newline, cause_text, refusal_text}
-use Rattle.world.specs.Texts.{place_text, op_text, answer_text, mark_text, marks_text, members_text, view_answer_text, sync_answer_text, scrub_answer_text, report_text, reports_text, idle_text, outcome_of, new_marks, new_reports, outcome_text, event_text, text_of, empty_text, line_text}
+use Rattle.world.specs.Texts.{place_text, op_text, answer_text, mark_text, marks_text, members_text, view_answer_text, sync_answer_text, scrub_answer_text, report_text, reports_text, idle_text, outcome_of, new_marks, new_reports, outcome_text, event_text, text_of, suspicion_text, empty_text, line_text}
+use Rattle.world.specs.Suspected.{has_both}
 use Rattle.world.specs.declared.simulations.Outcome.{Outcome}
 use Rattle.world.specs.declared.simulations.Outcome.TheVariants.{Marks, Refused, Idle}
 use Rattle.trace.specs.Told.{told_in, IsTold, IsStepText, indented, is_inside}
@@ -292,21 +293,28 @@ speaks-events setting w (event ∷ events) =
     (speaks-outcome (outcome_of setting w event) (new_marks w (happens setting w event)) (new_reports w (happens setting w event))) (speaks-events setting (happens setting w event) events)
 
 -- what a line prints that is no event
-speaks-empty : (l : Line) → Speaks (empty_text l)
-speaks-empty line.Nothing = speaks-none
-speaks-empty (line.Invoke b g s access) = speaks-none
-speaks-empty (line.Deliver k fault) = speaks-none
-speaks-empty (line.SetClock b v) = speaks-none
-speaks-empty (line.Tick b) = speaks-none
-speaks-empty (line.Crash b) = speaks-none
-speaks-empty (line.Start b fault) = speaks-none
-speaks-empty (line.Propose b g members) = speaks-none
-speaks-empty (line.Sync b g) = speaks-none
-speaks-empty (line.Scrub b g s members) = speaks-none
-speaks-empty (line.Calm n bricks) = speaks-idle
+speaks-suspicion : (has : Bool) → Speaks (suspicion_text has)
+speaks-suspicion true = speaks-none
+speaks-suspicion false = speaks-idle
+
+speaks-empty : (bricks : ℕ) (l : Line) → Speaks (empty_text bricks l)
+speaks-empty bricks line.Nothing = speaks-none
+speaks-empty bricks (line.Invoke b g s access) = speaks-none
+speaks-empty bricks (line.Deliver k fault) = speaks-none
+speaks-empty bricks (line.SetClock b v) = speaks-none
+speaks-empty bricks (line.Tick b) = speaks-none
+speaks-empty bricks (line.Crash b) = speaks-none
+speaks-empty bricks (line.Start b fault) = speaks-none
+speaks-empty bricks (line.Propose b g members) = speaks-none
+speaks-empty bricks (line.Sync b g) = speaks-none
+speaks-empty bricks (line.Scrub b g s members) = speaks-none
+speaks-empty bricks (line.Suspect b c) = speaks-suspicion (has_both bricks b c)
+speaks-empty bricks (line.Trust b c) = speaks-suspicion (has_both bricks b c)
+speaks-empty bricks (line.Spare b g) = speaks-idle
+speaks-empty bricks (line.Calm n others) = speaks-idle
 
 speaks-events_of : (setting : Setting) (w : World) (l : Line) (events : List Event) → Speaks (line_text setting w l events)
-speaks-events_of setting w l [] = speaks-empty l
+speaks-events_of setting w l [] = speaks-empty setting.layout.bricks l
 speaks-events_of setting w l (event ∷ events) = speaks-events setting w (event ∷ events)
 
 -- what `replay` prints for a line, behind spaces

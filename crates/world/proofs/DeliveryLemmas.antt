@@ -26,7 +26,7 @@ use Rattle.world.specs.Noted.{IsSameHistory}
 use Rattle.world.specs.Disks.{KeepsDisks, KeepsOthers, LeavesDisks, ListsEvent, ListsHandled, ListsPacket, receiver_of, changes_disk_of}
 use Rattle.world.specs.EventCalls.{handled_calls}
 use Rattle.world.specs.declared.bricks.Power.{Power}
-use Rattle.world.specs.Shown.{IsRunning, IsUpWith, Shows, ShowsBricks, ShowsPower, TookPart, TookWhole, disk_in, StartsAs, Tells, Comes, ComesTo, TakesEvent, StaysAs, StopsShort, RunsLine, RefusesLine, IsOther, disks_of, world_in}
+use Rattle.world.specs.Shown.{IsRunning, IsUpWith, Shows, ShowsBricks, ShowsPower, TookPart, TookWhole, disk_in, StartsAs, Tells, Comes, ComesTo, TakesEvent, StaysAs, StopsShort, RunsLine, RefusesLine, AsksBricks, IsOther, disks_of, world_in}
 use Rattle.world.specs.Texts.{marks_if, is_deliverable, outcome_of, outcome_text, new_marks, new_reports, event_text, text_of, line_text}
 use Rattle.world.specs.declared.simulations.Outcome.{Outcome}
 use Rattle.world.specs.declared.simulations.Outcome.TheVariants.{Marks, Idle}
@@ -254,10 +254,10 @@ takes_runs layout old new line event outcome are lists takes = record {
       (same_kept layout (world_in layout old) event (disks_of old.bricks.items) (disks_of new.bricks.items) takes.disks lists);
 }
 
--- a line that is no such one has an operation run alone
-pub other_is : (line : Line) → ((n : ℕ) (bricks : List ℕ) → line ≡ Calm n bricks → ⊥) → IsOther line
-other_is (Calm n bricks) never = absurd (never n bricks refl)
-other_is line never = tt
+-- a line that asks something of bricks is such a one, or has an operation run alone
+pub other_is : (line : Line) → AsksBricks line → ((n : ℕ) (bricks : List ℕ) → line ≡ Calm n bricks → ⊥) → IsOther line
+other_is (Calm n bricks) asks never = absurd (never n bricks refl)
+other_is line asks never = asks
 
 pub other_refuses : (layout : Layout) (old new : Simulation) (line : Line) → ((n : ℕ) (bricks : List ℕ) → line ≡ Calm n bricks → ⊥)
     → StaysAs layout old new → RefusesLine layout old new line

@@ -17,6 +17,8 @@ pub mod Orders
 pub mod Places
 pub mod RunLaws
 pub mod RunLemmas
+pub mod Suspecting
+pub mod Asides
 pub mod SimulationLemmas
 pub mod DeliveryLemmas
 pub mod CallNumbers

@@ -12,7 +12,7 @@ use Rattle.fab_disk.specs.declared.mem_disk.MemDisk.{MemDisk}
 use Rattle.lines.specs.declared.forms.Access.{Access}
 use Rattle.lines.specs.declared.forms.Access.TheVariants.{ReadBlock, WriteBlock, ReadStripe, WriteStripe}
 use Rattle.lines.specs.declared.forms.Line.{Line}
-use Rattle.lines.specs.declared.forms.Line.TheVariants.{Nothing, Invoke, Deliver, SetClock, Tick, Crash, Start, Propose, Sync, Scrub, Calm}
+use Rattle.lines.specs.declared.forms.Line.TheVariants.{Nothing, Invoke, Deliver, SetClock, Tick, Crash, Start, Propose, Sync, Scrub, Suspect, Trust, Spare, Calm}
 use Rattle.fab_base.specs.Layouts.{Layout}
 use Rattle.protocol.specs.Settings.{Setting}
 use Rattle.protocol.specs.Nodes.{refusal_of, proposal_refusal, sync_refusal, scrub_refusal}
@@ -67,7 +67,7 @@ abbrev pub member_no : ℕ → BrickId
 member_no number = brick_of (if nat_lt number 65536 then number else 65535)
 
 -- The events of a line of which no disk decides: a brick stops during no handling, and one that is not down does not start. An operation that is
--- to run alone does not.
+-- to run alone does not, and where a brick is to replace what it suspects, it proposes nothing. What a brick suspects is no event.
 abbrev pub events_of : Line → List Event
 events_of Nothing = []
 events_of (Invoke b g s access) = Invokes (brick_of b) (ask_of g s (op_of access)) ∷ []
@@ -79,6 +79,9 @@ events_of (Start b fault) = Starts (brick_of b) 1 Before ∷ []
 events_of (Propose b g members) = Proposes (brick_of b) (group_no g) (map member_no members) ∷ []
 events_of (Sync b g) = Syncs (brick_of b) (group_no g) ∷ []
 events_of (Scrub b g s members) = Scrubs (brick_of b) (group_no g) (stripe_no s) (map member_no members) ∷ []
+events_of (Suspect b c) = []
+events_of (Trust b c) = []
+events_of (Spare b g) = []
 events_of (Calm n bricks) = []
 
 -- the events of steps, in order

@@ -33,7 +33,7 @@ use Rattle.world.specs.Faults.{HoldsOne, IsEventsOf, IsStartOf, IsLeft, IsLeftOp
 use Rattle.world.specs.Disks.{ShowsDisk, IsFreshList, IsUnwritten, KeepsDisks, LeavesContents, ListsPacket, ListsOpening}
 use Rattle.lines.specs.declared.forms.Fault.{Fault}
 use Rattle.lines.specs.declared.forms.Line.{Line}
-use Rattle.lines.specs.declared.forms.Line.TheVariants.{Calm, Deliver}
+use Rattle.lines.specs.declared.forms.Line.TheVariants.{Suspect, Trust, Spare, Calm, Deliver}
 use Rattle.messages.specs.declared.packets.Packet.{Packet}
 use Rattle.coord_phase.specs.Messages.{packets_from}
 use Rattle.node.specs.Outcomes.{Outcome as Sent}
@@ -451,10 +451,17 @@ pub record StaysAs (layout : Layout) (old new : Simulation) : Type 0 where
 abbrev pub DeliversAlone : Layout → Simulation → Simulation → ℕ → Type 0
 DeliversAlone layout old new message = (outcome : Outcome) × GoesOn layout old new (Deliver message None) outcome
 
--- the line has no operation run alone
+-- the line asks something of bricks: it speaks of no suspicions
+abbrev pub AsksBricks : Line → Type 0
+AsksBricks (Suspect b c) = ⊥
+AsksBricks (Trust b c) = ⊥
+AsksBricks (Spare b g) = ⊥
+AsksBricks line = Unit {0}
+
+-- so it does, and has no operation run alone
 abbrev pub IsOther : Line → Type 0
 IsOther (Calm n bricks) = ⊥
-IsOther line = Unit {0}
+IsOther line = AsksBricks line
 
 -- no memory was left for an operation to run alone to its end
 abbrev pub StopsShort : Layout → Simulation → Simulation → Line → Type 0

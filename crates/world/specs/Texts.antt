@@ -25,7 +25,8 @@ use Rattle.protocol.specs.declared.tellings.Report.{Report}
 use Rattle.protocol.specs.declared.tellings.Report.TheVariants as report
 use Rattle.protocol.specs.Worlds.{World, Event, Invokes, Proposes, Syncs, Scrubs, Delivers, Sets, Ticks, Stops, Starts, is_brick, is_up, may_start, packet_of, happens}
 use Rattle.lines.specs.declared.forms.Line.{Line}
-use Rattle.lines.specs.declared.forms.Line.TheVariants.{Calm}
+use Rattle.lines.specs.declared.forms.Line.TheVariants.{Suspect, Trust, Spare, Calm}
+use Rattle.world.specs.Suspected.{has_both}
 use Rattle.world.specs.Runs.{Step, refusal_at, proposal_refusal_at, sync_refusal_at, scrub_refusal_at}
 use Rattle.world.specs.declared.simulations.Outcome.{Outcome}
 use Rattle.world.specs.declared.simulations.Outcome.TheVariants.{Marks, Refused, Idle}
@@ -154,14 +155,22 @@ abbrev pub text_of : Setting → World → List Event → List ℕ
 text_of setting w [] = []
 text_of setting w (event ∷ events) = event_text setting w event ++ text_of setting (happens setting w event) events
 
--- what a line prints that is no event: where an operation was to run alone, that there was nothing to do
-abbrev pub empty_text : Line → List ℕ
-empty_text (Calm n bricks) = idle_text
-empty_text line = []
+-- what a line prints for which the disk must have both bricks
+abbrev pub suspicion_text : Bool → List ℕ
+suspicion_text has = if has then [] else idle_text
+
+-- what a line prints that is no event, on a disk of so many bricks: that there was nothing to do, where an operation was to run alone, where a brick was to
+-- replace what it suspects, and where there is no brick that suspects or none that is suspected
+abbrev pub empty_text : ℕ → Line → List ℕ
+empty_text bricks (Suspect b c) = suspicion_text (has_both bricks b c)
+empty_text bricks (Trust b c) = suspicion_text (has_both bricks b c)
+empty_text bricks (Spare b g) = idle_text
+empty_text bricks (Calm n others) = idle_text
+empty_text bricks line = []
 
 -- what a line prints that is these events
 abbrev pub line_text : Setting → World → Line → List Event → List ℕ
-line_text setting w line [] = empty_text line
+line_text setting w line [] = empty_text setting.layout.bricks line
 line_text setting w line (event ∷ events) = text_of setting w (event ∷ events)
 
 -- what a step prints

@@ -69,7 +69,7 @@ fn group_of(layout: &Layout, group: u64) -> Option<GroupId>
 }
 
 /// A member of a number, as a brick is asked for it.
-fn member_no(number: u64) -> BrickId
+pub fn member_no(number: u64) -> BrickId
     ensures { result ≡ member_no number }
 {
     if number < 65536 {
@@ -117,7 +117,7 @@ impl Simulation {
     ghost use Rattle.lines.specs.declared.forms.Line.TheVariants.{Deliver, Start, Calm};
     ghost use Rattle.world.specs.Runs.{brick_of, ask_of, group_no, stripe_no, member_no, op_of};
     ghost use Rattle.world.specs.Disks.{AreFreshDisks};
-    ghost use Rattle.world.specs.Shown.{FindsUp, IsFirst, Stands, IsUp, IsOther, MayRun, RunsAloneTo, BeginsAloneTo, GoesOn, DeliversAlone, StopsShort, RunsLine, RefusesLine, TakesEvent, StaysAs, disks_of};
+    ghost use Rattle.world.specs.Shown.{FindsUp, IsFirst, Stands, IsUp, AsksBricks, IsOther, MayRun, RunsAloneTo, BeginsAloneTo, GoesOn, DeliversAlone, StopsShort, RunsLine, RefusesLine, TakesEvent, StaysAs, disks_of};
 
     /// All bricks up, their stores fresh, their clocks at 0, and nothing sent.
     pub fn new(alloc: Global, layout: &Layout) -> Result<Simulation, NoMem>
@@ -131,10 +131,11 @@ impl Simulation {
         })
     }
 
-    /// Runs a line. After a refusal for want of memory the state shows what it showed, or what the first deliveries of an operation that runs alone
-    /// leave.
+    /// Runs a line that speaks of no suspicions. After a refusal for want of memory the state shows what it showed, or what the first deliveries of an
+    /// operation that runs alone leave.
     pub fn run(&mut self, alloc: Global, layout: &Layout, line: &Line) -> Result<Outcome, NoMem>
-        requires { Stands layout.now self.old }
+        requires stands { Stands layout.now self.old }
+        requires line { AsksBricks line.now }
         ensures ok { IfOk result (GoesOn layout.now self.old self.new line.now) }
         ensures err { OnErr result (RefusesLine layout.now self.old self.new line.now) }
     {
@@ -146,7 +147,7 @@ impl Simulation {
         }
     }
 
-    /// Runs a line that has no operation run alone.
+    /// Runs a line that asks something of bricks, and has no operation run alone.
     fn take(&mut self, alloc: Global, layout: &Layout, line: &Line) -> Result<Outcome, NoMem>
         requires stands { Stands layout.now self.old }
         requires line { IsOther line.now }
@@ -191,6 +192,9 @@ impl Simulation {
                 stripe,
                 members,
             } => self.scrub(alloc, layout, *brick, *group, *stripe, members.as_slice()),
+            Line::Suspect { .. } => unreachable!(),
+            Line::Trust { .. } => unreachable!(),
+            Line::Spare { .. } => unreachable!(),
             Line::Calm { .. } => unreachable!(),
         }
     }
