@@ -17,7 +17,7 @@ use Rattle.messages.specs.declared.packets.Packet.{Packet}
 use Rattle.protocol.specs.declared.tellings.Report.{Report}
 use Rattle.protocol.specs.declared.tellings.ScrubAnswer.{ScrubAnswer}
 use Rattle.protocol.specs.Settings.{IsSound, Setting}
-use Rattle.protocol.specs.Calms.{Ended, IsCalm, RunsAlone, Stuck, members_among, next_delivery}
+use Rattle.protocol.specs.Calms.{Ended, IsCalm, RunsAlone, Stuck, members_among}
 use Rattle.protocol.specs.Calms.{Next as Goes_on}
 use Rattle.protocol.specs.Coordinators.{Coordinator}
 use Rattle.protocol.specs.Nodes.{Node, NodeStep, begun_aside, members_alone, put, scrub_coordinator, scrubbed_at, scrubbed_in, scrubbing}
@@ -37,7 +37,7 @@ use Rattle.view_laws.proofs.Followed.{every_run_follows}
 use Rattle.view_laws.proofs.Histories.{kept_is}
 use Rattle.calm_laws.specs.Laws.{EncodesBlocks, HasStripe, most_records}
 use Rattle.calm_laws.specs.Logs.{is_stripe}
-use Rattle.calm_laws.specs.LoneScrubs.{AreAlone, EndedWell, ScrubsEndAlone}
+use Rattle.calm_laws.specs.LoneScrubs.{AreAlone, EndedWell, HasNext, ScrubsEndAlone}
 use Rattle.calm_laws.proofs.Calmness.{finishes}
 use Rattle.calm_laws.proofs.Discharge.{known_of}
 use Rattle.calm_laws.proofs.Finishing.{runs_to}
@@ -156,11 +156,11 @@ runs_are setting n bricks _ _ _ (Goes_on w last number events some next runs) =
 -- its deliveries come to its end, or one more is left
 comes_to : (setting : Setting) (n : ℕ) (bricks : List BrickId) (w : World) (events : List Event) (last : World) → RunsAlone setting n bricks w events last
     → (others : List Event) → AreAlone setting w n bricks others
-    → (is_some (next_delivery (run setting others w) n bricks) ≡ true)
+    → HasNext (run setting others w) n bricks
     ⊎ ((rest : List Event) × AreAlone setting last n bricks rest × (run setting others w ≡ run setting rest last))
 comes_to setting n bricks _ _ _ (Ended w closed) others alone = inr (others, alone, refl)
 comes_to setting n bricks _ _ _ (Stuck w some none) others alone = inr (others, alone, refl)
-comes_to setting n bricks _ _ _ (Goes_on w last number events some next runs) [] alone = inl (ap (λ (z : Option ℕ). is_some z) next)
+comes_to setting n bricks _ _ _ (Goes_on w last number events some next runs) [] alone = inl (some, ap (λ (z : Option ℕ). is_some z) next)
 comes_to setting n bricks _ _ _ (Goes_on w last number events some next runs) (Delivers place ∷ others) alone =
     let same : place ≡ number = same_Some place number (sym alone.0 ∙ next) in
     comes_to setting n bricks (happens setting w (Delivers place)) events last
@@ -365,9 +365,9 @@ module _ (setting : Setting) (before : List Event) (me : BrickId) (group : Group
 
     -- so whichever its deliveries are
     ends_or_left : (others : List Event) → AreAlone setting w w.begun members others
-        → (is_some (next_delivery (run setting others w) w.begun members) ≡ true) ⊎ EndedWell (run setting others w) since me group stripe members
+        → HasNext (run setting others w) w.begun members ⊎ EndedWell (run setting others w) since me group stripe members
     ends_or_left others are = ⊎_elim
-        (λ (left : is_some (next_delivery (run setting others w) w.begun members) ≡ true). inl left)
+        (λ (left : HasNext (run setting others w) w.begun members). inl left)
         (λ (past : (rest : List Event) × AreAlone setting last w.begun members rest × (run setting others w ≡ run setting rest last)).
         let it = ended_well in
         inr (subst (λ (z : World). EndedWell z since me group stripe members) (sym past.2) (record {
@@ -384,7 +384,7 @@ module _ (setting : Setting) (before : List Event) (me : BrickId) (group : Group
 
   -- it runs alone to its end
   scrub_ends : (others : List Event) → AreAlone setting w w.begun members others
-      → (is_some (next_delivery (run setting others w) w.begun members) ≡ true) ⊎ EndedWell (run setting others w) since me group stripe members
+      → HasNext (run setting others w) w.begun members ⊎ EndedWell (run setting others w) since me group stripe members
   scrub_ends =
       let finish = finishes setting sound encodes w w.begun members calm (known_of setting before w.begun members sound encodes small calm has_stripe) in
       ends_or_left finish.events finish.last finish.alone finish.end.operation finish.end.is finish.end.answered
@@ -399,7 +399,7 @@ scrubs_end setting before events brick group stripe members sound encodes small 
     let there = run-append setting (first_world setting.layout) before (Scrubs brick group stripe members ∷ []) in
     let begun = begun_so setting (run setting before (first_world setting.layout)) brick group stripe members may in
     subst (λ (w : World). IsCalm setting w w.begun members → AreAlone setting w w.begun members events
-    → (is_some (next_delivery (run setting events w) w.begun members) ≡ true)
+    → HasNext (run setting events w) w.begun members
     ⊎ EndedWell (run setting events w) (length w.choices.reports) brick group stripe members) there
     (λ calm. scrub_ends setting begins brick group stripe members sound encodes small
     (subst (λ (w : World). BegunScrub setting w brick group stripe members) (sym there) begun) calm events)

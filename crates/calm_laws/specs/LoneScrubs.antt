@@ -5,7 +5,7 @@ use Rattle.fab_base.specs.declared.identities.GroupId.{GroupId}
 use Rattle.fab_base.specs.declared.identities.StripeNo.{StripeNo}
 use Rattle.messages.specs.declared.calls.Call.{Call}
 use Rattle.protocol.specs.Settings.{IsSound, Setting}
-use Rattle.protocol.specs.Calms.{IsCalm, next_delivery}
+use Rattle.protocol.specs.Calms.{IsCalm, next_delivery, open_call}
 use Rattle.protocol.specs.Worlds.{World, Event, Scrubs, Delivers, first_world, happens, may_scrub, run}
 use Rattle.protocol.specs.declared.tellings.Report.{Report}
 use Rattle.protocol.specs.declared.tellings.ScrubAnswer.{ScrubAnswer}
@@ -30,14 +30,18 @@ pub record EndedWell (w : World) (reports : ℕ) (brick : BrickId) (group : Grou
   pub stripe_is : call.stripe ≡ stripe
   pub well : cause_of answer ≡ None
 
+-- operation n is open, and one more of its messages among these bricks is to be delivered
+abbrev pub HasNext : World → ℕ → List BrickId → Type 0
+HasNext w n bricks = (is_some (open_call w n) ≡ true) × (is_some (next_delivery w n bricks) ≡ true)
+
 -- A brick is asked in this world to scrub these members of a stripe, and these events follow. Where the scrub begins, and is calm among its members, and the events
--- are its deliveries among them alone, one more of these is left, or the scrub has ended well. It is the operation that has begun last.
+-- are its deliveries among them alone, it is open and has a next one, or it has ended well. It is the operation that has begun last.
 abbrev pub ScrubEndsAlone : Setting → World → BrickId → GroupId → StripeNo → List BrickId → List Event → Type 0
 ScrubEndsAlone setting w brick group stripe members events =
     (let begun = happens setting w (Scrubs brick group stripe members) in
     let last = run setting events begun in
     may_scrub setting w brick group stripe members ≡ true → IsCalm setting begun begun.begun members → AreAlone setting begun begun.begun members events
-    → (is_some (next_delivery last begun.begun members) ≡ true) ⊎ EndedWell last (length begun.choices.reports) brick group stripe members)
+    → HasNext last begun.begun members ⊎ EndedWell last (length begun.choices.reports) brick group stripe members)
 
 -- so after every schedule
 abbrev pub ScrubsEndAlone : Type 0

@@ -37,8 +37,8 @@ pub fn collects_leave_one()
     ensures { CollectsLeaveOne }
 {}
 
-/// A scrub that runs alone among the members that it names ends: it is reported clean, or repaired. Where it may run alone as it begins, and each event since was the
-/// delivery of its message that goes next, one more such message is left, or it has ended so. Its brick need be none of the members.
+/// A scrub that runs alone among the members that it names ends: it is reported clean, or repaired. It may run alone as it begins, and each event since was the
+/// delivery of its message that goes next. Then it is open, and has one more such message, or it has ended so. Its brick need be none of the members.
 ///
 /// Why: it is an operation that counts these members alone, so it comes to its end, and is not aborted. Until it ends its brick has it open, and as it ends the brick
 /// reports it.
