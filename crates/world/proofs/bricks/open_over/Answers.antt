@@ -3,7 +3,7 @@ use Rattle.std.proofs.Common.{inl, inr, refl, ◌∙◌, subst}
 use Rattle.brick_store.specs.declared.faults.OpenFault.{OpenFault}
 use Rattle.node.specs.Openings.{OpensBrick, stopped_by}
 use Rattle.world.specs.Faults.{in_memory, plan_of}
-use Rattle.world.proofs.DownLemmas.{IsArmed, started, cut_short, worn, rests_still}
+use Rattle.world.proofs.DownLemmas.{IsArmed, started, cut_short, worn, rests_still, holds_store}
 use Rattle.world.proofs.bricks.open_over.Goals as goal
 
 pub returns-in-Ok : goal.returns-in-Ok
@@ -64,3 +64,16 @@ returns-in-Err-NoMemory-default c state after rests =
     c.in-Err-NoMemory-default.ensures.opens)
     (record { content = c.arm-in-Err-NoMemory-default.ensures.content; crash = c.arm-in-Err-NoMemory-default.ensures.crash })
     (c.arm-in-Err-NoMemory-default.ensures.again refl)
+
+-- it holds a store
+pub unreachable-requires : goal.unreachable-requires
+unreachable-requires c =
+    let (state, after, rests) = c.requires in
+    let arms : IsArmed (plan_of c.args.fault) c.args.disk c.arm.new.self = record {
+      content = c.arm.ensures.content;
+      crash = c.arm.ensures.crash;
+      planned = c.arm.ensures.planned ∙ c.plan_of.ensures;
+      listed = c.arm.ensures.listed;
+    } in
+    holds_store c.args.layout c.args.me state after c.args.fault c.args.disk c.arm.new.self rests arms _
+    (c.in-Err-NotAStore-default.ensures.not_a_store c.in-Err-NotAStore-default.field-0-0-is tt)
