@@ -21,6 +21,7 @@ pub mod Suspecting
 pub mod Asides
 pub mod SimulationLemmas
 pub mod DeliveryLemmas
+pub mod Delivering
 pub mod CallNumbers
 pub mod TimeLemmas
 pub mod DeliveryLists
@@ -32,3 +33,4 @@ pub mod OpenRecords
 pub mod CalmRuns
 pub mod CalmLoops
 pub mod CalmEnds
+pub mod AloneRuns
