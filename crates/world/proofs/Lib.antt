@@ -20,6 +20,7 @@ pub mod RunLemmas
 pub mod Suspecting
 pub mod Asides
 pub mod SimulationLemmas
+pub mod Asking
 pub mod DeliveryLemmas
 pub mod Delivering
 pub mod CallNumbers
