@@ -55,14 +55,15 @@ returns-in-Ok-clause-ok c =
 pub returns-in-Err-Refused-clause-ok : goal.returns-in-Err-Refused-clause-ok
 returns-in-Err-Refused-clause-ok c =
     let w : World = world_in c.args._layout.now c.args.self.now in
-    asked_refused c.args._layout.now c.args.self.now (record c.args.self.now { bricks = c.ask_to_sync.new.bricks; history = c.expect_call.new.self }) c.args.brick
+    rw c.in-Err-Refused.field-0-is
+    (asked_refused c.args._layout.now c.args.self.now (record c.args.self.now { bricks = c.ask_to_sync.new.bricks; history = c.expect_call.new.self }) c.args.brick
     (DoesSync c.args.group (Err (Refused c.in-Err-Refused.refusal))) refl c.expect_call.ensures.same c.requires.stands
     (subst (λ (fault : NodeFault). ChangesBrick c.args.self.now.bricks.items c.ask_to_sync.new.bricks.items c.args.brick (RunsOn (DoesSync c.args.group (Err fault))))
     c.in-Err-Refused.field-0-is c.in-Err-Refused.ensures.asks)
     (λ next held. held.stays) (Syncs c.args.brick c.args.group) _
     (λ next held. happens_unsynced (coding c.args._layout.now) w c.args.brick c.args.group c.in-Err-Refused.refusal held.refused)
     (λ next held. sym (ap refused_or_begun (unsynced_here (coding c.args._layout.now) w c.args.brick c.args.group
-    (up_there c.args._layout.now _ w _ c.requires.up c.requires.stands.bricks) ∙ held.refused)))
+    (up_there c.args._layout.now _ w _ c.requires.up c.requires.stands.bricks) ∙ held.refused))))
 
 pub returns-in-Err-NoMemory-clause-err : goal.returns-in-Err-NoMemory-clause-err
 returns-in-Err-NoMemory-clause-err c =
