@@ -1,5 +1,5 @@
 -- A brick is started over its disk; or its store can't be opened once more, or a call of the disk was befallen, or memory was refused.
-use Rattle.std.proofs.Common.{inl, inr, refl, subst}
+use Rattle.std.proofs.Common.{inl, inr, refl, subst, ◌∙◌}
 use Rattle.brick_store.specs.declared.faults.OpenFault.{OpenFault}
 use Rattle.node.specs.Openings.{OpensBrick, stopped_by}
 use Rattle.world.specs.Faults.{in_memory}

@@ -55,7 +55,7 @@ deliver-requires-in-None-2-clause-some c = some_number _ c.args.message c.in-Som
 pub returns-in-Some-2-clause-ok : goal.returns-in-Some-2-clause-ok
 returns-in-Some-2-clause-ok c =
     whole c.args.layout.now c.args.self.now _ c.make_room.ensures.same c.requires c.args.message c.args.fault _ c.deref.ensures.value c.in-Some.packet.now
-    c.in-Some.ensures _ c.from.ensures _ c.deref-2.ensures.value c.in-Some-find_up.to c.in-Some-find_up.ensures _ c.expect.ensures.same _
+    c.in-Some.ensures _ c.from.ensures _ c.deref-2.ensures.value c.in-Some-find_up.to c.in-Some-find_up.ensures c.expect.new.self c.expect.ensures.same c.reserve.new.self
     c.reserve.ensures.same c.deliver.new.self c.deliver.ensures.rest c.deliver.ensures.delivered
     (record c.args.self.now { bricks = c.hand_over.new.bricks; history = c.step.new.self }) refl c.in-Some-2.outs _ c.in-Some-2.is
     c.in_ok-outs.ensures.handles c.step.ensures
@@ -63,7 +63,7 @@ returns-in-Some-2-clause-ok c =
 pub returns-in-None-2-clause-ok : goal.returns-in-None-2-clause-ok
 returns-in-None-2-clause-ok c =
     part c.args.layout.now c.args.self.now _ c.make_room.ensures.same c.requires c.args.message c.args.fault _ c.deref.ensures.value c.in-Some.packet.now
-    c.in-Some.ensures _ c.from.ensures _ c.deref-2.ensures.value c.in-Some-find_up.to c.in-Some-find_up.ensures _ c.expect.ensures.same _
+    c.in-Some.ensures _ c.from.ensures _ c.deref-2.ensures.value c.in-Some-find_up.to c.in-Some-find_up.ensures c.expect.new.self c.expect.ensures.same c.reserve.new.self
     c.reserve.ensures.same c.deliver-in-None-2.new.self c.deliver-in-None-2.ensures.rest c.deliver-in-None-2.ensures.delivered
     (record c.args.self.now { bricks = c.hand_over.new.bricks; history = c.crash.new.self }) refl _ c.in-None-2.is c.in_ok-outs.ensures.handles
     c.crash.ensures

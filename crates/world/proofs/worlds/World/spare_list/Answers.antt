@@ -11,7 +11,7 @@ returns-in-Err c =
     let r : Run = c.args.self.now in
     let list = found_list r c.args.brick c.args.group c.member_no-by.result c.group_asked.result.0 c.proposer.result
     (subst (λ (x : Run). IsLayout x.layout) c.self.view_is c.bricks.ensures.limits) c.member_no-by.ensures c.group_asked.ensures c.proposer.ensures in
-    ap Some (c.from_vec.ensures ∙ c.new.ensures)
+    ap Some (c.from_vec.ensures ∙ c.new.ensures.items)
     ∙ ap numbers_in (sym (ap (list_to_propose (suspicions_of r) c.member_no-by.result) c.in-Err.is) ∙ list)
 
 pub returns-in-None : goal.returns-in-None
@@ -26,5 +26,5 @@ returns-in_ok-numbers_of-in-Some c =
     let r : Run = c.args.self.now in
     let list = found_list r c.args.brick c.args.group c.member_no-by.result c.group_asked.result.0 c.proposer.result
     (subst (λ (x : Run). IsLayout x.layout) c.self.view_is c.bricks.ensures.limits) c.member_no-by.ensures c.group_asked.ensures c.proposer.ensures in
-    ap Some c.in_ok-numbers_of.ensures
+    ap Some c.in_ok-numbers_of-in-Some.ensures
     ∙ ap numbers_in (sym c.in-Some.is ∙ c.replaced.ensures ∙ sym (ap (list_to_propose (suspicions_of r) c.member_no-by.result) c.in-Ok.is) ∙ list)
