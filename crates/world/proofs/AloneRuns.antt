@@ -1,5 +1,5 @@
 -- The deliveries of an operation that runs alone take one state to another.
-use Rattle.std.proofs.Common.{◌≡◌, ℕ, ◌+◌, Bool, true, false, not, List, [], ◌∷◌, ◌++◌, map, Option, Some, None, refl, sym, ap, ◌∙◌, subst}
+use Rattle.std.proofs.Common.{◌≡◌, ℕ, ◌+◌, Bool, true, false, List, [], ◌∷◌, ◌++◌, map, Option, Some, None, refl, sym, ap, ◌∙◌, subst}
 use Rattle.std.specs.Prelude.{if◌then◌else◌}
 use Rattle.fab_base.specs.Layouts.{Layout}
 use Rattle.layout.specs.Limits.{IsLayout}
@@ -11,17 +11,15 @@ use Rattle.protocol.specs.Worlds.{World, Event, Delivers}
 use Rattle.world.specs.Deliveries.{FindsLeft}
 use Rattle.world.specs.Noted.{IsSameHistory}
 use Rattle.world.specs.Runs.{Course, brick_of, with_events}
-use Rattle.world.specs.Shown.{BeginsAloneTo, ComesTo, DeliversAlone, GoesOn, HasBegun, HasMarks, HasRun, MayRun, OpensAs, RunsAloneTo, Shows, Stands, StaysAs, StopsShort, disks_of, number_at, open_record, seqs_of, world_in}
+use Rattle.world.specs.Shown.{BeginsAloneTo, ComesTo, DeliversAlone, GoesOn, HasBegun, HasMarks, HasRun, MayRun, OpensAs, RunsAloneTo, Shows, Stands, StaysAs, StopsShort, disks_of, number_at, open_record, world_in}
 use Rattle.world.specs.declared.histories.History.{History}
 use Rattle.world.specs.declared.histories.OperationRecord.{OperationRecord}
-use Rattle.world.specs.declared.simulations.Outcome.{Outcome}
 use Rattle.world.specs.declared.simulations.Outcome.TheVariants.{Marks, Idle}
 use Rattle.world.specs.declared.simulations.Simulation.{Simulation}
 use Rattle.world.proofs.CalmEnds.{run_comes, begun_refused}
 use Rattle.world.proofs.CalmLoops.{SoFar, come_so, goes_on, has_begun, has_ended, has_stuck, none_yet, one_delivery}
 use Rattle.world.proofs.DeliveryLemmas.{idle_comes}
 use Rattle.world.proofs.HavingMarks.{marked_has}
-use Rattle.world.proofs.HistoryLemmas.{tells_same}
 use Rattle.world.proofs.KeptNumbers.{none_told}
 use Rattle.world.proofs.OpenRecords.{opens_as}
 use Rattle.world.proofs.SimulationLemmas.{come_to, shows_alike, with_both, with_more}

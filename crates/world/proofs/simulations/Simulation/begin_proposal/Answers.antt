@@ -16,7 +16,7 @@ use Rattle.world.proofs.BrickListLemmas.{disks_on, shows_on, up_there}
 use Rattle.world.proofs.HistoryLemmas.{tells_proposed, tells_same}
 use Rattle.world.proofs.MachineBegins.{proposed_aside, unproposed_here, happens_unproposed}
 use Rattle.world.proofs.RunLaws.{reached_next}
-use Rattle.world.proofs.SimulationLemmas.{come_to, on_err_always, shows_asked, shows_proposed, shows_still, stays_alike}
+use Rattle.world.proofs.SimulationLemmas.{come_to, on_err_always, shows_proposed, stays_alike}
 use Rattle.world.proofs.simulations.Simulation.begin_proposal.Goals as goal
 
 pub ask_to_propose-requires : goal.ask_to_propose-requires

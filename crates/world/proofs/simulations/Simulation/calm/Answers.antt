@@ -1,5 +1,5 @@
 -- The operation whose marks have the number runs alone where it may, and else nothing happens. Chaining what was sent leaves what the history tells.
-use Rattle.std.proofs.Common.{true, false, subst}
+use Rattle.std.proofs.Common.{true, false}
 use Rattle.world.proofs.AloneRuns.{chained_cut, chained_idle, chained_may, chained_run, chained_stands}
 use Rattle.world.proofs.SimulationLemmas.{on_err_always}
 use Rattle.world.proofs.simulations.Simulation.calm.Goals as goal
