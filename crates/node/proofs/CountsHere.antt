@@ -28,12 +28,12 @@ use Rattle.node.specs.declared.tasks.Tasks.{Tasks}
 use Rattle.node.specs.Moves.{counts_at as work_counts, counts_with}
 use Rattle.node.specs.Jobs.{calls_with, reading_in}
 use Rattle.node.specs.Scrubs.{IsScrubOf, calls_with_scrub, scrub_coordinator_of, scrub_seq, scrub_shown, scrubbing_in}
-use Rattle.node.specs.Tasks.{IsJobIn, IsScrubIn, AreTasksOf, counts_among, counts_at, counts_beside, read_seq, tasks_in}
+use Rattle.node.specs.Tasks.{IsJobIn, IsScrubIn, AreTasksOf, counts_among, counts_at, counts_beside, read_seq}
 use Rattle.node.specs.Operations.{shown_of, coordinator_of, IsOperationOf}
 use Rattle.node.specs.Proposals.{IsUnderWayOn, counts_in, proposal_in}
 use Rattle.node.specs.Proposers.{proposal_of}
 use Rattle.node.specs.Running.{running, state_of}
-use Rattle.node.specs.States.{IsWorkOf, parts_in, state_in, state_with}
+use Rattle.node.specs.States.{IsWorkOf, state_with}
 use Rattle.node.specs.Teaching.{is_taught}
 use Rattle.node.proofs.Beside.{eq_turned, puts_apart}
 use Rattle.node.proofs.ScrubCalls.{shown_block}

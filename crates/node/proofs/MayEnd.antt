@@ -1,5 +1,5 @@
 -- A message that does not count, or with which fewer replies count than decide, ends no operation.
-use Rattle.std.proofs.Common.{◌≡◌, ◌<◌, ◌+◌, ◌++◌, ◌∷◌, [], ℕ, Bool, true, false, cond, nat_lt, length, Option, Some, None, is_some, refl, sym, ap, subst, arith}
+use Rattle.std.proofs.Common.{◌≡◌, ◌<◌, ◌+◌, ◌++◌, ◌∷◌, [], ℕ, Bool, true, false, cond, nat_lt, length, Option, Some, None, is_some, sym, subst, arith}
 use Rattle.std.proofs.lemmas.Bool.Decides.{nat_tests}
 use Rattle.std.proofs.lemmas.List.{length-append}
 use Rattle.fab_base.specs.declared.identities.BrickId.{BrickId}
@@ -10,7 +10,7 @@ use Rattle.messages.specs.declared.replies.Reply.{Reply}
 use Rattle.stripe_code.specs.Codes.{block_code}
 use Rattle.protocol.specs.declared.phases.Counted.{Counted}
 use Rattle.protocol.specs.Settings.{Code}
-use Rattle.protocol.specs.Coordinators.{Coordinator, Next, Waits, counted_at, counts_at, decided, needed, on_reply, with_reply}
+use Rattle.protocol.specs.Coordinators.{Coordinator, Waits, counted_at, counts_at, decided, needed, on_reply, with_reply}
 use Rattle.coord_phase.specs.Operations.{Operation, counts, seat_told}
 use Rattle.coord_phase.specs.Decisions.{decided_on}
 use Rattle.node.specs.Decisions.{NeverEnds}

@@ -1,5 +1,5 @@
 -- What an operation does with a reply that counts and tells a later view.
-use Rattle.std.proofs.Common.{◌≡◌, ◌<◌, ◌≤◌, ◌+◌, ℕ, Bool, true, false, cond, nat_lt, List, [], ◌∷◌, ◌++◌, length, Option, Some, None, refl, sym, ◌∙◌, ap, subst, arith}
+use Rattle.std.proofs.Common.{◌≡◌, ◌<◌, ◌≤◌, ◌+◌, ℕ, Bool, true, false, cond, nat_lt, [], ◌∷◌, ◌++◌, length, Option, Some, None, sym, ◌∙◌, ap, arith}
 use Rattle.std.proofs.lemmas.Bool.Decides.{nat_tests}
 use Rattle.std.proofs.lemmas.List.{length-append}
 use Rattle.fab_base.specs.declared.answers.Answer.TheVariants.{Aborted}
@@ -15,7 +15,7 @@ use Rattle.protocol.specs.Settings.{Code}
 use Rattle.protocol.specs.declared.phases.Counted.{Counted}
 use Rattle.protocol.specs.declared.phases.Mover.{Mover}
 use Rattle.protocol.specs.Coordinators.{Coordinator, Next, Waits, asked_group, counts_at, counted_at, decided, lowest_mover, needed, on_reply, once_full, unless_told_moved, aborted_moved, with_reply}
-use Rattle.protocol.proofs.CountsAt.{CountsAt, counts_facts}
+use Rattle.protocol.proofs.CountsAt.{counts_facts}
 use Rattle.node.specs.Operations.{EndsOrWaits}
 
 -- a member that told a later view aborts the operation, whatever else would be done

@@ -1,5 +1,5 @@
 -- Distinct members of a group are no more than it has.
-use Rattle.std.proofs.Common.{◌≡◌, ◌≤◌, ◌||◌, ◌&&◌, ℕ, Bool, true, false, not, nat_eq, is_some, List, [], ◌∷◌, length, refl, sym, ◌∙◌, ap, subst, arith}
+use Rattle.std.proofs.Common.{◌≡◌, ◌≤◌, ◌||◌, ℕ, Bool, true, false, not, nat_eq, is_some, List, [], ◌∷◌, length, refl, sym, ◌∙◌, ap, arith}
 use Rattle.std.specs.Cmp.{IsEquivalence}
 use Rattle.std.specs.List.{AllByRecursion, IsDistinct, list_all, list_any}
 use Rattle.std.specs.Set.{is_member}
@@ -9,7 +9,6 @@ use Rattle.std.proofs.lemmas.Map.Made.{length-le_from_is_member}
 use Rattle.fab_base.specs.declared.identities.BrickId.{BrickId}
 use Rattle.fab_base.specs.Layouts.{Group, seat_in}
 use Rattle.quorum.specs.Memberships.{are_distinct}
-use Rattle.quorum.specs.Quorums.{quorum_of}
 use Rattle.protocol.specs.Scrubs.{names_quorum}
 use Rattle.coord_phase.proofs.Asked.{stands_as_seat}
 use Rattle.node.proofs.Beside.{eq_same, eq_turned}

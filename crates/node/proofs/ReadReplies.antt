@@ -1,5 +1,5 @@
 -- What a brick does with a reply to the read of its synchronisation.
-use Rattle.std.proofs.Common.{◌≡◌, ◌≤◌, ◌+◌, ◌++◌, ℕ, Bool, true, false, cond, if◌then◌else◌, nat_eq, is_some, List, [], ◌∷◌, Option, Some, None, refl, sym, ◌∙◌, ap, subst, arith}
+use Rattle.std.proofs.Common.{◌≡◌, ℕ, Bool, true, cond, if◌then◌else◌, nat_eq, [], Option, Some, None, refl, sym, ◌∙◌, ap, subst}
 use Rattle.std.specs.Option.{option_map}
 use Rattle.fab_base.specs.declared.answers.Answer.{Answer}
 use Rattle.fab_base.specs.declared.identities.BrickId.{BrickId}
@@ -16,15 +16,15 @@ use Rattle.stripe_code.specs.Codes.{block_code, coding}
 use Rattle.protocol.specs.Coordinators as machine
 use Rattle.protocol.specs.Coordinators.{Coordinator, Next, Ignores, Waits, Sends, Makes, Ends, hearing, on_reply, with_reply}
 use Rattle.protocol.specs.Jobs.{Job, abort_cause}
-use Rattle.protocol.specs.Nodes.{Node, NodeStep, carried_for, carried_read, fresh_stamp, known_after, no_step, put, replied_at, scrub_of, with_known, with_round}
+use Rattle.protocol.specs.Nodes.{Node, carried_for, carried_read, fresh_stamp, known_after, no_step, put, replied_at, scrub_of, with_known}
 use Rattle.coord_phase.specs.Decisions.{decided_on}
 use Rattle.coord_phase.specs.Operations.{counts, heard, heard_at, seat_told}
 use Rattle.node.specs.declared.call_sources.CallSource.{CallSource}
 use Rattle.node.specs.declared.jobs.Followed.{Followed}
 use Rattle.node.specs.declared.jobs.OpenJob.{OpenJob}
 use Rattle.node.specs.declared.outs.Tellings.{Tellings}
-use Rattle.node.specs.Jobs.{FollowsFrom, GoesOn, IsOpenJobOf, MakesFrom, closed, followed_step, job_at, job_of, reading_of, sent_in, then_told, with_reading}
-use Rattle.node.specs.Operations.{EndsOrWaits, IsOperationOf, coordinator_of, shown_of}
+use Rattle.node.specs.Jobs.{GoesOn, IsOpenJobOf, MakesFrom, closed, followed_step, job_at, job_of, reading_of, then_told, with_reading}
+use Rattle.node.specs.Operations.{EndsOrWaits, coordinator_of, shown_of}
 use Rattle.node.specs.Outcomes.{told_list}
 use Rattle.node.specs.declared.jobs.ReadTurn.{ReadTurn}
 use Rattle.node.specs.Reads.{HasCountedRead, IsReadTurn, read_step, turn_step}

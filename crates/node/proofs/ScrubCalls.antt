@@ -1,5 +1,5 @@
 -- The scrub of a brick, beside the synchronisation.
-use Rattle.std.proofs.Common.{◌≡◌, ◌≤◌, ◌+◌, ℕ, Bool, true, false, cond, if◌then◌else◌, nat_eq, List, [], ◌∷◌, ◌++◌, Option, Some, None, is_some, not, option_to_list, refl, sym, ◌∙◌, ap, subst, arith}
+use Rattle.std.proofs.Common.{◌≡◌, ◌≤◌, ◌+◌, ℕ, Bool, true, false, cond, if◌then◌else◌, nat_eq, [], ◌∷◌, ◌++◌, Option, Some, None, is_some, not, option_to_list, refl, sym, ◌∙◌, ap, subst, arith}
 use Rattle.std.specs.Option.{option_map}
 use Rattle.std.specs.Ordering.{nat_cmp}
 use Rattle.std.specs.BTreeMap.{BTreeMap, get}
@@ -23,10 +23,8 @@ use Rattle.protocol.specs.declared.tellings.Told.{Told}
 use Rattle.protocol.specs.declared.tellings.Told.TheVariants.{Closed}
 use Rattle.protocol.specs.Coordinators as machine
 use Rattle.protocol.specs.Coordinators.{Coordinator, Next, counts_at, hearing, on_reply, with_reply}
-use Rattle.protocol.specs.Jobs.{Job}
-use Rattle.protocol.specs.Nodes.{Node, NodeStep, carried_for, fresh_stamp, job_reading, known_after, members_alone, no_step, replied_at, view_in, with_known}
+use Rattle.protocol.specs.Nodes.{Node, carried_for, fresh_stamp, job_reading, known_after, members_alone, no_step, replied_at, view_in}
 use Rattle.stripe_code.specs.Codes.{block_code, coding}
-use Rattle.coord_phase.specs.Operations as phased
 use Rattle.coord_phase.specs.Operations.{counts, heard, heard_at, seat_told}
 use Rattle.coord_phase.specs.Decisions.{decided_on}
 use Rattle.node.specs.declared.jobs.OpenJob.{OpenJob}
@@ -40,10 +38,9 @@ use Rattle.node.specs.Moves as moves
 use Rattle.node.specs.Operations.{EndsOrWaits, coordinator_of, shown_of}
 use Rattle.node.specs.Scrubs.{GoesOnFrom, HasCountedScrub, IsScrubAsBefore, IsScrubAside, IsScrubOf, ScrubsAt, calls_with_scrub, phase_of, scrub_at, scrub_coordinator_of, scrub_seq, scrub_shown, scrub_step, scrubbing_in, scrubbing_of, with_scrubbing}
 use Rattle.node.specs.States.{KeptParts, state_in, state_with}
-use Rattle.node.specs.Tasks.{ApartFromJob, AreSameTasks, IsJobAt, IsJobIn, IsScrubAt, IsScrubIn, ReadsAt, counts_among, counts_at as counts_here, counts_beside, read_seq, tasks_in}
+use Rattle.node.specs.Tasks.{ApartFromJob, AreSameTasks, IsJobIn, IsScrubAt, IsScrubIn, ReadsAt, counts_among, counts_at as counts_here, counts_beside, read_seq, tasks_in}
 use Rattle.node.proofs.Beside.{ApartFrom, calls_apart, eq_same, eq_turned}
 use Rattle.node.proofs.Hearing.{none_of}
-use Rattle.node.proofs.ScrubReplies.{hearing_is}
 use Rattle.node.proofs.ScrubSteps.{carried, scrub_ends, scrub_waits, scrubbed}
 use Rattle.node.proofs.ScrubsBeside.{JobApart, ScrubApart}
 use Rattle.node.proofs.Turns.{there}

@@ -26,7 +26,7 @@ use Rattle.stripe_code.specs.Codes.{block_code, coding}
 use Rattle.coord_phase.specs.Operations as phased
 use Rattle.coord_phase.specs.Operations.{counts, heard, heard_at, seat_told}
 use Rattle.coord_phase.specs.Decisions.{decided_on}
-use Rattle.coord_phase.specs.Messages.{packets_from, phase_messages}
+use Rattle.coord_phase.specs.Messages.{packets_from}
 use Rattle.coord_phase.proofs.Answered.{heard_stays, ignored}
 use Rattle.coord_recover.specs.Recoveries.{entered, is_of_recovery}
 use Rattle.scrub.specs.declared.answers.ScrubNext.TheVariants as next

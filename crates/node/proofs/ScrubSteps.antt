@@ -1,5 +1,5 @@
 -- What a brick does with what the coordinator of its scrub decided, by what that is.
-use Rattle.std.proofs.Common.{◌≡◌, ℕ, Bool, true, false, cond, if◌then◌else◌, max, List, [], ◌∷◌, ◌++◌, Option, Some, None, refl, sym, ◌∙◌, ap, subst}
+use Rattle.std.proofs.Common.{◌≡◌, ℕ, max, List, [], ◌∷◌, ◌++◌, Option, Some, None, refl, sym, ◌∙◌, ap}
 use Rattle.std.proofs.lemmas.List.{append-nil}
 use Rattle.fab_base.specs.declared.answers.Answer.{Answer}
 use Rattle.fab_base.specs.declared.identities.BrickId.{BrickId}
@@ -7,7 +7,7 @@ use Rattle.fab_base.specs.declared.stamps.Stamp.{Stamp}
 use Rattle.protocol.specs.Settings.{Setting}
 use Rattle.protocol.specs.Coordinators.{Coordinator, Next, Ignores, Waits, Sends, Makes, Ends}
 use Rattle.protocol.specs.Jobs.{abort_cause}
-use Rattle.protocol.specs.Scrubs.{is_look, lagging_after, scrub_answer}
+use Rattle.protocol.specs.Scrubs.{lagging_after, scrub_answer}
 use Rattle.protocol.specs.declared.tellings.Report.{Report}
 use Rattle.protocol.specs.declared.tellings.Told.TheVariants.{Made, Closed}
 use Rattle.protocol.specs.Nodes.{Node, NodeStep, carried_scrub, collect_packets, members_alone, no_step, phase_packets, put, seen_told, sending, with_known}

@@ -1,8 +1,7 @@
 -- What a brick does is the same where it has a scrub under way beside, whose call is another.
-use Rattle.std.proofs.Common.{◌≡◌, ℕ, ◌+◌, Bool, true, false, cond, if◌then◌else◌, nat_eq, List, [], ◌∷◌, ◌++◌, Option, Some, None, refl, sym, ◌∙◌, ap, subst, arith}
+use Rattle.std.proofs.Common.{◌≡◌, ℕ, ◌+◌, Bool, true, false, cond, if◌then◌else◌, nat_eq, List, [], ◌++◌, Option, Some, None, refl, sym, ◌∙◌, ap, subst}
 use Rattle.std.specs.Option.{option_map}
 use Rattle.std.proofs.lemmas.List.{append-nil, append_assoc}
-use Rattle.fab_base.specs.declared.answers.Answer.{Answer}
 use Rattle.fab_base.specs.declared.asks.Ask.{Ask}
 use Rattle.fab_base.specs.declared.identities.BrickId.{BrickId}
 use Rattle.fab_base.specs.declared.identities.GroupId.{GroupId}
@@ -20,7 +19,7 @@ use Rattle.protocol.specs.declared.tellings.ViewAnswer.TheVariants as answer
 use Rattle.protocol.specs.Proposals.{Proposal, Voting, Ignored, Waited, Asks, Ended, ballot_packets, voted}
 use Rattle.protocol.specs.declared.tellings.Report.{Report}
 use Rattle.protocol.specs.Views.{group_kept}
-use Rattle.protocol.specs.Nodes.{Node, NodeStep, put, ballot_resent, began_in, calls_but_read, calls_but_scrub, carried_ballot, carried_for, carried_out, carried_read, carried_unless_scrub, coordinator_in, fresh_stamp, is_spent, job_call, job_goes, job_reading, known_after, new_proposal, proposed_in, proposing, read_begun, read_begun_by, read_begun_in, read_closed, reading, refusal_of, replied_at, replied_ballot, reporting, resent, resent_up_to, scrub_call, scrub_of, sending, synced_at, then_does, ticked, with_call, with_job, with_known}
+use Rattle.protocol.specs.Nodes.{Node, NodeStep, put, ballot_resent, began_in, calls_but_read, calls_but_scrub, carried_ballot, carried_for, carried_out, carried_read, coordinator_in, fresh_stamp, is_spent, job_call, job_goes, job_reading, known_after, new_proposal, proposed_in, proposing, read_begun, read_begun_by, read_begun_in, read_closed, reading, refusal_of, replied_at, replied_ballot, reporting, resent, resent_up_to, scrub_call, scrub_of, sending, synced_at, then_does, ticked, with_call, with_job, with_known}
 use Rattle.stripe_code.specs.Codes.{coding}
 use Rattle.node.specs.Jobs.{Reading, with_reading}
 use Rattle.node.specs.Scrubs.{Scrubbing, calls_with_scrub, with_scrubbing}

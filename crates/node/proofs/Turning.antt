@@ -1,8 +1,8 @@
 -- What a reply that counts, and tells a later view, comes to beside a synchronisation.
-use Rattle.std.proofs.Common.{◌≡◌, ◌≤◌, ℕ, Bool, true, false, cond, nat_eq, Option, Some, None, is_some, refl, sym, ◌∙◌, ap, subst, arith}
+use Rattle.std.proofs.Common.{◌≡◌, ◌≤◌, ℕ, Bool, false, cond, nat_eq, Option, Some, None, refl, sym, ◌∙◌, ap, subst}
 use Rattle.std.specs.Option.{option_map}
 use Rattle.std.specs.Ordering.{nat_cmp}
-use Rattle.std.specs.BTreeMap.{get, is_at}
+use Rattle.std.specs.BTreeMap.{get}
 use Rattle.fab_base.specs.declared.identities.BrickId.{BrickId}
 use Rattle.fab_base.specs.Layouts.{Layout}
 use Rattle.messages.specs.declared.calls.Call.{Call}
@@ -19,10 +19,9 @@ use Rattle.node.specs.declared.open_calls.OpenCalls.{OpenCalls}
 use Rattle.node.specs.declared.open_work.OpenWork.{OpenWork}
 use Rattle.node.specs.declared.open_work.Turn.{Turn}
 use Rattle.node.specs.declared.open_work.Turn.TheVariants as turn
-use Rattle.node.specs.declared.operations.Operation.{Operation}
 use Rattle.node.specs.declared.scrubs.OpenScrub.{OpenScrub}
 use Rattle.node.specs.declared.tasks.Tasks.{Tasks}
-use Rattle.node.specs.Jobs.{IsJobOf, Reading, calls_with, job_at, reading_in, reading_of, with_reading}
+use Rattle.node.specs.Jobs.{IsJobOf, Reading, job_at, reading_in, reading_of, with_reading}
 use Rattle.node.specs.Moves as moves
 use Rattle.node.specs.Moves.{HasCounted, IsTurn}
 use Rattle.node.specs.Operations.{shown_of, coordinator_of}
@@ -30,13 +29,13 @@ use Rattle.node.specs.Outcomes.{Outcome}
 use Rattle.node.specs.Reads.{HasCountedRead}
 use Rattle.node.specs.Scrubs.{HasCountedScrub, IsScrubAside, scrub_coordinator_of, scrub_seq, scrub_shown, scrubbing_in, with_scrubbing, without_reply}
 use Rattle.node.specs.States.{KeptParts, StepsAs, IsSameWork, IsWorkOf, state_in, state_with}
-use Rattle.node.specs.Tasks.{AreSameTasks, AreTasksOf, CountsRead, CountsScrub, IsAside, IsJobAt, IsJobIn, IsScrubIn, read_seq, step_on, tasks_in}
+use Rattle.node.specs.Tasks.{AreSameTasks, CountsRead, CountsScrub, IsAside, IsJobAt, IsJobIn, IsScrubIn, read_seq, step_on, tasks_in}
 use Rattle.coord_phase.proofs.Answered.{taken_back as back_as_before}
-use Rattle.node.proofs.Beside.{ApartFrom, beside, calls_apart, none_reads, replied_beside}
+use Rattle.node.proofs.Beside.{beside, calls_apart, none_reads, replied_beside}
 use Rattle.node.proofs.ScrubsBeside.{beside_scrub, calls_apart_scrub, replied_beside_scrub}
 use Rattle.node.proofs.Counting.{taken_back}
 use Rattle.node.proofs.Tables.{is_at_number}
-use Rattle.node.proofs.Underway.{KeepsFree, apart_so, at_call, job_kept, no_parts, replied_free, same_free, scrub_apart_so, scrub_kept, steps_beside, steps_beside_scrub}
+use Rattle.node.proofs.Underway.{KeepsFree, apart_so, at_call, job_kept, no_parts, replied_free, scrub_apart_so, scrub_kept, steps_beside, steps_beside_scrub}
 
 -- ---- an operation or the proposal
 

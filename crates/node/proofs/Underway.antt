@@ -1,15 +1,13 @@
 -- All that a brick has under way, beside a synchronisation.
-use Rattle.std.proofs.Common.{◌≡◌, ◌≤◌, ◌<◌, ◌+◌, ℕ, Bool, true, false, cond, if◌then◌else◌, nat_eq, [], Option, Some, None, is_some, refl, sym, ◌∙◌, ap, subst, arith}
+use Rattle.std.proofs.Common.{◌≡◌, ◌≤◌, ℕ, Bool, false, cond, nat_eq, [], Option, Some, None, is_some, refl, sym, ◌∙◌, ap, subst, arith}
 use Rattle.std.specs.Option.{option_map}
 use Rattle.std.specs.Ordering.{nat_cmp}
-use Rattle.std.specs.BTreeMap.{get, is_at}
+use Rattle.std.specs.BTreeMap.{get}
 use Rattle.fab_base.specs.declared.identities.BrickId.{BrickId}
 use Rattle.fab_base.specs.Layouts.{Layout}
 use Rattle.messages.specs.declared.calls.Call.{Call}
-use Rattle.messages.specs.declared.packets.Message.TheVariants as message
 use Rattle.messages.specs.declared.replies.Reply.{Reply}
 use Rattle.protocol.specs.Coordinators.{Coordinator, Next, Ignores, Waits, Sends, Makes, Ends, counts_at, hearing, on_reply}
-use Rattle.protocol.specs.Jobs.{Job}
 use Rattle.protocol.specs.Proposals.{Proposal, Voting, Ignored, Waited, Asks, Ended, voted}
 use Rattle.protocol.specs.Replicas.{fresh_replica}
 use Rattle.protocol.specs.Nodes.{Node, NodeStep, put, carried_ballot, carried_for, carried_out, fresh_stamp, job_reading, known_after, replied_at, replied_ballot, scrub_of, view_in, with_known}
@@ -17,21 +15,16 @@ use Rattle.stripe_code.specs.Codes.{coding}
 use Rattle.node.specs.declared.jobs.OpenJob.{OpenJob}
 use Rattle.node.specs.declared.open_calls.OpenCalls.{OpenCalls}
 use Rattle.node.specs.declared.open_work.OpenWork.{OpenWork}
-use Rattle.node.specs.declared.open_work.Turn.{Turn}
-use Rattle.node.specs.declared.open_work.Turn.TheVariants as turn
 use Rattle.node.specs.declared.operations.Operation.{Operation}
 use Rattle.node.specs.declared.scrubs.OpenScrub.{OpenScrub}
-use Rattle.node.specs.declared.tasks.Tasks.{Tasks}
-use Rattle.node.specs.Jobs.{FollowsFrom, Reading, reading_in, with_reading}
-use Rattle.node.specs.Moves.{HasCounted, IsTurn}
+use Rattle.node.specs.Jobs.{Reading, reading_in, with_reading}
 use Rattle.node.specs.Operations.{coordinator_of}
 use Rattle.node.specs.Outcomes.{Outcome}
 use Rattle.node.specs.Scrubs.{IsScrubAside, Scrubbing, scrub_seq, scrubbing_in, with_scrubbing}
 use Rattle.node.specs.States.{AreCallsOf, KeptParts, StepsAs, state_in, state_with}
-use Rattle.node.specs.Tasks.{AreTasksOf, IsAside, IsJobAt, IsJobIn, IsScrubIn, read_seq}
-use Rattle.node.proofs.Beside.{ApartFrom, beside, eq_turned, none_reads}
+use Rattle.node.specs.Tasks.{IsAside, IsJobIn, IsScrubIn, read_seq}
+use Rattle.node.proofs.Beside.{ApartFrom, beside}
 use Rattle.node.proofs.ScrubsBeside.{ScrubApart, beside_scrub}
-use Rattle.node.proofs.Tables.{is_at_number}
 
 -- ---- steps
 

@@ -1,5 +1,5 @@
 -- The replies that count, with this one, are enough or too few.
-use Rattle.std.proofs.Common.{◌≡◌, ◌<◌, ◌≤◌, ◌+◌, ◌++◌, ◌∷◌, [], ℕ, List, length, Some, refl, sym, ◌∙◌, ap, arith}
+use Rattle.std.proofs.Common.{◌<◌, ◌≤◌, ◌+◌, ◌++◌, ◌∷◌, [], List, length, refl, sym, ◌∙◌, ap, arith}
 use Rattle.fab_base.specs.Layouts.{Group, seat_in}
 use Rattle.messages.specs.declared.replies.Reply.TheVariants.{Moved}
 use Rattle.protocol.specs.declared.phases.Counted.{Counted}

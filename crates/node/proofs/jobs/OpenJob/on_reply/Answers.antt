@@ -1,8 +1,7 @@
 -- The read goes on, or what was prepared comes after it.
-use Rattle.std.proofs.Common.{◌≡◌, ◌≤◌, ℕ, Bool, true, false, not, List, [], ◌∷◌, ◌++◌, length, Option, Some, None, is_some, option_to_list, refl, sym, ◌∙◌, ap, subst, arith}
+use Rattle.std.proofs.Common.{◌≡◌, ℕ, Bool, true, false, not, List, [], ◌∷◌, ◌++◌, length, Option, Some, None, is_some, option_to_list, refl, sym, ◌∙◌, ap, subst, arith}
 use Rattle.fab_base.specs.declared.answers.Answer.{Answer}
 use Rattle.fab_base.specs.declared.answers.Cause.{Cause}
-use Rattle.fab_base.specs.declared.identities.BrickId.{BrickId}
 use Rattle.fab_base.specs.declared.stamps.Stamp.{Stamp}
 use Rattle.fab_base.specs.Layouts.{Group}
 use Rattle.messages.specs.declared.calls.Call.{Call}
@@ -15,15 +14,13 @@ use Rattle.protocol.specs.Coordinators as machine
 use Rattle.protocol.specs.Coordinators.{Coordinator}
 use Rattle.protocol.specs.declared.tellings.Told.TheVariants.{Closed}
 use Rattle.protocol.specs.Jobs.{abort_cause}
-use Rattle.protocol.specs.Nodes.{Node, carried_read, fresh_stamp}
+use Rattle.protocol.specs.Nodes.{carried_read, fresh_stamp}
 use Rattle.coord_phase.specs.Decisions.{decided_on}
 use Rattle.coord_phase.specs.Messages.{packets_from}
-use Rattle.node.specs.declared.jobs.Followed.{Followed}
 use Rattle.node.specs.declared.jobs.OpenJob.{OpenJob}
 use Rattle.node.specs.declared.jobs.Prepared.{Prepared}
-use Rattle.node.specs.declared.operations.Operation.{Operation}
 use Rattle.node.specs.Decisions.{CarriesOut, KeepsCall, or_waits}
-use Rattle.node.specs.Jobs.{FollowsFrom, GoesOn, IsJobOf, cause_in, ended_by, job_of, reading_of, with_reading}
+use Rattle.node.specs.Jobs.{GoesOn, IsJobOf, cause_in, ended_by, job_of, reading_of, with_reading}
 use Rattle.node.specs.Operations.{coordinator_of, shown_of}
 use Rattle.node.specs.Outcomes.{Outcome}
 use Rattle.node.specs.Reads.{IsPrepared, MayFollow}

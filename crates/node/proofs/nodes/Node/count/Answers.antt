@@ -4,11 +4,10 @@ use Rattle.protocol.specs.Nodes.{heard}
 use Rattle.stripe_code.specs.Codes.{coding}
 use Rattle.protocol.specs.Nodes.{Node, NodeStep, replied_at, with_round}
 use Rattle.node.specs.States.{StepsAs, parts_in}
-use Rattle.node.specs.Tasks.{tasks_in}
 use Rattle.node.specs.Running.{Running, running, state_of, ImageShows}
 use Rattle.node.proofs.Hearing.{heard_untaught}
 use Rattle.node.proofs.KeptBricks.{stays_brick}
-use Rattle.node.proofs.Views.{seen_so, still_shows}
+use Rattle.node.proofs.Views.{still_shows}
 use Rattle.node.proofs.States.{on_err}
 use Rattle.node.proofs.Steps.{steps_so, stays_so}
 use Rattle.node.proofs.nodes.Node.count.Given.{Over}

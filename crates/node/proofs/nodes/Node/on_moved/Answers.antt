@@ -1,5 +1,5 @@
 -- The reply counts, and its view is learnt; where it can't be, the reply is taken back.
-use Rattle.std.proofs.Common.{◌≡◌, ℕ, Option, None, false, true, Result, Ok, Err, refl, sym, ◌∙◌, ap, subst, rules}
+use Rattle.std.proofs.Common.{◌≡◌, Option, None, false, true, Result, Err, refl, sym, ◌∙◌, ap, subst}
 use Rattle.std.proofs.lemmas.Bool.{true≢false}
 use Rattle.fab_base.specs.declared.identities.BrickId.{BrickId}
 use Rattle.fab_disk.specs.Changing.{Whole, Stands}
@@ -8,20 +8,19 @@ use Rattle.frame_store.specs.declared.shapes.Shape.{Shape}
 use Rattle.messages.specs.declared.packets.Message.{Message}
 use Rattle.messages.specs.declared.packets.Message.TheVariants as message
 use Rattle.stripe_code.specs.Codes.{coding}
-use Rattle.protocol.specs.Nodes.{Node, heard, node_learnt, replied_at}
+use Rattle.protocol.specs.Nodes.{Node, heard, replied_at}
 use Rattle.replica.specs.declared.faults.ReplicaFault.{ReplicaFault}
 use Rattle.replica.specs.declared.faults.ReplicaFault.TheVariants as replica
 use Rattle.replica.specs.Handling.{KeepsAll}
-use Rattle.replica.specs.Calls.{message_append, message_calls}
+use Rattle.replica.specs.Calls.{message_calls}
 use Rattle.replica.specs.Reactions.{IsStep}
 use Rattle.node.specs.declared.faults.NodeFault.{NodeFault}
 use Rattle.node.specs.declared.outs.Outs.{Outs}
 use Rattle.node.specs.declared.faults.NodeFault.TheVariants.{Halted}
-use Rattle.node.specs.Ends.{StepChange, end_of}
 use Rattle.node.specs.Faults.{halted_after}
 use Rattle.node.specs.Tasks.{AreSameTasks, counts_at}
 use Rattle.node.specs.States.{StepsAs, parts_in}
-use Rattle.node.specs.Running.{Running, running, state_of, shape_at, ImageShows, IsSameBrick}
+use Rattle.node.specs.Running.{Running, running, state_of, shape_at, ImageShows}
 use Rattle.node.specs.Teaching.{is_taught}
 use Rattle.node.proofs.CountsHere.{taught_counts}
 use Rattle.node.proofs.KeptBricks.{follows_brick, halted_fault, halts_as, stays_brick}

@@ -1,13 +1,12 @@
 -- A reply is counted or left out; and the view that it teaches is learnt.
-use Rattle.std.proofs.Common.{◌≡◌, true, false, Option, Some, None, Ok, refl, sym, ◌∙◌, ap, subst}
+use Rattle.std.proofs.Common.{◌≡◌, Option, None, Ok, refl, sym, ◌∙◌, ap, subst}
 use Rattle.std.specs.Result.{OnOk, IfOk}
 use Rattle.fab_disk.specs.Disk.{IsUntouched}
 use Rattle.brick_store.specs.Bricks.{Brick}
 use Rattle.brick_store.specs.Calls.{Append, calls_for}
 use Rattle.messages.specs.declared.packets.Message.TheVariants as message
 use Rattle.replica.specs.Calls.{learnt_append, message_append}
-use Rattle.stripe_code.specs.Codes.{coding}
-use Rattle.protocol.specs.Nodes.{Node, NodeStep, node_learnt, received}
+use Rattle.protocol.specs.Nodes.{Node, NodeStep, node_learnt}
 use Rattle.coord_phase.specs.Messages.{packets_from}
 use Rattle.node.specs.Ends.{end_of}
 use Rattle.node.specs.Outcomes.{Outcome}

@@ -1,5 +1,5 @@
 -- The operation is open no more.
-use Rattle.std.proofs.Common.{◌≡◌, [], ◌∷◌, ℕ, List, None, refl, ap, subst, arith}
+use Rattle.std.proofs.Common.{List, None, refl, ap, subst, arith}
 use Rattle.protocol.specs.declared.tellings.Answered.{Answered}
 use Rattle.node.specs.Operations.{coordinator_of}
 use Rattle.node.specs.Outcomes.{Outcome}

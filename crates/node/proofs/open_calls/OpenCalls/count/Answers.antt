@@ -1,15 +1,14 @@
 -- The operation has counted the message, or is as it was.
-use Rattle.std.proofs.Common.{◌≡◌, ℕ, nat_eq, Option, Some, None, Result, Ok, Err, refl, sym, ◌∙◌, ap, subst, rules}
+use Rattle.std.proofs.Common.{◌≡◌, ℕ, nat_eq, Option, Some, Result, Ok, Err, refl, sym, ◌∙◌, ap, subst, rules}
 use Rattle.std.specs.Option.{option_map}
 use Rattle.std.specs.Ordering.{nat_cmp}
-use Rattle.std.specs.BTreeMap.{get, btree_map_len}
+use Rattle.std.specs.BTreeMap.{get}
 use Rattle.std.specs.Result.{OnOk, OnErr}
-use Rattle.coord_phase.specs.Operations.{counts, heard}
 use Rattle.protocol.specs.Coordinators.{Coordinator}
 use Rattle.node.specs.declared.operations.Operation.{Operation}
-use Rattle.node.specs.Moves.{HasCounted, WaitsOn}
-use Rattle.node.specs.Operations.{shown_of, coordinator_of}
-use Rattle.node.specs.States.{OtherParts, state_with}
+use Rattle.node.specs.Moves.{WaitsOn}
+use Rattle.node.specs.Operations.{coordinator_of}
+use Rattle.node.specs.States.{state_with}
 use Rattle.node.proofs.Replied.{put_held}
 use Rattle.node.proofs.States.{same_states}
 use Rattle.node.proofs.Tables.{shown_after}

@@ -1,17 +1,16 @@
 -- Which of the machine's cases a reply is.
-use Rattle.std.proofs.Common.{◌≡◌, ℕ, cond, nat_eq, List, length, Option, Some, refl, sym, ◌∙◌, ap, subst, arith, rules}
+use Rattle.std.proofs.Common.{◌≡◌, ℕ, cond, nat_eq, List, Option, Some, refl, sym, ◌∙◌, ap, subst, rules}
 use Rattle.std.specs.Option.{option_map}
 use Rattle.std.specs.Ordering.{nat_cmp}
-use Rattle.std.specs.BTreeMap.{BTreeMap, get, is_at, btree_map_len}
+use Rattle.std.specs.BTreeMap.{get, is_at, btree_map_len}
 use Rattle.fab_base.specs.declared.stamps.Stamp.{Stamp}
 use Rattle.messages.specs.declared.packets.Message.{Message}
 use Rattle.messages.specs.declared.packets.Message.TheVariants as message
 use Rattle.protocol.specs.Coordinators as machine
 use Rattle.protocol.specs.Coordinators.{Coordinator}
-use Rattle.protocol.specs.Nodes.{Node, put, with_known, known_after, fresh_stamp}
+use Rattle.protocol.specs.Nodes.{Node, put, known_after, fresh_stamp}
 use Rattle.stripe_code.specs.Codes.{block_code}
 use Rattle.coord_phase.specs.Decisions.{decided_on}
-use Rattle.coord_phase.specs.Messages.{packets_from}
 use Rattle.protocol.specs.declared.tellings.Answered.{Answered}
 use Rattle.node.specs.declared.operations.Operation.{Operation}
 use Rattle.node.specs.Operations.{shown_of, coordinator_of}

@@ -1,11 +1,6 @@
 -- The operation is as it was before it counted.
-use Rattle.std.proofs.Common.{◌≡◌, ◌-◌, ◌+◌, ◌++◌, ◌∷◌, [], ℕ, Bool, cond, List, length, take, nat_eq, Option, Some, None, is_some, true, refl, sym, ◌∙◌, ap, subst, rules, arith}
-use Rattle.std.specs.Option.{option_map}
-use Rattle.std.specs.Ordering.{nat_cmp}
-use Rattle.std.specs.BTreeMap.{get, btree_map_len, is_at}
-use Rattle.std.proofs.lemmas.Bool.Decides.{nat_tests}
+use Rattle.std.proofs.Common.{◌≡◌, Some, refl, sym, ◌∙◌, ap, rules}
 use Rattle.stamp_store.specs.declared.stamp_sources.StampSource.{StampSource}
-use Rattle.protocol.specs.Coordinators.{Coordinator}
 use Rattle.coord_phase.specs.Operations as phased
 use Rattle.coord_phase.specs.Operations.{without_last}
 use Rattle.node.specs.declared.operations.Operation.{Operation}

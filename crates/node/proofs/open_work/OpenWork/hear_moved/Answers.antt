@@ -1,5 +1,5 @@
 -- Which turn a reply that counts, and tells a later view, is.
-use Rattle.std.proofs.Common.{◌≡◌, ℕ, Option, Some, None, is_some, true, refl, sym, ◌∙◌, ap, subst, rules}
+use Rattle.std.proofs.Common.{◌≡◌, ℕ, Option, Some, None, true, refl, sym, ◌∙◌, ap, subst}
 use Rattle.std.specs.Ordering.{nat_cmp}
 use Rattle.std.specs.BTreeMap.{get}
 use Rattle.messages.specs.declared.packets.Message.{Message}

@@ -1,5 +1,5 @@
 -- The first phase of the recovery is sent to all members.
-use Rattle.std.proofs.Common.{◌≡◌, ◌≤◌, length, sym, ◌∙◌, ap, arith}
+use Rattle.std.proofs.Common.{◌≡◌, sym, ◌∙◌, ap, arith}
 use Rattle.coord_phase.specs.Messages.{phase_messages}
 use Rattle.node.specs.Kinds.{shown_in}
 use Rattle.node.specs.declared.operations.Kind.{Kind}

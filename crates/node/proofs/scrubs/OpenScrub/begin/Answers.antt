@@ -1,5 +1,5 @@
 -- The look is sent to all members.
-use Rattle.std.proofs.Common.{◌≡◌, ◌≤◌, length, ◌∙◌, ap, subst, arith}
+use Rattle.std.proofs.Common.{length, ◌∙◌, ap, subst, arith}
 use Rattle.fab_base.specs.Layouts.{Group}
 use Rattle.protocol.specs.Coordinators.{asked_group}
 use Rattle.coord_phase.specs.Operations as phased

@@ -1,11 +1,10 @@
 -- What the look decides is what the machine does.
-use Rattle.std.proofs.Common.{◌≡◌, ◌<◌, ◌-◌, ◌^◌, ℕ, Bool, true, false, List, [], Option, Some, None, Result, Ok, Err, refl, sym, ◌∙◌, ap, subst}
+use Rattle.std.proofs.Common.{◌≡◌, ℕ, Bool, true, false, [], Option, None, Result, Ok, Err, refl, sym, ◌∙◌, ap, subst}
 use Rattle.std.specs.Result.{OnErr}
 use Rattle.std.proofs.lemmas.Result.{IfOk-weaker}
 use Rattle.fab_base.specs.declared.identities.BrickId.{BrickId}
 use Rattle.fab_base.specs.declared.stamps.Stamp.{Stamp}
 use Rattle.fab_base.specs.Layouts.{Layout}
-use Rattle.messages.specs.declared.calls.Call.{Call}
 use Rattle.messages.specs.declared.packets.Message.{Message}
 use Rattle.protocol.specs.Coordinators.{fast_version}
 use Rattle.coord_phase.specs.Operations as phased
@@ -19,7 +18,7 @@ use Rattle.scrub.specs.Decisions.{Hears}
 use Rattle.node.specs.declared.operations.Operation.{Operation}
 use Rattle.node.specs.declared.scrubs.OpenScrub.{OpenScrub}
 use Rattle.node.specs.Outcomes.{Outcome}
-use Rattle.node.specs.Scrubs.{IsScrubAsBefore, IsScrubOf, Recovers, StepsScrub, end_outs, phase_of, scrubbing_of}
+use Rattle.node.specs.Scrubs.{IsScrubOf, Recovers, StepsScrub, end_outs, phase_of, scrubbing_of}
 use Rattle.node.proofs.ScrubReplies.{look_ends, look_recovers, look_waits, looking, nothing_outs}
 use Rattle.node.proofs.scrubs.OpenScrub.on_look_reply.Goals as goal
 use Rattle.node.proofs.scrubs.OpenScrub.on_look_reply.Goals.{In-Recover}

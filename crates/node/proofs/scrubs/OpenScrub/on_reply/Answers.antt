@@ -1,5 +1,5 @@
 -- What the recovery decides is what the machine does.
-use Rattle.std.proofs.Common.{◌≡◌, ℕ, List, [], ◌∷◌, Option, Some, None, option_to_list, refl, sym, ◌∙◌, ap, subst}
+use Rattle.std.proofs.Common.{◌≡◌, ℕ, [], Option, Some, None, option_to_list, sym, ◌∙◌, ap, subst}
 use Rattle.std.proofs.lemmas.Result.{IfOk-weaker}
 use Rattle.fab_base.specs.declared.identities.BrickId.{BrickId}
 use Rattle.fab_base.specs.declared.stamps.Stamp.{Stamp}
@@ -13,7 +13,6 @@ use Rattle.coord_phase.specs.declared.operations.Stage.{Stage}
 use Rattle.scrub.specs.Scrubs as looks
 use Rattle.node.specs.declared.operations.Operation.{Operation}
 use Rattle.node.specs.declared.scrubs.OpenScrub.{OpenScrub}
-use Rattle.node.specs.Operations.{coordinator_of}
 use Rattle.node.specs.Outcomes.{Outcome, told_list}
 use Rattle.node.specs.Scrubs.{IsScrubOf, StepsScrub, end_outs, phase_of}
 use Rattle.node.proofs.ScrubReplies.{recovery_ends, recovery_goes}

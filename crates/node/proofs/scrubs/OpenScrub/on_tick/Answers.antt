@@ -1,5 +1,5 @@
 -- The present phase is sent again.
-use Rattle.std.proofs.Common.{◌≡◌, ◌≤◌, Option, Some, None, length, sym, ◌∙◌, ap, subst, arith}
+use Rattle.std.proofs.Common.{◌≡◌, Option, Some, length, sym, ◌∙◌, ap, subst, arith}
 use Rattle.std.proofs.lemmas.Result.{IfOk-weaker}
 use Rattle.fab_base.specs.Layouts.{Group}
 use Rattle.protocol.specs.Coordinators.{asked_group}

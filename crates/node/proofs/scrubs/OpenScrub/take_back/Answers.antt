@@ -1,5 +1,5 @@
 -- Without the last reply it is of the layout still.
-use Rattle.std.proofs.Common.{◌≡◌, true, Option, Some, None, sym, ◌∙◌, ap, subst}
+use Rattle.std.proofs.Common.{Option, sym, ◌∙◌, ap, subst}
 use Rattle.coord_phase.specs.Operations as phased
 use Rattle.coord_recover.specs.Recoveries.{is_of_recovery}
 use Rattle.scrub.specs.Scrubs as looks

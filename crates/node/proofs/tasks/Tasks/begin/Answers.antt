@@ -1,10 +1,9 @@
 -- The operation begins beside the synchronisation and the scrub.
-use Rattle.std.proofs.Common.{◌≡◌, ◌≤◌, ◌∙◌, ℕ, refl, sym, ap, subst}
+use Rattle.std.proofs.Common.{◌≤◌, ◌∙◌, ℕ, refl, sym, ap, subst}
 use Rattle.std.proofs.lemmas.Result.{IfOk-weaker}
 use Rattle.protocol.specs.Nodes.{Node, NodeStep, coordinator_in}
 use Rattle.coord_phase.specs.Operations.{group_in_view}
 use Rattle.node.specs.declared.open_work.OpenWork.{OpenWork}
-use Rattle.node.specs.declared.outs.Begun.{Begun}
 use Rattle.node.specs.Jobs.{reading_in, with_reading}
 use Rattle.node.specs.Scrubs.{scrub_seq, scrubbing_in, with_scrubbing}
 use Rattle.node.specs.States.{BeginsAs, parts_with, state_in, state_with}

@@ -1,11 +1,9 @@
 -- The read of the synchronisation ends, or waits for more.
-use Rattle.std.proofs.Common.{◌≡◌, ◌≤◌, ℕ, true, nat_eq, Option, Some, None, refl, sym, ◌∙◌, ap, subst}
-use Rattle.fab_base.specs.declared.answers.Answer.{Answer}
+use Rattle.std.proofs.Common.{◌≡◌, ℕ, true, nat_eq, Option, Some, None, refl, sym, ◌∙◌, ap, subst}
 use Rattle.fab_base.specs.declared.identities.GroupId.{GroupId}
 use Rattle.messages.specs.declared.calls.Call.{Call}
 use Rattle.messages.specs.declared.packets.Message.{Message}
 use Rattle.messages.specs.declared.packets.Message.TheVariants as message
-use Rattle.messages.specs.declared.replies.Lineage.{Lineage}
 use Rattle.messages.specs.declared.replies.Reply.{Reply}
 use Rattle.messages.specs.declared.replies.Reply.TheVariants.{Moved}
 use Rattle.stripe_code.specs.Codes.{coding}
@@ -19,7 +17,7 @@ use Rattle.node.specs.declared.jobs.OpenJob.{OpenJob}
 use Rattle.node.specs.declared.outs.Tellings.{Tellings}
 use Rattle.node.specs.declared.tasks.Tasks.{Tasks}
 use Rattle.node.specs.Jobs.{FollowsFrom, followed_step, reading_of, then_told, with_reading}
-use Rattle.node.specs.Operations.{EndsOrWaits, coordinator_of, shown_of}
+use Rattle.node.specs.Operations.{shown_of}
 use Rattle.node.specs.Reads.{HasCountedRead, MovesOn}
 use Rattle.node.specs.Scrubs.{scrubbing_in, with_scrubbing}
 use Rattle.node.specs.States.{KeptParts, state_in, state_with}

@@ -1,6 +1,5 @@
 -- The scrub ends, or waits for more.
-use Rattle.std.proofs.Common.{◌≡◌, ◌≤◌, ℕ, true, false, nat_eq, Option, Some, None, refl, sym, ◌∙◌, ap, subst}
-use Rattle.fab_base.specs.declared.answers.Answer.TheVariants.{Aborted}
+use Rattle.std.proofs.Common.{◌≡◌, ℕ, true, nat_eq, Option, Some, None, refl, sym, ◌∙◌, ap, subst}
 use Rattle.fab_base.specs.declared.answers.Cause.{Cause}
 use Rattle.messages.specs.declared.calls.Call.{Call}
 use Rattle.messages.specs.declared.packets.Message.{Message}
@@ -17,9 +16,8 @@ use Rattle.node.specs.declared.jobs.OpenJob.{OpenJob}
 use Rattle.node.specs.declared.scrubs.OpenScrub.{OpenScrub}
 use Rattle.node.specs.declared.tasks.Tasks.{Tasks}
 use Rattle.node.specs.Jobs.{reading_in, with_reading}
-use Rattle.node.specs.Operations.{EndsOrWaits}
 use Rattle.node.specs.Outcomes.{Outcome}
-use Rattle.node.specs.Scrubs.{HasCountedScrub, MovesScrub, Scrubbing, scrub_seq, scrub_shown, scrubbing_in, scrubbing_of, with_scrubbing}
+use Rattle.node.specs.Scrubs.{HasCountedScrub, MovesScrub, Scrubbing, scrub_seq, scrub_shown, scrubbing_of, with_scrubbing}
 use Rattle.node.specs.States.{KeptParts, StepsAs, state_in, state_with}
 use Rattle.node.specs.Tasks.{ApartFromJob, IsScrubAt, IsScrubIn, read_seq, step_on, tasks_in}
 use Rattle.node.proofs.Beside.{none_reads}

@@ -1,5 +1,5 @@
 -- A call is open where the scrub has it, or the read, or an operation.
-use Rattle.std.proofs.Common.{◌≡◌, ℕ, Option, is_some, sym, ◌∙◌, ap}
+use Rattle.std.proofs.Common.{ℕ, Option, is_some, sym, ◌∙◌, ap}
 use Rattle.std.specs.Option.{option_map}
 use Rattle.std.specs.Ordering.{nat_cmp}
 use Rattle.std.specs.BTreeMap.{get}

@@ -1,25 +1,19 @@
 -- The read of the synchronisation goes on, or ends.
-use Rattle.std.proofs.Common.{◌≡◌, ◌≤◌, ℕ, true, nat_eq, Option, Some, None, refl, sym, ◌∙◌, ap, subst, arith}
-use Rattle.std.specs.Option.{option_map, is_some}
+use Rattle.std.proofs.Common.{◌≡◌, ℕ, Option, Some, refl, sym, ◌∙◌, ap, subst, arith}
 use Rattle.std.specs.Ordering.{nat_cmp}
-use Rattle.std.specs.BTreeMap.{BTreeMap, get}
+use Rattle.std.specs.BTreeMap.{get}
 use Rattle.fab_base.specs.declared.identities.BrickId.{BrickId}
 use Rattle.fab_base.specs.declared.identities.GroupId.{GroupId}
-use Rattle.messages.specs.declared.packets.Message.TheVariants as message
 use Rattle.stripe_code.specs.Codes.{coding}
 use Rattle.protocol.specs.Nodes.{Node, NodeStep, known_after, replied_at, with_known, with_round}
-use Rattle.node.specs.declared.jobs.Followed.{Followed}
 use Rattle.node.specs.declared.jobs.OpenJob.{OpenJob}
 use Rattle.node.specs.declared.jobs.ReadTurn.{ReadTurn}
 use Rattle.node.specs.declared.open_work.OpenWork.{OpenWork}
-use Rattle.node.specs.declared.operations.Operation.{Operation}
-use Rattle.node.specs.declared.tasks.Tasks.{Tasks}
 use Rattle.node.specs.Jobs.{FollowsFrom, followed_step, reading_of, then_told, with_reading}
-use Rattle.node.specs.Operations.{coordinator_of}
 use Rattle.node.specs.Reads.{IsReadTurn, IsSameRead, LeftSo, turn_step}
 use Rattle.node.specs.Scrubs.{scrubbing_in, with_scrubbing}
 use Rattle.node.specs.States.{KeptParts, StepsAs, parts_with, state_in, state_with}
-use Rattle.node.specs.Tasks.{AreSameTasks, IsJobAt, IsJobIn, IsScrubIn, read_seq, tasks_in}
+use Rattle.node.specs.Tasks.{IsJobAt, IsJobIn, IsScrubIn, read_seq, tasks_in}
 use Rattle.node.proofs.ReadReplies.{read_free, reads_call, turn_is}
 use Rattle.node.proofs.ScrubCalls.{aside_next, scrub_heard, scrub_other, scrub_stays}
 use Rattle.node.proofs.ScrubsBeside.{ScrubApart, calls_apart_scrub, swapped}

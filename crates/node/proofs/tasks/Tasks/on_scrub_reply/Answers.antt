@@ -1,18 +1,16 @@
 -- The scrub goes on, or ends.
-use Rattle.std.proofs.Common.{◌≡◌, true, false, nat_eq, List, [], ◌∷◌, Option, Some, None, refl, sym, ◌∙◌, ap, subst}
-use Rattle.fab_base.specs.declared.stamps.Stamp.{Stamp}
+use Rattle.std.proofs.Common.{◌≡◌, true, List, [], Option, Some, None, refl, sym, ◌∙◌, ap, subst}
 use Rattle.stripe_code.specs.Codes.{coding}
 use Rattle.protocol.specs.declared.tellings.Report.{Report}
 use Rattle.protocol.specs.Nodes.{Node, NodeStep, fresh_stamp, replied_at, with_known, with_round}
 use Rattle.coord_phase.specs.Messages.{packets_from}
 use Rattle.node.specs.declared.scrubs.OpenScrub.{OpenScrub}
 use Rattle.node.specs.declared.open_work.OpenWork.{OpenWork}
-use Rattle.node.specs.declared.tasks.Tasks.{Tasks}
 use Rattle.node.specs.Jobs.{reading_in, with_reading}
 use Rattle.node.specs.Outcomes.{Outcome}
-use Rattle.node.specs.Scrubs.{KeepsScrub, Scrubbing, StepsScrub, left_scrub, scrub_seq, scrub_step, scrubbing_in, scrubbing_of, with_scrubbing}
+use Rattle.node.specs.Scrubs.{KeepsScrub, Scrubbing, StepsScrub, left_scrub, scrub_seq, scrub_step, scrubbing_in, with_scrubbing}
 use Rattle.node.specs.States.{KeptParts, StepsAs, parts_with, state_in, state_with}
-use Rattle.node.specs.Tasks.{AreSameTasks, AreTasksOf, IsScrubAt, IsScrubIn, tasks_in}
+use Rattle.node.specs.Tasks.{AreSameTasks, IsScrubAt, IsScrubIn, tasks_in}
 use Rattle.node.proofs.Beside.{none_reads}
 use Rattle.node.proofs.States.{on_err}
 use Rattle.node.proofs.ScrubCalls.{job_heard, none_reported, one_reported, read_other, replied_scrub, same_scrub, scrub_as_before, scrub_free, scrub_goes_on, scrubs_call}

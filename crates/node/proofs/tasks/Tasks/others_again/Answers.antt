@@ -4,7 +4,7 @@ use Rattle.std.specs.Option.{option_map}
 use Rattle.std.proofs.lemmas.List.{map-append}
 use Rattle.fab_base.specs.declared.identities.BrickId.{BrickId}
 use Rattle.messages.specs.declared.packets.Message.{Message}
-use Rattle.protocol.specs.Nodes.{Node, ticked}
+use Rattle.protocol.specs.Nodes.{ticked}
 use Rattle.stripe_code.specs.Codes.{coding}
 use Rattle.coord_phase.specs.Messages.{packets_from}
 use Rattle.node.specs.declared.jobs.OpenJob.{OpenJob}

@@ -1,7 +1,6 @@
 -- The scrub begins, beside the synchronisation.
-use Rattle.std.proofs.Common.{◌≡◌, ◌≤◌, ◌+◌, ◌-◌, ◌^◌, ◌||◌, ℕ, Bool, true, false, not, nat_eq, if◌then◌else◌, List, [], ◌∷◌, Option, Some, None, refl, sym, ◌∙◌, ap, subst, arith}
+use Rattle.std.proofs.Common.{◌≡◌, ◌+◌, ◌-◌, ◌^◌, ◌||◌, Bool, true, false, not, nat_eq, if◌then◌else◌, [], ◌∷◌, Option, Some, None, refl, sym, ◌∙◌, ap, subst, arith}
 use Rattle.std.proofs.lemmas.Option.{none-some, same_Some}
-use Rattle.fab_base.specs.declared.identities.BrickId.{BrickId}
 use Rattle.fab_base.specs.declared.identities.CallId.{CallId}
 use Rattle.fab_base.specs.declared.identities.ViewNo.{ViewNo}
 use Rattle.fab_base.specs.declared.stamps.Stamp.{Stamp}
@@ -9,22 +8,17 @@ use Rattle.messages.specs.declared.calls.Call.{Call}
 use Rattle.stripe_code.specs.Codes.{coding}
 use Rattle.protocol.specs.declared.tellings.Told.TheVariants.{Began}
 use Rattle.protocol.specs.Coordinators.{Coordinator}
-use Rattle.protocol.specs.Scrubs.{scrub_ask}
-use Rattle.protocol.specs.Nodes.{Node, NodeStep, coordinator_in, has_later_time, is_spent, new_stamp, phase_packets, put}
+use Rattle.protocol.specs.Nodes.{Node, has_later_time, new_stamp, phase_packets, put}
 use Rattle.coord_phase.specs.Operations as phased
 use Rattle.coord_phase.specs.Operations.{group_in_view, scrub_op}
 use Rattle.coord_phase.specs.Messages.{packets_from}
 use Rattle.node.specs.declared.call_sources.CallSource.{CallSource}
-use Rattle.node.specs.declared.jobs.OpenJob.{OpenJob}
-use Rattle.node.specs.declared.open_work.OpenWork.{OpenWork}
 use Rattle.node.specs.declared.operations.Operation.{Operation}
-use Rattle.node.specs.declared.outs.Tellings.{Tellings}
 use Rattle.node.specs.declared.scrubs.OpenScrub.{OpenScrub}
-use Rattle.node.specs.declared.tasks.Tasks.{Tasks}
 use Rattle.node.specs.Jobs.{reading_in, with_reading}
 use Rattle.node.specs.Outcomes.{Outcome, told_list}
-use Rattle.node.specs.Scrubs.{GoesOnFrom, IsScrubOf, phase_of, scrub_coordinator_of, scrub_seq, scrubbed_by, scrubbing_in, with_scrubbing}
-use Rattle.node.specs.States.{KeptParts, StepsAs, parts_with, state_in, state_with}
+use Rattle.node.specs.Scrubs.{GoesOnFrom, phase_of, scrub_coordinator_of, scrub_seq, scrubbed_by, scrubbing_in, with_scrubbing}
+use Rattle.node.specs.States.{StepsAs, parts_with, state_in, state_with}
 use Rattle.node.specs.Tasks.{tasks_in}
 use Rattle.node.proofs.Resending.{phase_sent}
 use Rattle.node.proofs.ScrubCalls.{job_made, scrub_is_at}

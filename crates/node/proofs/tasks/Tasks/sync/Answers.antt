@@ -1,5 +1,5 @@
 -- The synchronisation of the learnt view begins.
-use Rattle.std.proofs.Common.{◌≡◌, Option, None, refl, sym, ◌∙◌, ap, subst}
+use Rattle.std.proofs.Common.{◌≡◌, refl, sym, ◌∙◌, ap, subst}
 use Rattle.protocol.specs.Jobs.{begun_job}
 use Rattle.protocol.specs.Nodes.{Node, NodeStep, synced_at}
 use Rattle.stripe_code.specs.Codes.{coding}

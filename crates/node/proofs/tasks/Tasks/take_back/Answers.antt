@@ -1,5 +1,5 @@
 -- What was counted is taken back, beside the synchronisation or of it.
-use Rattle.std.proofs.Common.{◌≡◌, ℕ, Option, Some, None, refl, sym, ◌∙◌, ap, subst}
+use Rattle.std.proofs.Common.{◌∙◌, ap, subst}
 use Rattle.messages.specs.declared.packets.Message.TheVariants as message
 use Rattle.coord_phase.specs.Operations as phased
 use Rattle.node.specs.declared.tasks.TaskTurn.{TaskTurn}

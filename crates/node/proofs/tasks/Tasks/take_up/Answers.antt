@@ -1,9 +1,9 @@
 -- The read that begins is one of the brick.
-use Rattle.std.proofs.Common.{◌≡◌, ◌+◌, ◌∙◌, ap, subst, arith}
+use Rattle.std.proofs.Common.{◌≡◌, ◌∙◌, ap, subst, arith}
 use Rattle.messages.specs.declared.calls.Call.{Call}
 use Rattle.protocol.specs.Nodes.{Node}
 use Rattle.node.specs.declared.jobs.Followed.{Followed}
-use Rattle.node.specs.Jobs.{FollowsFrom, IsOpenJobOf}
+use Rattle.node.specs.Jobs.{FollowsFrom}
 use Rattle.node.specs.States.{parts_with, state_with}
 use Rattle.node.specs.Tasks.{read_seq}
 use Rattle.node.proofs.TakenUp.{read_is_at, scrub_goes}
