@@ -18,7 +18,7 @@ use Rattle.protocol.specs.declared.tellings.Told.TheVariants as told
 use Rattle.protocol.specs.Nodes.{Node, NodeStep, put, refusal_of, proposal_refusal, sync_refusal, scrub_refusal, group_at, began, invoked, proposed, synced_at, scrubbed_at, stopped, restarted}
 use Rattle.protocol.specs.Worlds.{World, Event, first_world, Found, Invokes, Proposes, Syncs, Scrubs, Delivers, Sets, Ticks, Stops, Starts, Before, After, number_of, mark_of, is_brick, is_up, may_start, world_began, world_told, world_tells, world_answered, world_answers, reports_of, world_stepped, world_ticked, world_stopped, world_found, world_started, delivered, packet_of, happens, run}
 use Rattle.lines.specs.declared.forms.Line.{Line}
-use Rattle.lines.specs.declared.forms.Line.TheVariants.{Nothing, Invoke, Deliver, SetClock, Tick, Crash, Start, Propose, Sync, Scrub, Calm}
+use Rattle.lines.specs.declared.forms.Line.TheVariants.{Nothing, Invoke, Deliver, SetClock, Tick, Crash, Start, Propose, Sync, Scrub, Suspect, Trust, Spare, Calm}
 use Rattle.fab_base.specs.Layouts.{Layout, Group}
 use Rattle.fab_disk.specs.declared.mem_disk.MemDisk.{MemDisk}
 use Rattle.stripe_code.specs.Codes.{coding}
@@ -28,10 +28,11 @@ use Rattle.transcript.specs.Kinds.{is_begin}
 use Rattle.world.specs.Faults.{IsEventsOf}
 use Rattle.world.specs.Runs.{Run, Step, world_of, all_events, brick_of}
 use Rattle.world.specs.Steps.{Runs}
+use Rattle.world.specs.Suspected.{has_both, spare_list, proposing_line, meant}
 use Rattle.world.proofs.RunLemmas.{world_of-with_step}
 use Rattle.protocol.proofs.Events.{step_on, world_counting, world_handled, run-append}
 use Rattle.protocol.proofs.Tables.{put_each}
-use Rattle.world.specs.Texts.{mark_text, marks_text, report_text, reports_text, new_marks, new_reports, is_deliverable, marks_if, outcome_of, outcome_text, event_text, text_of, line_text, step_text, refused_or_begun}
+use Rattle.world.specs.Texts.{mark_text, marks_text, report_text, reports_text, new_marks, new_reports, is_deliverable, marks_if, outcome_of, outcome_text, event_text, text_of, line_text, step_text, suspicion_text, refused_or_begun}
 use Rattle.world.specs.declared.simulations.Outcome.{Outcome}
 use Rattle.world.specs.declared.simulations.Outcome.TheVariants.{Marks, Refused, Idle}
 use Rattle.printed.specs.Printed.{Printed, OfMark, OfReport, OfRefusal, OfNothing, printed_text, printed_texts, marks_in, printed_marks, reports_in, printed_reports}
@@ -562,6 +563,11 @@ calm_printed setting mark n numbers w last (event ∷ events) runs =
     most_printed setting w (run setting (event ∷ events) w) (text_of setting w (event ∷ events)) 0 1 (omega arith)
     (alone_printed setting n (map brick_of numbers) w last (event ∷ events) runs)
 
+-- what a line prints that speaks of two bricks
+suspicion_printed : (setting : Setting) (w : World) (has : Bool) → IsPrintedAs setting w (run setting [] w) (suspicion_text has) 1
+suspicion_printed setting w true = nothing_printed setting w 1
+suspicion_printed setting w false = idle_printed setting 0 [] w
+
 -- What the events of a line print.
 line_printed : (layout : Layout) (w : World) (old new : List MemDisk) (line : Line) (events : List Event) → IsEventsOf layout w old new line events
     → IsPrintedAs (coding layout) w (run (coding layout) events w) (line_text (coding layout) w line events) 1
@@ -578,10 +584,27 @@ line_printed layout w old new (Start b fault) events (inr (inr none)) = of_one (
 line_printed layout w old new (Propose b g members) events are = of_one (coding layout) w (Propose b g members) _ events are
 line_printed layout w old new (Sync b g) events are = of_one (coding layout) w (Sync b g) _ events are
 line_printed layout w old new (Scrub b g s members) events are = of_one (coding layout) w (Scrub b g s members) _ events are
+line_printed layout w old new (Suspect b c) events are =
+    of_none (coding layout) w (Suspect b c) events are (suspicion_printed (coding layout) w (has_both layout.bricks b c))
+line_printed layout w old new (Trust b c) events are =
+    of_none (coding layout) w (Trust b c) events are (suspicion_printed (coding layout) w (has_both layout.bricks b c))
+line_printed layout w old new (Spare b g) events are = of_none (coding layout) w (Spare b g) events are (idle_printed (coding layout) 0 [] w)
 line_printed layout w old new (Calm n numbers) events (inl calm) =
     calm_printed (coding layout) n (operation_marked w n) numbers w (run (coding layout) events w) events calm.runs
 line_printed layout w old new (Calm n numbers) events (inr none) =
     of_none (coding layout) w (Calm n numbers) events none.1 (idle_printed (coding layout) n numbers w)
+
+-- What the events of a line print that stands for another.
+meant_printed : (r : Run) (new : List MemDisk) (line : Line) (events : List Event)
+    → IsEventsOf r.layout (world_of r) r.disks new (meant r line) events
+    → IsPrintedAs (coding r.layout) (world_of r) (run (coding r.layout) events (world_of r)) (line_text (coding r.layout) (world_of r) line events) 1
+meant_printed r new (Spare b g) events are = by (spare_list r b g) are
+  where
+    by : (o : Option (List BrickId)) → IsEventsOf r.layout (world_of r) r.disks new (proposing_line b g o) events
+        → IsPrintedAs (coding r.layout) (world_of r) (run (coding r.layout) events (world_of r)) (line_text (coding r.layout) (world_of r) (Spare b g) events) 1
+    by None none = of_none (coding r.layout) (world_of r) (Spare b g) events none (idle_printed (coding r.layout) 0 [] (world_of r))
+    by (Some members) one = of_one (coding r.layout) (world_of r) (Spare b g) _ events one
+meant_printed r new line events are = line_printed r.layout (world_of r) r.disks new line events are
 
 -- the world that a step leaves
 pub after_step : (before after : Run) (line : Line) (step : Step) → Runs before after line step
@@ -608,7 +631,7 @@ steps_printed r last (step ∷ steps) leads =
     (sym (run-append setting w step.events (all_events steps)))
     (most_printed setting w (run setting (all_events steps) next) (steps_text setting w (step ∷ steps)) (1 + length steps) (suc (length steps)) (omega arith)
     (both_printed setting w next (run setting (all_events steps) next) (step_text setting w step) (steps_text setting next steps) 1 (length steps)
-    (line_printed r.layout w r.disks leads.0.disks step.line step.events leads.1.events_are) rest))
+    (meant_printed r leads.0.disks step.line step.events leads.1.events_are) rest))
 
 -- What the steps of a whole schedule print, from fresh bricks on.
 pub schedule_printed : (layout : Layout) (schedule : List (List ℕ)) (steps : List Step) → AreStepsOf layout schedule steps
