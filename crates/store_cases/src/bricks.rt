@@ -13,7 +13,7 @@ use fab_disk::{Armed, Disk, MemDisk, Plan};
 use std::alloc::Global;
 
 /// The records that a store has room for, where nothing else is said.
-pub const ROOMY: u32 = 100;
+pub const ROOMY: u32 = 8;
 
 const ME: BrickId = BrickId(5);
 

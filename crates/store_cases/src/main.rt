@@ -3,8 +3,8 @@
 //! A change of a store makes a number of calls of the disk. Each of them is made to stop, in the middle of its work, or to fail, with
 //! nothing done. The disk is then settled by pick 0 (nothing of the calls since the last sync was done), pick 1 (all was done) or pick 2
 //! (each byte that is not certain is drawn), and the store is opened again: it tells what it told before the change, or what it tells
-//! after it. A line has a word for each call, and one for a number that the change doesn't reach. The same is tried over a store of the old format
-//! that an opening brought over.
+//! after it. A line has a word for each call, and one for a number that the change doesn't reach. Some are tried over a store of the old
+//! format, too, that an opening brought over; so is that opening.
 #![tactic(auto)]
 
 mod bricks;
@@ -72,37 +72,33 @@ fn print_filled(rt: &impl Print, told: &Filled) -> io::Result<()> {
 }
 
 /// The disk after many orders of one stripe.
-fn often_ordered(alloc: Global, origin: Origin) -> anyhow::Result<MemDisk> {
+fn often_ordered(alloc: Global) -> anyhow::Result<MemDisk> {
     let mut changes = Vec::new(alloc);
     for time in 1..12_001 {
         changes.push(Change::Order(time))?;
     }
-    disk_after(alloc, empty_disk(alloc), origin, &changes)
+    disk_after(alloc, empty_disk(alloc), Origin::New, &changes)
 }
 
-/// Whether a disk holds less than so many bytes.
-fn is_small<D: Disk>(disk: &mut D, most: u64) -> bool {
+/// Whether a disk holds less than 400,000 bytes.
+fn is_small<D: Disk>(disk: &mut D) -> bool {
     match disk.len() {
-        Ok(length) => length < most,
+        Ok(length) => length < 400_000,
         Err(_) => false,
     }
 }
 
 /// Many orders of one stripe: the list is rewritten many times, and stays small.
-fn print_ordered<D: Disk + Drop>(
-    rt: &(impl Print + AllocGlobal),
-    disk: D,
-    most: u64,
-) -> anyhow::Result<()> {
+fn print_ordered<D: Disk + Drop>(rt: &(impl Print + AllocGlobal), disk: D) -> anyhow::Result<()> {
     let mut disk = disk;
-    let small = is_small(&mut disk, most);
+    let small = is_small(&mut disk);
     let told = told_by(rt.alloc(), disk)?;
     println!(rt; "12000 orders: small {small} {told:?}")?;
     Ok(())
 }
 
-/// Tries a store that is made in this format. Its disk stays below so many bytes.
-fn try_made(rt: &(impl Print + AllocGlobal), origin: Origin, most: u64) -> anyhow::Result<()> {
+/// Tries a store that is made in this format, and prints what it tells as it is filled.
+fn try_made(rt: &(impl Print + AllocGlobal), origin: Origin) -> anyhow::Result<()> {
     let alloc = rt.alloc();
     println!(rt;
         "fresh: {:?}",
@@ -110,13 +106,15 @@ fn try_made(rt: &(impl Print + AllocGlobal), origin: Origin, most: u64) -> anyho
     )?;
     trials::run(rt, origin)?;
     print_filled(rt, &told_when_filled(alloc, empty_disk(alloc), origin)?)?;
-    print_ordered(rt, often_ordered(alloc, origin)?, most)
+    Ok(())
 }
 
 fn main(rt: HostRuntime) -> anyhow::Result<()> {
-    try_made(&rt, Origin::New, 400_000)?;
+    try_made(&rt, Origin::New)?;
+    trials::print_others(&rt)?;
+    print_ordered(&rt, often_ordered(rt.alloc())?)?;
     println!(rt; "brought over:")?;
-    try_made(&rt, Origin::Old, 800_000)?;
+    try_made(&rt, Origin::Old)?;
     trials::print_bringing(&rt)?;
     files::run(&rt)?;
     frames::run(&rt)
