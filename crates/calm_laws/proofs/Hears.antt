@@ -228,6 +228,9 @@ closes_at stage n w later s node seen stored shows nodes up more packets closed 
   operation = o.operation;
   is = o.is;
   answered = o.answered;
+  brick = o.brick ∙ shows.brick;
+  boot = o.boot ∙ shows.boot;
+  seq = o.seq ∙ shows.seq;
   events = [];
   coordinator = s.c;
   same = same_itself;

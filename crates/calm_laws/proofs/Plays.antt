@@ -42,6 +42,9 @@ pub record HasEnded (stage : Stage) (n : ℕ) (c : Coordinator) (w last : World)
   pub operation : Operation
   pub is : last.operations n ≡ Some operation
   pub answered : operation.answered ≡ true
+  pub brick : operation.brick ≡ stage.me
+  pub boot : operation.boot ≡ c.call.boot
+  pub seq : operation.seq ≡ c.call.seq
   pub events : List Event
   pub coordinator : Coordinator
   pub same : SameCall c coordinator
@@ -88,6 +91,9 @@ ended_from stage n c d w last event same end = record {
   operation = end.operation;
   is = end.is;
   answered = end.answered;
+  brick = end.brick;
+  boot = end.boot ∙ same.boot;
+  seq = end.seq ∙ same.seq;
   events = event ∷ end.events;
   coordinator = end.coordinator;
   same = same_then c d end.coordinator same end.same;

@@ -13,8 +13,6 @@ use Rattle.quorum.specs.Memberships.{are_distinct, is_membership}
 use Rattle.toml.specs.Data.{Data, Items, no_items, item, Members, no_members, member, get_member, as_str, as_integer, as_array, as_table}
 use Rattle.layout.specs.declared.faults.Key.{Key}
 use Rattle.layout.specs.declared.faults.Key.TheVariants as keys
-use Rattle.layout.specs.declared.faults.Reader.{Reader}
-use Rattle.layout.specs.declared.faults.Reader.TheVariants.{Program, Auditor}
 use Rattle.layout.specs.declared.faults.FieldName.{FieldName}
 use Rattle.layout.specs.declared.faults.FieldName.TheVariants.{Known, Other, OtherOfGroup, OtherOfVolume}
 use Rattle.layout.specs.declared.faults.LayoutFault.{LayoutFault}
@@ -308,11 +306,9 @@ volume_tables_at table = volume_tables_in (get_member (key_text keys.Volume) tab
 
 -- ---- the whole table
 
--- the keys at the top, as a reader knows them
-abbrev pub top_keys : Reader → List Key
-top_keys Program =
-    keys.Block ∷ (keys.Bricks ∷ (keys.Records ∷ (keys.Port ∷ (keys.Store ∷ (keys.Spares ∷ (keys.Group ∷ (keys.Volume ∷ [])))))))
-top_keys Auditor =
+-- the keys at the top
+abbrev pub top_keys : List Key
+top_keys =
     keys.Block ∷ (keys.Bricks ∷ (keys.Records ∷ (keys.Port ∷ (keys.Store ∷ (keys.Spares ∷ (keys.Group ∷ (keys.Volume ∷ [])))))))
 
 -- the layout with these values at its keys
@@ -329,9 +325,9 @@ layout_with block bricks records port store spares groups volumes =
       volumes = volumes;
     }
 
--- the layout that the table of a text says to a reader
-abbrev pub layout_in : Reader → Members → Result Layout LayoutFault
-layout_in reader table = do
+-- the layout that the table of a text says
+abbrev pub layout_in : Members → Result Layout LayoutFault
+layout_in table = do
   block ← number_at table keys.Block 1 4096
   bricks ← number_at table keys.Bricks 1 64
   records ← number_at table keys.Records 1 1048576
@@ -342,5 +338,5 @@ layout_in reader table = do
   volume_tables ← volume_tables_at table
   groups ← groups_in block bricks tables
   volumes ← volumes_in groups [] volume_tables
-  known ← no_other Other (top_keys reader) table
+  known ← no_other Other top_keys table
   Ok (layout_with block bricks records port store spares groups volumes)

@@ -38,9 +38,9 @@ use Rattle.node.specs.declared.tasks.Tasks.{Tasks}
 use Rattle.node.specs.Jobs.{Reading, calls_with, reading_in, with_reading}
 use Rattle.node.specs.Moves as moves
 use Rattle.node.specs.Operations.{EndsOrWaits, coordinator_of, shown_of}
-use Rattle.node.specs.Scrubs.{GoesOnFrom, HasCountedScrub, IsScrubAside, IsScrubOf, ScrubsAt, calls_with_scrub, phase_of, scrub_at, scrub_coordinator_of, scrub_seq, scrub_shown, scrub_step, scrubbing_in, scrubbing_of, with_scrubbing}
+use Rattle.node.specs.Scrubs.{GoesOnFrom, HasCountedScrub, IsScrubAsBefore, IsScrubAside, IsScrubOf, ScrubsAt, calls_with_scrub, phase_of, scrub_at, scrub_coordinator_of, scrub_seq, scrub_shown, scrub_step, scrubbing_in, scrubbing_of, with_scrubbing}
 use Rattle.node.specs.States.{KeptParts, state_in, state_with}
-use Rattle.node.specs.Tasks.{ApartFromJob, IsJobAt, IsJobIn, IsScrubAt, IsScrubIn, ReadsAt, counts_among, counts_at as counts_here, counts_beside, read_seq}
+use Rattle.node.specs.Tasks.{ApartFromJob, AreSameTasks, IsJobAt, IsJobIn, IsScrubAt, IsScrubIn, ReadsAt, counts_among, counts_at as counts_here, counts_beside, read_seq, tasks_in}
 use Rattle.node.proofs.Beside.{ApartFrom, calls_apart, eq_same, eq_turned}
 use Rattle.node.proofs.Hearing.{none_of}
 use Rattle.node.proofs.ScrubReplies.{hearing_is}
@@ -282,6 +282,29 @@ scrub_goes_on layout before after job held now same last seq of is =
     by : (j : Option OpenJob) → ApartFromJob j held → ApartFromJob j now
     by None aside = tt
     by (Some j) aside = ap (λ (n : ℕ). nat_eq (read_seq j) n) seq ∙ aside
+
+-- where the scrub alone has changed, and goes on, all that is under way is of the same brick
+pub same_scrub : (layout : Layout) (tasks : Tasks) (held now : OpenScrub) → tasks.scrub ≡ Some held → scrub_seq now ≡ scrub_seq held
+    → (IsScrubOf layout held → IsScrubOf layout now) → AreSameTasks layout tasks (record tasks { scrub = Some now })
+same_scrub layout tasks held now is seq of =
+    record {
+      me = refl;
+      boot = refl;
+      of = λ were.
+          let at = subst (IsScrubIn layout tasks.work.calls tasks.job) is were.scrub_is in
+          record {
+            work_is = were.work_is;
+            job_is = were.job_is;
+            scrub_is = scrub_goes_on layout tasks.work.calls tasks.work.calls tasks.job held now refl refl seq (of at.scrub_is) at;
+          };
+    }
+
+-- where the machine sees the scrub as it was, it sees all as it was
+pub scrub_as_before : (layout : Layout) (tasks : Tasks) (held now : OpenScrub) → tasks.scrub ≡ Some held → IsScrubAsBefore layout held now → (kept : KeptParts)
+    → tasks_in kept (record tasks { scrub = Some now }) ≡ tasks_in kept tasks
+scrub_as_before layout tasks held now is same kept =
+    (λ i. with_scrubbing (Some (same.scrubbing_is i)) (with_reading (reading_in tasks.job) (state_in kept tasks.work)))
+    ∙ ap (λ (s : Option OpenScrub). with_scrubbing (scrubbing_in s) (with_reading (reading_in tasks.job) (state_in kept tasks.work))) (sym is)
 
 -- nothing is reported
 pub none_reported : (o : Option Report) (b : Bool) → is_some o ≡ not b → b ≡ true → option_to_list o ≡ []

@@ -245,6 +245,28 @@ taken_apart layout calls held taken (Some s) read is =
       aside = ap (λ (op : phased.Operation). nat_eq op.state.call.seq (scrub_seq s)) read ∙ is.aside;
     }
 
+-- all that is under way is of the same brick then
+pub same_taken : (layout : Layout) (tasks : Tasks) (held taken : OpenJob) → tasks.job ≡ Some held
+    → shown_of taken.read ≡ with_state (shown_of held.read) (without_last (shown_of held.read).state) → taken.job ≡ held.job → taken.view ≡ held.view
+    → AreSameTasks layout tasks (record tasks { job = Some taken })
+same_taken layout tasks held taken is read job view =
+    record {
+      me = refl;
+      boot = refl;
+      of = λ of.
+          record {
+            work_is = of.work_is;
+            job_is = taken_is layout tasks.work.calls held taken read job view (subst (IsJobIn layout tasks.work.calls) is of.job_is);
+            scrub_is = taken_apart layout tasks.work.calls held taken tasks.scrub read
+                (subst (λ (j : Option OpenJob). IsScrubIn layout tasks.work.calls j tasks.scrub) is of.scrub_is);
+          };
+    }
+
+-- what is of the same brick as what is of the same brick is so itself
+pub same_then : (layout : Layout) (before mid after : Tasks) → AreSameTasks layout before mid → AreSameTasks layout mid after → AreSameTasks layout before after
+same_then layout before mid after first last =
+    record { me = last.me ∙ first.me; boot = last.boot ∙ first.boot; of = λ of. last.of (first.of of) }
+
 -- ---- the scrub
 
 -- once the reply that it counted is taken back, the brick is as it was

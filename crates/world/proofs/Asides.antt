@@ -194,6 +194,7 @@ quiet_proposal r b g members is list = by (may_propose (coding r.layout) (world_
   where
     asked : List BrickId
     asked = map member_no (map (λ (member : BrickId). member.0) members)
+
     by : (t : Bool) → may_propose (coding r.layout) (world_of r) (brick_of b) (group_no g) ≡ t
         → (happens (coding r.layout) (world_of r) (Proposes (brick_of b) (group_no g) asked)).choices.reports ≡ (world_of r).choices.reports
     by false not_so =

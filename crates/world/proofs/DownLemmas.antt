@@ -15,7 +15,6 @@ use Rattle.fab_disk.specs.declared.disk.Plan.{Plan}
 use Rattle.fab_disk.specs.declared.mem_disk.MemDisk.{MemDisk}
 use Rattle.frame_store.specs.declared.shapes.Shape.{Shape}
 use Rattle.frame_store.specs.declared.shapes.Form.{Form}
-use Rattle.frame_store.specs.declared.frames.Frame.{Frame}
 use Rattle.frame_store.specs.Layouts.{formed}
 use Rattle.frame_store.specs.declared.shapes.Half.{Half}
 use Rattle.frame_store.specs.declared.shapes.Half.TheVariants.{A, B}
@@ -138,6 +137,12 @@ pub record IsArmed (plan : Plan) (disk armed : MemDisk) : Type 0 where
   pub crash : (image : List ℕ) → may_be_left armed image → may_be_left disk image
   pub planned : armed.plan ≡ plan
   pub listed : is_unlisted disk → is_unlisted armed
+
+-- what setting a plan tells of a disk
+pub armed_by : {plan asked : Plan} {disk armed : MemDisk} → content_of armed ≡ content_of disk
+    → ((image : List ℕ) → may_be_left armed image → may_be_left disk image) → armed.plan ≡ asked → asked ≡ plan → (is_unlisted disk → is_unlisted armed)
+    → IsArmed plan disk armed
+armed_by content crash planned is listed = record { content = content; crash = crash; planned = planned ∙ is; listed = listed }
 
 -- nothing was written on it, where a call did not touch it and its plan was taken back
 pub unwritten_by : (plan : Plan) (disk armed left last : MemDisk) → IsArmed plan disk armed

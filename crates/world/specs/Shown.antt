@@ -11,7 +11,6 @@ use Rattle.fab_base.specs.declared.member_lists.View.{View}
 use Rattle.fab_base.specs.declared.stamps.Stamp.{Stamp}
 use Rattle.fab_disk.specs.MemDisk.{IsSound, content_of}
 use Rattle.fab_disk.specs.declared.mem_disk.MemDisk.{MemDisk}
-use Rattle.brick_store.specs.Images.{IsListed}
 use Rattle.brick_store.specs.Openings.{calls_on_opening}
 use Rattle.node.specs.Calls.{packet_calls}
 use Rattle.node.specs.Running.{Running, state_of, shape_at}

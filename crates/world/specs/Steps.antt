@@ -1,5 +1,8 @@
 -- What a step of a run comes to.
 use Rattle.std.specs.Prelude.{◌≡◌, ℕ, ◌≤◌, ◌⊎◌, ◌&&◌, if◌then◌else◌, List, [], ◌∷◌, ◌++◌, length, map, Option, Some, None, is_some, Result, Ok, Err}
+use Rattle.fab_base.specs.declared.identities.BrickId.{BrickId}
+use Rattle.fab_base.specs.declared.identities.GroupId.{GroupId}
+use Rattle.fab_base.specs.declared.identities.StripeNo.{StripeNo}
 use Rattle.fab_base.specs.declared.member_lists.View.{View}
 use Rattle.fab_base.specs.Layouts.{group_of}
 use Rattle.messages.specs.declared.requests.Version.{Version}
@@ -10,8 +13,9 @@ use Rattle.lines.specs.declared.forms.Line.{Line}
 use Rattle.lines.specs.declared.forms.Line.TheVariants.{Suspect, Trust, Spare}
 use Rattle.stripe_code.specs.Codes.{coding}
 use Rattle.calm_laws.specs.Logs.{log_in}
-use Rattle.protocol.specs.Worlds.{is_up}
-use Rattle.world.specs.Runs.{Run, Step, world_of, brick_of}
+use Rattle.calm_laws.specs.LoneScrubs.{ScrubEndsAlone}
+use Rattle.protocol.specs.Worlds.{Event, Scrubs, first_world, is_up, run}
+use Rattle.world.specs.Runs.{Run, Step, all_events, world_of, brick_of}
 use Rattle.world.specs.Suspected.{meant}
 use Rattle.world.specs.Faults.{IsEventsOf}
 use Rattle.world.specs.Disks.{ShowsDisks, KeepsDisks, LeavesContents}
@@ -88,6 +92,14 @@ LeavesAside old new (Suspect b c) = ChangesNothing old new
 LeavesAside old new (Trust b c) = ChangesNothing old new
 LeavesAside old new (Spare b g) = (world_of new).choices.reports ≡ (world_of old).choices.reports
 LeavesAside old new line = Unit {0}
+
+-- Each scrub of a run, from its beginning on, with all that followed: where it was calm among its members as it began, and each event since was its delivery
+-- among them that goes next, one more of these is left, or it has ended, clean or repaired.
+abbrev pub LoneScrubsEnd : Run → Type 0
+LoneScrubsEnd r =
+    (before events : List Event) (brick : BrickId) (group : GroupId) (stripe : StripeNo) (members : List BrickId)
+    → all_events r.steps ≡ before ++ Scrubs brick group stripe members ∷ events
+    → ScrubEndsAlone (coding r.layout) (run (coding r.layout) before (first_world r.layout)) brick group stripe members events
 
 -- What a step that answers no text leaves: no line changes nothing; for want of memory nothing was run, or only the text is missing, or the rest of
 -- what an operation was to do alone is, and the text.

@@ -143,7 +143,7 @@ impl World {
     ghost use Rattle.spares.specs.Suspicions.{suspects};
     ghost use Rattle.spares.specs.Replacements.{list_for};
     ghost use Rattle.world.specs.Suspected.{proposer_at, spare_list, suspicions_of};
-    ghost use Rattle.world.specs.Steps.{Ran, RunsTo, HasRun, LeavesSome, LeavesAside, Grows, Stands, log_at, learnt_at};
+    ghost use Rattle.world.specs.Steps.{Ran, RunsTo, HasRun, LeavesSome, LeavesAside, LoneScrubsEnd, Grows, Stands, log_at, learnt_at};
     ghost use Rattle.world.specs.Walks.{AreEntriesOf};
 
     /// Stores fresh, clocks at 0, and nothing sent. All bricks are up, or, where their stores are of the old format, down.
@@ -174,6 +174,8 @@ impl World {
         ensures ok { IfOk result (λ text. Ran self.old self.new content.now text) }
         // `suspect` and `trust` change nothing of the machine, and no `spare` ends in a list that may not keep its group.
         ensures aside { IfOk result (λ _. (line : Line) → line_of content.now ≡ Some line → LeavesAside self.old self.new line) }
+        // A scrub that has run alone since it began has ended, clean or repaired, or has a message left that goes next.
+        ensures scrubs { IfOk result (λ _. LoneScrubsEnd self.new) }
         ensures bad { IsErrOf result StepFault.BadLine → (line_of content.now ≡ None) × (self.new ≡ self.old) }
         ensures memory { Stands self.old self.new content.now result }
         // Whatever it answers, each disk keeps what the machine's brick keeps.

@@ -18,7 +18,9 @@ use Rattle.node.specs.Running.{Running, running, state_of}
 use Rattle.node.specs.Tasks.{tasks_in}
 use Rattle.node.proofs.ScrubBegins.{refusal_so, scrubbed_so}
 use Rattle.node.proofs.Steps.{group_in_view_is, steps_so}
+use Rattle.node.proofs.nodes.Node.scrub.Given.{Over}
 use Rattle.node.proofs.nodes.Node.scrub.Goals as goal
+use Rattle.node.proofs.nodes.Node.scrub.Goals.{After-learnt_view-view, After-scrub_refusal}
 
 pub returns-in_default-clause-refused : goal.returns-in_default-clause-refused
 unfolding scrub_refusal
@@ -29,14 +31,26 @@ returns-in_default-clause-refused g c =
     subst (λ (n : Running g.row.D.Denot). scrub_refusal n.layout (state_of n) c.args.group c.args.stripe c.args.members.now ≡ Some Refusal.NoStripe) c.self.view_is
     (ap (λ (o : Option Group). scrub_refusal_in node c.args.stripe c.args.members.now (option_map (kept_by (node.learnt c.args.group.0).view.members) o)) found)
 
-pub returns-in-Some-scrub_refusal-clause-refused : goal.returns-in-Some-scrub_refusal-clause-refused
-returns-in-Some-scrub_refusal-clause-refused g c =
+-- the group is kept by the members of the view
+kept_so : (g : Over) (c : After-learnt_view-view g)
+    → group_in_view c.self.inside.layout c.learnt_view-view.result.members c.args.group.0 ≡ kept_by c.learnt_view-view.result.members c.in-Some.kept.now
+kept_so g c =
+    group_in_view_is c.self.inside.layout c.learnt_view-view.result.members c.args.group.0 c.in-Some.kept.now (sym c.in-Some.ensures.found)
+
+-- the machine refuses it so too
+refusal_is : (g : Over) (c : After-scrub_refusal g) → (let now = c.args.self.now in
+    scrub_refusal now.layout (state_of now) c.args.group c.args.stripe c.args.members.now ≡ c.scrub_refusal.result)
+refusal_is g c =
     let x = c.self.inside in
     let found = sym c.in-Some.ensures.found in
-    subst (λ (n : Running g.row.D.Denot). scrub_refusal n.layout (state_of n) c.args.group c.args.stripe c.args.members.now ≡ Some c.in-Some-scrub_refusal.refusal) c.self.view_is
+    subst (λ (n : Running g.row.D.Denot). scrub_refusal n.layout (state_of n) c.args.group c.args.stripe c.args.members.now ≡ c.scrub_refusal.result)
+    c.self.view_is
     (refusal_so x.layout x.tasks x.store c.args.group c.args.stripe c.args.members.now c.in-Some.kept.now c.learnt_view-view.result c.self.invariant.boot found
-    (c.learnt_view-view.ensures.view x.layout found)
-    ∙ sym (c.scrub_refusal.ensures.value (parts_in x.layout x.store.state)) ∙ c.in-Some-scrub_refusal.is)
+    (c.learnt_view-view.ensures.view x.layout found) ∙ sym (c.scrub_refusal.ensures.value (parts_in x.layout x.store.state)))
+
+pub returns-in-Some-scrub_refusal-clause-refused : goal.returns-in-Some-scrub_refusal-clause-refused
+returns-in-Some-scrub_refusal-clause-refused g c =
+    refusal_is g (goal.at.returns-in-Some-scrub_refusal-clause-refused g c).After-scrub_refusal ∙ c.in-Some-scrub_refusal.is
 
 -- ---- it is not refused
 
@@ -48,56 +62,37 @@ unreachable-requires g c =
 
 pub scrub-requires-clause-limits : goal.scrub-requires-clause-limits
 scrub-requires-clause-limits g c =
-    let x = c.self.inside in
-    let view = c.learnt_view-view.result in
-    let found = sym c.in-Some.ensures.found in
-    subst (λ (k : Group). IsWithinLimits k.m (length view.members)) (sym (group_in_view_is x.layout view.members c.args.group.0 c.in-Some.kept.now found))
-    (c.learnt_view-view.ensures.limits x.layout found c.self.invariant.lists)
+    subst (λ (k : Group). IsWithinLimits k.m (length c.learnt_view-view.result.members))
+    (sym (kept_so g (goal.at.scrub-requires-clause-limits g c).After-learnt_view-view))
+    (c.learnt_view-view.ensures.limits c.self.inside.layout (sym c.in-Some.ensures.found) c.self.invariant.lists)
 
 pub scrub-requires-clause-prior : goal.scrub-requires-clause-prior
 scrub-requires-clause-prior g c =
-    let x = c.self.inside in
     let view = c.learnt_view-view.result in
-    let found = sym c.in-Some.ensures.found in
-    subst (λ (k : Group). PriorIsWithinLimits k.m view.number view.prior) (sym (group_in_view_is x.layout view.members c.args.group.0 c.in-Some.kept.now found))
-    (c.learnt_view-view.ensures.prior x.layout found c.self.invariant.lists)
+    subst (λ (k : Group). PriorIsWithinLimits k.m view.number view.prior) (sym (kept_so g (goal.at.scrub-requires-clause-prior g c).After-learnt_view-view))
+    (c.learnt_view-view.ensures.prior c.self.inside.layout (sym c.in-Some.ensures.found) c.self.invariant.lists)
 
 pub scrub-requires-clause-enough : goal.scrub-requires-clause-enough
 scrub-requires-clause-enough g c =
-    let x = c.self.inside in
-    let view = c.learnt_view-view.result in
-    let found = sym c.in-Some.ensures.found in
-    subst (λ (k : Group). AreEnough k (Some c.in-Some-new.members)) (sym (group_in_view_is x.layout view.members c.args.group.0 c.in-Some.kept.now found))
-    (subst (λ (members : List BrickId). AreEnough (kept_by view.members c.in-Some.kept.now) (Some members)) (sym c.in-Some-new.ensures.bricks)
-    (c.scrub_refusal.ensures.enough c.in_default-scrub_refusal.is))
+    subst (λ (k : Group). AreEnough k (Some c.in-Some-new.members)) (sym (kept_so g (goal.at.scrub-requires-clause-enough g c).After-learnt_view-view))
+    (subst (λ (members : List BrickId). AreEnough (kept_by c.learnt_view-view.result.members c.in-Some.kept.now) (Some members))
+    (sym c.in-Some-new.ensures.bricks) (c.scrub_refusal.ensures.enough c.in_default-scrub_refusal.is))
 
 pub returns-in_err-outs-clause-refused : goal.returns-in_err-outs-clause-refused
 returns-in_err-outs-clause-refused g c =
-    let x = c.self.inside in
-    let found = sym c.in-Some.ensures.found in
-    let none = subst (λ (n : Running g.row.D.Denot). scrub_refusal n.layout (state_of n) c.args.group c.args.stripe c.args.members.now ≡ None) c.self.view_is
-    (refusal_so x.layout x.tasks x.store c.args.group c.args.stripe c.args.members.now c.in-Some.kept.now c.learnt_view-view.result c.self.invariant.boot found
-    (c.learnt_view-view.ensures.view x.layout found)
-    ∙ sym (c.scrub_refusal.ensures.value (parts_in x.layout x.store.state)) ∙ c.in_default-scrub_refusal.is) in
+    let none = refusal_is g (goal.at.returns-in_err-outs-clause-refused g c).After-scrub_refusal ∙ c.in_default-scrub_refusal.is in
     search (rules, none)
 
 -- a time and a call number are left
 pub unreachable-requires-in-None : goal.unreachable-requires-in-None
 unreachable-requires-in-None g c =
-    let x = c.self.inside in
-    let kept = parts_in x.layout x.store.state in
+    let kept = parts_in c.self.inside.layout c.self.inside.store.state in
     let left = c.scrub_refusal.ensures.left kept c.in_default-scrub_refusal.is in
     true≢false
     (sym (ap (λ (b : Bool). not b) left) ∙ sym (c.in_ok-outs.ensures.spent kept) ∙ ap (λ (o : Option Outcome). is_some o) c.in-None.is)
 
 pub returns-clause-refused : goal.returns-clause-refused
-returns-clause-refused g c =
-    let x = c.self.inside in
-    let found = sym c.in-Some.ensures.found in
-    subst (λ (n : Running g.row.D.Denot). scrub_refusal n.layout (state_of n) c.args.group c.args.stripe c.args.members.now ≡ None) c.self.view_is
-    (refusal_so x.layout x.tasks x.store c.args.group c.args.stripe c.args.members.now c.in-Some.kept.now c.learnt_view-view.result c.self.invariant.boot found
-    (c.learnt_view-view.ensures.view x.layout found)
-    ∙ sym (c.scrub_refusal.ensures.value (parts_in x.layout x.store.state)) ∙ c.in_default-scrub_refusal.is)
+returns-clause-refused g c = refusal_is g (goal.at.returns-clause-refused g c).After-scrub_refusal ∙ c.in_default-scrub_refusal.is
 
 pub returns-clause-step : goal.returns-clause-step
 unfolding state_with

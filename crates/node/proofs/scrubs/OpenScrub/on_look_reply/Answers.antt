@@ -22,6 +22,7 @@ use Rattle.node.specs.Outcomes.{Outcome}
 use Rattle.node.specs.Scrubs.{IsScrubAsBefore, IsScrubOf, Recovers, StepsScrub, end_outs, phase_of, scrubbing_of}
 use Rattle.node.proofs.ScrubReplies.{look_ends, look_recovers, look_waits, looking, nothing_outs}
 use Rattle.node.proofs.scrubs.OpenScrub.on_look_reply.Goals as goal
+use Rattle.node.proofs.scrubs.OpenScrub.on_look_reply.Goals.{In-Recover}
 
 -- a scrub without a recovery looks
 abbrev with_none : looks.Scrubbing → Option Operation → OpenScrub
@@ -51,43 +52,31 @@ module _ (was now : looks.Scrubbing) (from : BrickId) (told : Message) where
       ∙ answered.taken_back was.look from told (counted_so hears (counts was.look from told) refl) in
       λ i. record { look = look i; lagging = hears.kept i }
 
+-- ---- the stripe is to be recovered
+
+-- so the look has it
+recovers : (c : In-Recover) → Hears c.args.self.now.scrub c.args.from c.args.message.now next.Recover c.on_reply.new.self
+recovers c =
+    subst (λ (done : ScrubNext). Hears c.args.self.now.scrub c.args.from c.args.message.now done c.on_reply.new.self) c.in-Recover.is
+    c.in_ok-on_reply.ensures.hears
+
 pub recover-requires-clause-phase : goal.recover-requires-clause-phase
 recover-requires-clause-phase c =
-    let was = c.args.self.now.scrub in
-    let now = c.on_reply.new.self in
-    let hears = subst (λ (done : ScrubNext). Hears was c.args.from c.args.message.now done now) c.in-Recover.is c.in_ok-on_reply.ensures.hears in
-    (hears.stands None (counted_so was now c.args.from c.args.message.now hears (counts was.look c.args.from c.args.message.now) refl)).1
-
-pub unreachable-requires : goal.unreachable-requires
-unreachable-requires c =
-    let was = c.args.self.now.scrub in
-    let now = c.on_reply.new.self in
-    never_sends was now c.args.from c.args.message.now c.in-Send.field-0
-    (subst (λ (done : ScrubNext). Hears was c.args.from c.args.message.now done now) c.in-Send.is c.in_ok-on_reply.ensures.hears)
-    (counts was.look c.args.from c.args.message.now) refl
-
-pub returns-in-Wait-clause-step : goal.returns-in-Wait-clause-step
-returns-in-Wait-clause-step c = λ layout fresh of.
-    let before = c.args.self.now in
-    let was = before.scrub in
-    let now = c.on_reply.new.self in
-    let known = c.args.stamps.now.known in
-    let hears = subst (λ (done : ScrubNext). Hears was c.args.from c.args.message.now done now) c.in-Wait.is c.in_ok-on_reply.ensures.hears in
-    subst (λ (outs : Outcome). StepsScrub layout before c.args.from c.args.message.now fresh known outs (with_none now before.recovery) known) (sym c.nothing.ensures)
-    (still_looks layout was now c.args.from c.args.message.now fresh known known nothing_outs before.recovery c.requires.looks
-    (λ so. look_waits layout was now c.args.from c.args.message.now fresh known so hears) of)
+    let look = c.args.self.now.scrub.look in
+    let hears = recovers (goal.at.recover-requires-clause-phase c).In-Recover in
+    (hears.stands None (counted_so c.args.self.now.scrub c.on_reply.new.self c.args.from c.args.message.now hears
+    (counts look c.args.from c.args.message.now) refl)).1
 
 pub returns-in-Recover-clause-step : goal.returns-in-Recover-clause-step
 returns-in-Recover-clause-step c =
-    let before = c.args.self.now in
-    let was = before.scrub in
+    let was = c.args.self.now.scrub in
     let now = c.on_reply.new.self in
     let after = c.recover.new.self in
     let known = c.args.stamps.now.known in
     let later = c.recover.new.stamps.known in
     let from = c.args.from in
     let told = c.args.message.now in
-    let hears = subst (λ (done : ScrubNext). Hears was from told done now) c.in-Recover.is c.in_ok-on_reply.ensures.hears in
+    let hears = recovers (goal.at.returns-in-Recover-clause-step c).In-Recover in
     IfOk-weaker c.recover.result _ _
     (λ outs recovers layout fresh.
     subst (λ (o : Option Operation). Recovers (with_none now o) after known later outs → IsScrubOf layout (with_none was o)
@@ -103,30 +92,48 @@ both_err (Err e) p q f = f p q
 pub returns-in-Recover-clause-same : goal.returns-in-Recover-clause-same
 returns-in-Recover-clause-same c = λ layout.
     let before = c.args.self.now in
-    let was = before.scrub in
-    let now = c.on_reply.new.self in
     let after = c.recover.new.self in
-    let hears = subst (λ (done : ScrubNext). Hears was c.args.from c.args.message.now done now) c.in-Recover.is c.in_ok-on_reply.ensures.hears in
     both_err c.recover.result c.recover.ensures.back c.recover.ensures.none
     (λ back none.
-    let scrub : after.scrub ≡ was = back ∙ back_so was now c.args.from c.args.message.now hears in
+    let scrub : after.scrub ≡ before.scrub =
+    back ∙ back_so before.scrub c.on_reply.new.self c.args.from c.args.message.now (recovers (goal.at.returns-in-Recover-clause-same c).In-Recover) in
     let recovery : after.recovery ≡ before.recovery = none ∙ sym c.requires.looks in
     let same : after ≡ before = λ i. with_none (scrub i) (recovery i) in
     record { scrubbing_is = ap scrubbing_of same; of = λ of. subst (IsScrubOf layout) (sym same) of })
 
+-- ---- it is not
+
+pub unreachable-requires : goal.unreachable-requires
+unreachable-requires c =
+    never_sends c.args.self.now.scrub c.on_reply.new.self c.args.from c.args.message.now c.in-Send.field-0
+    (subst (λ (done : ScrubNext). Hears c.args.self.now.scrub c.args.from c.args.message.now done c.on_reply.new.self) c.in-Send.is c.in_ok-on_reply.ensures.hears)
+    (counts c.args.self.now.scrub.look c.args.from c.args.message.now) refl
+
+-- a look that stays one, with what it sends, tells and reports
+looks_so : (layout : Layout) (before : OpenScrub) (now : looks.Scrubbing) (from : BrickId) (told : Message) (fresh : Option Stamp) (known : ℕ) (outs : Outcome)
+    → before.recovery ≡ None
+    → (IsScrubOf layout (looking before.scrub) → StepsScrub layout (looking before.scrub) from told fresh known outs (looking now) known)
+    → (done : Outcome) → done ≡ outs → IsScrubOf layout before → StepsScrub layout before from told fresh known done (with_none now before.recovery) known
+looks_so layout before now from told fresh known outs none steps done is of =
+    subst (λ (o : Outcome). StepsScrub layout before from told fresh known o (with_none now before.recovery) known) (sym is)
+    (still_looks layout before.scrub now from told fresh known known outs before.recovery none steps of)
+
+pub returns-in-Wait-clause-step : goal.returns-in-Wait-clause-step
+returns-in-Wait-clause-step c = λ layout fresh.
+    let was = c.args.self.now.scrub in
+    let hears = subst (λ (done : ScrubNext). Hears was c.args.from c.args.message.now done c.on_reply.new.self) c.in-Wait.is c.in_ok-on_reply.ensures.hears in
+    looks_so layout c.args.self.now c.on_reply.new.self c.args.from c.args.message.now fresh c.args.stamps.now.known nothing_outs c.requires.looks
+    (λ so. look_waits layout was c.on_reply.new.self c.args.from c.args.message.now fresh c.args.stamps.now.known so hears) c.nothing.result c.nothing.ensures
+
 pub returns-in-End-clause-step : goal.returns-in-End-clause-step
-returns-in-End-clause-step c = λ layout fresh of.
-    let before = c.args.self.now in
-    let was = before.scrub in
-    let now = c.on_reply.new.self in
-    let known = c.args.stamps.now.known in
+returns-in-End-clause-step c = λ layout fresh.
+    let looked = c.args.self.now.scrub in
+    let left = c.on_reply.new.self in
     let answer = c.in-End.answer in
-    let hears = subst (λ (done : ScrubNext). Hears was c.args.from c.args.message.now done now) c.in-End.is c.in_ok-on_reply.ensures.hears in
-    let call : c.call-call.result ≡ was.look.state.call =
-    c.call-call.ensures ∙ ap (λ (o : Option Operation). (phase_of was.look o).state.call) c.requires.looks in
-    let outs_is : c.end.result ≡ end_outs (looking now) was.look.state.call [] (fast_version now.look.state.counted) answer =
-    c.end.ensures ∙ (λ i. end_outs (looking now) (call i) (c.new.ensures.items i) (c.clean_version-seen.ensures i) answer) in
-    subst (λ (outs : Outcome). StepsScrub layout before c.args.from c.args.message.now fresh known outs (with_none now before.recovery) known) (sym outs_is)
-    (still_looks layout was now c.args.from c.args.message.now fresh known known
-    (end_outs (looking now) was.look.state.call [] (fast_version now.look.state.counted) answer) before.recovery c.requires.looks
-    (λ so. look_ends layout was now c.args.from c.args.message.now fresh known so answer hears) of)
+    let hears = subst (λ (done : ScrubNext). Hears looked c.args.from c.args.message.now done left) c.in-End.is c.in_ok-on_reply.ensures.hears in
+    let call : c.call-call.result ≡ looked.look.state.call =
+    c.call-call.ensures ∙ ap (λ (o : Option Operation). (phase_of looked.look o).state.call) c.requires.looks in
+    looks_so layout c.args.self.now left c.args.from c.args.message.now fresh c.args.stamps.now.known
+    (end_outs (looking left) looked.look.state.call [] (fast_version left.look.state.counted) answer) c.requires.looks
+    (λ so. look_ends layout looked left c.args.from c.args.message.now fresh c.args.stamps.now.known so answer hears) c.end.result
+    (c.end.ensures ∙ (λ i. end_outs (looking left) (call i) (c.new.ensures.items i) (c.clean_version-seen.ensures i) answer))

@@ -1,6 +1,9 @@
 -- What the recovery decides is what the machine does.
-use Rattle.std.proofs.Common.{◌≡◌, List, [], ◌∷◌, Option, Some, None, option_to_list, refl, sym, ◌∙◌, ap, subst}
+use Rattle.std.proofs.Common.{◌≡◌, ℕ, List, [], ◌∷◌, Option, Some, None, option_to_list, refl, sym, ◌∙◌, ap, subst}
 use Rattle.std.proofs.lemmas.Result.{IfOk-weaker}
+use Rattle.fab_base.specs.declared.identities.BrickId.{BrickId}
+use Rattle.fab_base.specs.declared.stamps.Stamp.{Stamp}
+use Rattle.fab_base.specs.Layouts.{Layout}
 use Rattle.messages.specs.declared.packets.Message.{Message}
 use Rattle.protocol.specs.declared.tellings.Answered.{Answered}
 use Rattle.protocol.specs.Jobs.{abort_cause}
@@ -24,50 +27,44 @@ returns-in_default-clause-step c =
 abbrev with : looks.Scrubbing → Option Operation → OpenScrub
 with scrub recovery = record { scrub = scrub; recovery = recovery }
 
+-- what the recovery that is under way does, the scrub does
+steps_so : (layout : Layout) (scrub : looks.Scrubbing) (recovery : Option Operation) (op after : Operation) (from : BrickId) (told : Message) (fresh : Option Stamp)
+    (known later : ℕ) (outs done : Outcome) → recovery ≡ Some op → done ≡ outs
+    → StepsScrub layout (with scrub (Some op)) from told fresh known outs (with scrub (Some after)) later
+    → StepsScrub layout (with scrub recovery) from told fresh known done (with scrub (Some after)) later
+steps_so layout scrub recovery op after from told fresh known later outs done is same steps =
+    subst (λ (o : Option Operation). StepsScrub layout (with scrub o) from told fresh known done (with scrub (Some after)) later) (sym is)
+    (subst (λ (o : Outcome). StepsScrub layout (with scrub (Some op)) from told fresh known o (with scrub (Some after)) later) (sym same) steps)
+
 pub returns-in-None-clause-step : goal.returns-in-None-clause-step
 returns-in-None-clause-step c = λ layout of.
-    let before = c.args.self.now in
-    let scrub = before.scrub in
-    let op = c.in-Some.recovery in
-    let after = c.on_reply.new.self in
-    let known = c.args.stamps.now.known in
-    let later = c.on_reply.new.stamps.known in
+    let scrub = c.args.self.now.scrub in
     let outs = c.in_ok-outs.outs in
     let parts = c.into_parts-messages.ensures in
     let of_op = subst (λ (o : Option Operation). IsScrubOf layout (with scrub o)) c.in-Some.is of in
     let told : Outcome = record { messages = outs.messages; told = outs.told; answers = []; reports = [] } in
-    let steps = recovery_goes layout scrub op after c.args.from c.args.message.now c.args.fresh known later of_op outs
-    (c.in_ok-outs.ensures.step layout (of_op.goes_on.0 ∙ of_op.block)) (sym parts.answers ∙ ap (λ (o : Option Answered). option_to_list o) c.in-None.is)
-    c.in_ok-outs.ensures.only in
-    subst (λ (o : Option Operation). StepsScrub layout (with scrub o) c.args.from c.args.message.now c.args.fresh known
-    (record { messages = c.into_parts-messages.result.0.items; told = told_list c.into_parts-messages.result.1; answers = []; reports = [] })
-    (with scrub (Some after)) later) (sym c.in-Some.is)
-    (subst (λ (o : Outcome). StepsScrub layout (with scrub (Some op)) c.args.from c.args.message.now c.args.fresh known o (with scrub (Some after)) later)
-    (λ i. record { messages = sym parts.messages i; told = sym parts.told i; answers = []; reports = [] }) steps)
+    let sent : Outcome = record { messages = c.into_parts-messages.result.0.items; told = told_list c.into_parts-messages.result.1; answers = []; reports = [] } in
+    steps_so layout scrub c.args.self.now.recovery c.in-Some.recovery c.on_reply.new.self c.args.from c.args.message.now c.args.fresh c.args.stamps.now.known
+    c.on_reply.new.stamps.known told sent c.in-Some.is (λ i. record { messages = parts.messages i; told = parts.told i; answers = []; reports = [] })
+    (recovery_goes layout scrub c.in-Some.recovery c.on_reply.new.self c.args.from c.args.message.now c.args.fresh c.args.stamps.now.known
+    c.on_reply.new.stamps.known of_op outs (c.in_ok-outs.ensures.step layout (of_op.goes_on.0 ∙ of_op.block))
+    (sym parts.answers ∙ ap (λ (o : Option Answered). option_to_list o) c.in-None.is) c.in_ok-outs.ensures.only)
 
 pub returns-in-Some-answer-clause-step : goal.returns-in-Some-answer-clause-step
 returns-in-Some-answer-clause-step c = λ layout of.
-    let before = c.args.self.now in
-    let scrub = before.scrub in
+    let look = c.args.self.now.scrub in
     let op = c.in-Some.recovery in
-    let r = coordinator_of op in
     let after = c.on_reply.new.self in
-    let known = c.args.stamps.now.known in
-    let later = c.on_reply.new.stamps.known in
-    let outs = c.in_ok-outs.outs in
-    let parts = c.into_parts-messages.ensures in
+    let ends = c.into_parts-messages.ensures in
     let x = c.in-Some-answer.field-0 in
-    let of_op = subst (λ (o : Option Operation). IsScrubOf layout (with scrub o)) c.in-Some.is of in
-    let steps = recovery_ends layout scrub op after c.args.from c.args.message.now c.args.fresh known later of_op outs
-    (c.in_ok-outs.ensures.step layout (of_op.goes_on.0 ∙ of_op.block)) x
-    (sym parts.answers ∙ ap (λ (o : Option Answered). option_to_list o) c.in-Some-answer.is) in
-    let shown = c.shown.ensures ∙ ap (λ (o : Option Operation). phase_of scrub.look o) c.in-Some.is in
+    let of_it = subst (λ (o : Option Operation). IsScrubOf layout (with look o)) c.in-Some.is of in
+    let shown = c.shown.ensures ∙ ap (λ (o : Option Operation). phase_of look.look o) c.in-Some.is in
     let call = ap (λ (s : Stage). s.call) c.stage.ensures.stage ∙ ap (λ (o : phased.Operation). o.state.call) shown in
     let stamp = ap (λ (s : Stage). s.stamp) c.stage.ensures.stage ∙ ap (λ (o : phased.Operation). o.state.stamp) shown in
     let answer = c.answer.ensures
-    ∙ (λ i. scrub_answer scrub.lagging (abort_cause x.answer) (Some (stamp i))) in
-    let outs_is = c.end.ensures ∙ (λ i. end_outs (with scrub (Some after)) (call i) (parts.messages i) None (answer i)) in
-    subst (λ (o : Option Operation). StepsScrub layout (with scrub o) c.args.from c.args.message.now c.args.fresh known c.end.result
-    (with scrub (Some after)) later) (sym c.in-Some.is)
-    (subst (λ (o : Outcome). StepsScrub layout (with scrub (Some op)) c.args.from c.args.message.now c.args.fresh known o (with scrub (Some after)) later)
-    (sym outs_is) steps)
+    ∙ (λ i. scrub_answer look.lagging (abort_cause x.answer) (Some (stamp i))) in
+    steps_so layout look c.args.self.now.recovery op after c.args.from c.args.message.now c.args.fresh c.args.stamps.now.known c.on_reply.new.stamps.known _
+    c.end.result c.in-Some.is (c.end.ensures ∙ (λ i. end_outs (with look (Some after)) (call i) (ends.messages i) None (answer i)))
+    (recovery_ends layout look op after c.args.from c.args.message.now c.args.fresh c.args.stamps.now.known c.on_reply.new.stamps.known of_it c.in_ok-outs.outs
+    (c.in_ok-outs.ensures.step layout (of_it.goes_on.0 ∙ of_it.block)) x
+    (sym ends.answers ∙ ap (λ (o : Option Answered). option_to_list o) c.in-Some-answer.is))

@@ -18,12 +18,11 @@ use Rattle.node.proofs.scrubs.OpenScrub.on_tick.Goals.{After-teaching}
 
 pub returns-in-Some-clause-packets : goal.returns-in-Some-clause-packets
 returns-in-Some-clause-packets c =
-    let look = c.args.self.now.scrub.look in
     IfOk-weaker c.on_tick.result _ _
     (λ messages is layout me of.
-    let goes_on = subst (λ (o : Option Operation). GoesOnFrom look o) c.in-Some.is of.goes_on in
+    let goes_on = subst (λ (o : Option Operation). GoesOnFrom c.args.self.now.scrub.look o) c.in-Some.is of.goes_on in
     ap (packets_from me) is ∙ again_is layout c.in-Some.recovery me (goes_on.0 ∙ of.block)
-    ∙ ap (λ (o : Option Operation). resent (coding layout) me (Some (phase_of look o).state)) (sym c.in-Some.is))
+    ∙ ap (λ (o : Option Operation). resent (coding layout) me (Some (phase_of c.args.self.now.scrub.look o).state)) (sym c.in-Some.is))
     c.on_tick.ensures.messages
 
 -- the messages are those of the look
@@ -45,7 +44,6 @@ returns-clause-packets c =
 
 pub returns-clause-few : goal.returns-clause-few
 returns-clause-few c =
-    let look = c.args.self.now.scrub.look in
     let asked = ap (λ (group : Group). length group.members) (c.asked.ensures ∙ ap (λ (op : phased.Operation). asked_group op.state) c.look.ensures) in
-    let few = few_again look c.in-Send.messages.items (sent c) (omega (arith, asked, c.policy.ensures.n, c.n.ensures.limits.few_seats)) in
+    let few = few_again c.args.self.now.scrub.look c.in-Send.messages.items (sent c) (omega (arith, asked, c.policy.ensures.n, c.n.ensures.limits.few_seats)) in
     IfOk-weaker c.teaching.result _ _ (λ messages most. omega (arith, most, few)) c.teaching.ensures.few

@@ -43,14 +43,13 @@ returns-clause-same c =
     let layout = c.args.layout.now in
     let me = tasks.work.calls.me in
     let view = c.args.view in
-    let ask = c.args.ask.now in
     let after : OpenWork = record { calls = c.begin.new.self; proposals = tasks.work.proposals } in
     let before : Node = state_in no_parts tasks.work in
     let same = c.begin.ensures.same in
     let free : (seq : ℕ) → seq ≤ tasks.work.calls.seq → KeepsFree seq before (state_in no_parts after) =
     λ seq made. at_either c.begin.result (c.begin.ensures.begun (parts_with no_parts tasks.work.proposals)) c.begin.ensures.err
     (λ begun is. subst (λ (n : Node). KeepsFree seq before n) (sym is.state_is)
-    (began_free layout me before (coordinator_in (group_in_view layout view.members ask.group.0) view me c.args.now before ask) seq made refl))
+    (began_free layout me before (coordinator_in (group_in_view layout view.members c.args.ask.now.group.0) view me c.args.now before c.args.ask.now) seq made refl))
     (λ is. same_free seq before (state_in no_parts after) (is (parts_with no_parts tasks.work.proposals))) in
     record {
       me = same.me;

@@ -18,10 +18,9 @@ returns-in-Work-clause-step c = λ layout now from call reply before seq is kept
 
 pub returns-in-Work-clause-same : goal.returns-in-Work-clause-same
 returns-in-Work-clause-same c = λ layout now from call reply before seq is first.
-    let mid = c.args.self.now in
-    let turn_is = subst (λ (turn : TaskTurn). IsTaskTurn layout now from call reply before turn mid) c.in-Work.is is in
+    let turn_is = subst (λ (turn : TaskTurn). IsTaskTurn layout now from call reply before turn c.args.self.now) c.in-Work.is is in
     let steps = c.finish.ensures.step layout now from call reply before.work seq turn_is.0 no_parts in
-    turn_same layout before mid c.finish.new.self first turn_is.1 turn_is.2 (c.finish.ensures.same layout from call reply before.work turn_is.0)
+    turn_same layout before c.args.self.now c.finish.new.self first turn_is.1 turn_is.2 (c.finish.ensures.same layout from call reply before.work turn_is.0)
     (turn_free layout now from call reply before turn_is.3 turn_is.4 turn_is.5 c.finish.new.self c.finish.result steps)
     (turn_apart layout now from call reply before turn_is.3 turn_is.4 turn_is.5 c.finish.new.self c.finish.result steps)
 

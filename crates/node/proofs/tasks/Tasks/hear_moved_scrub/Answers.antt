@@ -23,11 +23,11 @@ use Rattle.node.specs.Scrubs.{HasCountedScrub, MovesScrub, Scrubbing, scrub_seq,
 use Rattle.node.specs.States.{KeptParts, StepsAs, state_in, state_with}
 use Rattle.node.specs.Tasks.{ApartFromJob, IsScrubAt, IsScrubIn, read_seq, step_on, tasks_in}
 use Rattle.node.proofs.Beside.{none_reads}
-use Rattle.node.proofs.ScrubCalls.{counts_scrub, eq_so, only_same, read_other, scrub_free, scrub_goes_on, scrub_moved_ends, scrub_moved_waits, scrub_waits_so, scrubs_call}
+use Rattle.node.proofs.ScrubCalls.{counts_scrub, eq_so, only_same, read_other, same_scrub, scrub_as_before, scrub_free, scrub_moved_ends, scrub_moved_waits, scrub_waits_so, scrubs_call}
 use Rattle.node.proofs.ScrubReplies.{call_heard}
 use Rattle.node.proofs.States.{on_err}
 use Rattle.node.proofs.tasks.Tasks.hear_moved_scrub.Goals as goal
-use Rattle.node.proofs.tasks.Tasks.hear_moved_scrub.Goals.{After-moved}
+use Rattle.node.proofs.tasks.Tasks.hear_moved_scrub.Goals.{After-moved, In_default-moved}
 
 -- the scrub is of the brick
 at_brick : (c : After-moved) → IsScrubAt c.args.layout.now c.args.self.now.work.calls c.args.self.now.job c.in-Some.open
@@ -66,6 +66,10 @@ none_so : (c : After-moved) (kept : KeptParts) → job_reading (others c kept).j
 none_so c kept =
     none_reads (reading_in c.args.self.now.job) (scrub_seq c.in-Some.open) (read_other c.args.self.now.job c.in-Some.open (at_brick c).aside)
 
+-- it waits, where it does not end
+waits_so : (c : In_default-moved) → MovesScrub c.in-Some.open c.args.packet.now.from c.args.view None
+waits_so c = subst (MovesScrub c.in-Some.open c.args.packet.now.from c.args.view) c.in_default-moved.is c.moved.ensures
+
 pub returns-in-Some-moved-clause-turn : goal.returns-in-Some-moved-clause-turn
 unfolding state_with
 returns-in-Some-moved-clause-turn c =
@@ -98,79 +102,43 @@ returns-in-Some-moved-clause-turn c =
 pub count-requires-clause-waits : goal.count-requires-clause-waits
 count-requires-clause-waits c =
     let d = (goal.at.count-requires-clause-waits c).After-moved in
-    let held = c.in-Some.open in
-    let from = c.args.packet.now.from in
-    let waits = subst (MovesScrub held from c.args.view) c.in_default-moved.is c.moved.ensures in
-    subst (λ (m : Message). decided_on None (scrub_shown held) from m ≡ machine.Waits (heard (scrub_shown held) from m).state)
+    let open_scrub = scrub_shown c.in-Some.open in
+    subst (λ (m : Message). decided_on None open_scrub c.args.packet.now.from m ≡ machine.Waits (heard open_scrub c.args.packet.now.from m).state)
     (sym (c.requires.reply ∙ ap (message.Reply c.args.call) c.requires.moved.1))
-    (scrub_waits_so c.args.layout.now held (at_brick d).scrub_is from c.args.call c.args.view c.requires.moved.0 (counted_so d) waits)
+    (scrub_waits_so c.args.layout.now c.in-Some.open (at_brick d).scrub_is c.args.packet.now.from c.args.call c.args.view c.requires.moved.0 (counted_so d) (waits_so (goal.at.count-requires-clause-waits c).In_default-moved))
 
 pub returns-clause-turn : goal.returns-clause-turn
 unfolding state_with
 returns-clause-turn c =
     let d = (goal.at.returns-clause-turn c).After-moved in
-    let layout = c.args.layout.now in
-    let before = c.args.self.now in
-    let me = before.work.calls.me in
-    let held = c.in-Some.open in
+    let was = c.args.self.now in
     let from = c.args.packet.now.from in
     let call = c.args.call in
     let now : OpenScrub = c.count.new.self in
-    let after : Tasks = record { work = before.work; job = before.job; scrub = Some now } in
-    let at = at_brick d in
-    let waits = subst (MovesScrub held from c.args.view) c.in_default-moved.is c.moved.ensures in
-    let has = subst (λ (m : Message). HasCountedScrub from m held now) c.requires.reply c.in_ok-count.ensures.counted in (
-      record { was = held; now = now; scrub_before = c.in-Some.is; scrub_after = refl; counted = has; work_is = refl; job_is = refl },
-      subst (λ (r : Reply). HasCountedScrub from (message.Reply call r) held now
-          → (kept : KeptParts) → step_on layout c.args.now from call r before kept ≡ no_step (tasks_in kept after)) (sym c.requires.moved.1)
+    let after : Tasks = record { work = was.work; job = was.job; scrub = Some now } in
+    let has = subst (λ (m : Message). HasCountedScrub from m c.in-Some.open now) c.requires.reply c.in_ok-count.ensures.counted in (
+      record { was = c.in-Some.open; now = now; scrub_before = c.in-Some.is; scrub_after = refl; counted = has; work_is = refl; job_is = refl },
+      subst (λ (r : Reply). HasCountedScrub from (message.Reply call r) c.in-Some.open now
+          → (kept : KeptParts) → step_on c.args.layout.now c.args.now from call r was kept ≡ no_step (tasks_in kept after)) (sym c.requires.moved.1)
           (λ seen kept. step_for d kept
-          ∙ scrub_moved_waits layout held at.scrub_is from call c.args.view c.requires.moved.0 (counted_so d) me c.args.now (others d kept) (same_call d)
-          (none_so d kept) waits now seen)
+          ∙ scrub_moved_waits c.args.layout.now c.in-Some.open (at_brick d).scrub_is from call c.args.view c.requires.moved.0 (counted_so d) was.work.calls.me
+          c.args.now (others d kept) (same_call d) (none_so d kept) (waits_so (goal.at.returns-clause-turn c).In_default-moved) now seen)
           has,
     )
 
 pub returns-clause-same : goal.returns-clause-same
 returns-clause-same c =
-    let layout = c.args.layout.now in
-    let tasks = c.args.self.now in
-    let held = c.in-Some.open in
     let has = c.in_ok-count.ensures.counted in
-    record {
-      me = refl;
-      boot = refl;
-      of = λ of.
-          let at = subst (IsScrubIn layout tasks.work.calls tasks.job) c.in-Some.is of.scrub_is in
-          record {
-            work_is = of.work_is;
-            job_is = of.job_is;
-            scrub_is = scrub_goes_on layout tasks.work.calls tasks.work.calls tasks.job held c.count.new.self refl refl
-                (ap (λ (k : machine.Coordinator). k.call.seq) has.now_is
-                ∙ ap (λ (k : Call). k.seq) (call_heard (scrub_shown held) c.args.packet.now.from c.args.packet.now.message)) (has.of layout at.scrub_is) at;
-          };
-    }
+    same_scrub c.args.layout.now c.args.self.now c.in-Some.open c.count.new.self c.in-Some.is
+    (ap (λ (k : machine.Coordinator). k.call.seq) has.now_is
+    ∙ ap (λ (k : Call). k.seq) (call_heard (scrub_shown c.in-Some.open) c.args.packet.now.from c.args.packet.now.message)) (has.of c.args.layout.now)
 
 pub returns-in_err-count-clause-err : goal.returns-in_err-count-clause-err
 returns-in_err-count-clause-err c =
-    let tasks = c.args.self.now in
-    let same = c.in_err-count.ensures.same c.args.layout.now in
     on_err c.from_residual.result
-    (λ kept. (λ i. with_scrubbing (Some (same.scrubbing_is i)) (with_reading (reading_in tasks.job) (state_in kept tasks.work)))
-    ∙ ap (λ (s : Option OpenScrub). with_scrubbing (scrubbing_in s) (with_reading (reading_in tasks.job) (state_in kept tasks.work))) (sym c.in-Some.is))
+    (scrub_as_before c.args.layout.now c.args.self.now c.in-Some.open c.count.new.self c.in-Some.is (c.in_err-count.ensures.same c.args.layout.now))
 
 pub returns-in_err-count-clause-same : goal.returns-in_err-count-clause-same
 returns-in_err-count-clause-same c =
-    let layout = c.args.layout.now in
-    let tasks = c.args.self.now in
-    let same = c.in_err-count.ensures.same layout in
-    record {
-      me = refl;
-      boot = refl;
-      of = λ of.
-          let at = subst (IsScrubIn layout tasks.work.calls tasks.job) c.in-Some.is of.scrub_is in
-          record {
-            work_is = of.work_is;
-            job_is = of.job_is;
-            scrub_is = scrub_goes_on layout tasks.work.calls tasks.work.calls tasks.job c.in-Some.open c.count.new.self refl refl
-                (ap (λ (s : Scrubbing). s.scrub.seq) same.scrubbing_is) (same.of at.scrub_is) at;
-          };
-    }
+    let is = c.in_err-count.ensures.same c.args.layout.now in
+    same_scrub c.args.layout.now c.args.self.now c.in-Some.open c.count.new.self c.in-Some.is (ap (λ (s : Scrubbing). s.scrub.seq) is.scrubbing_is) is.of

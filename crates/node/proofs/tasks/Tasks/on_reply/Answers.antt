@@ -50,13 +50,11 @@ unfolding state_with
 returns-clause-same c =
     let tasks = c.args.self.now in
     let layout = c.args.layout.now in
-    let from = c.args.packet.now.from in
     let call = c.args.call in
-    let told = c.args.reply.now in
     let me = tasks.work.calls.me in
     let after = c.on_reply.new.self in
     let before : Node = state_in no_parts tasks.work in
-    let node : Node = with_round before told in
+    let node : Node = with_round before c.args.reply.now in
     let same = c.on_reply.ensures.same in
     let aside = c.reads.ensures.aside c.if-reads.false in
     let apart = c.is_scrub.ensures.aside c.if-is_scrub.false in
@@ -64,7 +62,7 @@ returns-clause-same c =
     λ seq other. at_either c.on_reply.result (c.on_reply.ensures.step no_parts) c.on_reply.ensures.err
     (λ outs is.
     let kept = subst (λ (n : Node). KeepsFree seq node n) (sym is.state_is)
-    (replied_free layout me c.args.now from node call told (before.calls call.seq) seq refl refl other
+    (replied_free layout me c.args.now c.args.packet.now.from node call c.args.reply.now (before.calls call.seq) seq refl refl other
     (at_call layout tasks.work.calls call.seq c.requires.of.work_is.calls)) in
     record { later = kept.later; free = kept.free })
     (λ is. same_free seq before (state_in no_parts after) (is no_parts)) in

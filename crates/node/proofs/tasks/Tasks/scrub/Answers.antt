@@ -88,13 +88,12 @@ begun_at c =
 -- is what the brick holds
 look_is : (c : In_ok-open) → c.in_ok-open.open.scrub.look.state ≡ begun_at c
 look_is c =
-    let layout = c.args.layout.now in
     let given_is = (given c).1 in
     let call = ap (λ (at : CallSource). next_of at) (sym c.source-at.ensures) ∙ ap (λ (p : CallId × Stamp). p.0) given_is in
     let stamp = ap (λ (at : CallSource). new_stamp at.me c.args.view.number at.now at.stamps.boot at.stamps.known) (sym c.source-at.ensures)
     ∙ ap (λ (p : CallId × Stamp). p.1) given_is in
     ap (λ (op : phased.Operation). op.state) c.in_ok-open.ensures.begins.look
-    ∙ (λ i. (scrub_op layout c.args.view (sym call i) c.args.group c.args.stripe (sym stamp i) c.args.members).state)
+    ∙ (λ i. (scrub_op c.args.layout.now c.args.view (sym call i) c.args.group c.args.stripe (sym stamp i) c.args.members).state)
 
 held_is : (c : In_ok-open) → scrub_coordinator_of c.in_ok-open.open ≡ begun_at c
 held_is c =

@@ -80,4 +80,13 @@ returns-in-SetClock-clause-ok c =
     (Sets (brick_of c.in-SetClock.brick) c.in-SetClock.time) c.set_clock.result refl tt c.set_clock.ensures)
 
 pub unreachable-requires : goal.unreachable-requires
-unreachable-requires c = subst IsOther c.in-Calm.is c.requires.line
+unreachable-requires c = subst IsOther c.in-Suspect.is c.requires.line
+
+pub unreachable-requires-in-Trust : goal.unreachable-requires-in-Trust
+unreachable-requires-in-Trust c = subst IsOther c.in-Trust.is c.requires.line
+
+pub unreachable-requires-in-Spare : goal.unreachable-requires-in-Spare
+unreachable-requires-in-Spare c = subst IsOther c.in-Spare.is c.requires.line
+
+pub unreachable-requires-in-Calm : goal.unreachable-requires-in-Calm
+unreachable-requires-in-Calm c = subst IsOther c.in-Calm.is c.requires.line

@@ -28,13 +28,13 @@ invariant_of-self c =
 pub returns-in-Ok-clause-ok : goal.returns-in-Ok-clause-ok
 returns-in-Ok-clause-ok c =
     runs_to c.self.inside.layout c.self.inside.simulation c.run.new.self c.ended-self-inside.result c.args.line.now c.args.line.now _
-    c.self.invariant.ended c.ended-self-inside.ensures c.self.view_is c.in-Ok.outcome (asked_meant _ c.args.line.now c.requires) (λ events are. refl)
+    c.self.invariant.ended c.ended-self-inside.ensures c.self.view_is c.in-Ok.outcome (asked_meant c.args.self.now c.args.line.now c.requires) (λ events are. refl)
     c.in-Ok.ensures.ok
 
 pub returns-in-Ok-clause-disks : goal.returns-in-Ok-clause-disks
 returns-in-Ok-clause-disks c =
     (runs_to c.self.inside.layout c.self.inside.simulation c.run.new.self c.ended-self-inside.result c.args.line.now c.args.line.now _
-    c.self.invariant.ended c.ended-self-inside.ensures c.self.view_is c.in-Ok.outcome (asked_meant _ c.args.line.now c.requires) (λ events are. refl)
+    c.self.invariant.ended c.ended-self-inside.ensures c.self.view_is c.in-Ok.outcome (asked_meant c.args.self.now c.args.line.now c.requires) (λ events are. refl)
     c.in-Ok.ensures.ok).runs.shows
 
 pub returns-in-Ok-clause-grow : goal.returns-in-Ok-clause-grow

@@ -5,6 +5,7 @@ use Rattle.lines.specs.declared.forms.Line.TheVariants.{Propose}
 use Rattle.stripe_code.specs.Codes.{coding}
 use Rattle.protocol.specs.Worlds.{World}
 use Rattle.world.specs.Runs.{Course, world_of}
+use Rattle.world.specs.Disks.{ShowsDisks}
 use Rattle.world.specs.Shown.{Shows, disks_of}
 use Rattle.world.specs.Standing.{run_of}
 use Rattle.world.specs.Suspected.{suspected_after, spare_list}
@@ -15,8 +16,8 @@ use Rattle.world.proofs.Suspecting.{no_list, stands_for}
 use Rattle.world.proofs.worlds.World.spare.Goals as goal
 
 -- no seat changes
-pub invariant_of-self-in_default : goal.invariant_of-self-in_default
-invariant_of-self-in_default c =
+pub invariant_of-self : goal.invariant_of-self
+invariant_of-self c =
     record {
       shows = shows_passed c.self.inside.layout c.self.inside.simulation c.ended-self-inside.result c.args.line.now _ c.self.invariant.ended
           c.ended-self-inside.ensures c.self.view_is c.self.invariant.shows;
@@ -95,11 +96,17 @@ invariant_of-self-in-Err c =
       ended = ap (λ (trail : Trail). trail.course.events) c.in-Err.ensures.err.trail ∙ c.self.invariant.ended;
     }
 
-pub returns-in-Err-clause-err : goal.returns-in-Err-clause-err
-returns-in-Err-clause-err c =
+pub returns-clause-err : goal.returns-clause-err
+returns-clause-err c =
     leaves_none c.self.inside.layout c.self.inside.simulation c.run.new.self c.self.invariant.ended c.in-Err.ensures.err c.args.line.now _ c.self.view_is
 
-pub returns-in-Err-clause-disks : goal.returns-in-Err-clause-disks
-returns-in-Err-clause-disks c =
+pub returns-clause-disks : goal.returns-clause-disks
+returns-clause-disks c =
     disks_shown c.self.inside.layout c.run.new.self c.run.new.self.trail.course.steps
     (shows_kept c.self.inside.layout c.self.inside.simulation c.run.new.self c.self.invariant.ended c.in-Err.ensures.err)
+
+-- no memory was left for the list
+pub returns-in_err-members-clause-disks : goal.returns-in_err-members-clause-disks
+returns-in_err-members-clause-disks c =
+    subst ShowsDisks c.self.view_is
+    (disks_shown c.self.inside.layout c.self.inside.simulation c.self.inside.simulation.trail.course.steps c.self.invariant.shows)
