@@ -40,19 +40,21 @@ none_so layout old n numbers may = (
 
 module _ (layout : Layout) (old state : Simulation) (n : ℕ) (numbers : List ℕ) (from : ℕ) (some : Bool) (may : MayRun layout old n numbers)
     (ran : RanSoFar layout old state n numbers from some) where
+  -- their events, and what is so of them
   abbrev events : List Event
   events = ran.0
 
   abbrev so : SoFar layout (world_in layout old) n numbers (disks_of old.bricks.items) state from some events
   so = ran.1
 
-  -- the state stands
+  -- the world behind them is the one that the state has come to, and the state stands
   here : so.last ≡ world_in layout state
   here = come_so layout old state n numbers (disks_of old.bricks.items) from some events so ran.2
 
   pub stands_so : Stands layout state
   stands_so = subst (λ (v : World). Shows layout state v) here so.shows
 
+  -- what is found of the operation is so of that world
   opens : (found : Option OperationRecord) → found ≡ open_record state n → OpensAs state so.last n found
   opens found is = opens_as layout so.last state n found is so.reached so.shows
 
@@ -106,15 +108,18 @@ module _ (layout : Layout) (old state : Simulation) (n : ℕ) (numbers : List �
 -- The operation whose marks have a number runs alone. Chaining what was sent leaves what the history tells.
 module _ (layout : Layout) (old : Simulation) (history : History) (same : IsSameHistory old.history history) (stands : Stands layout old) (mark : ℕ)
     (numbers : List ℕ) (n : ℕ) (number : n ≡ number_at history.marked.items mark) where
+  -- the state with the messages chained: it stands as before
   abbrev chained : Simulation
   chained = record old { history = history }
 
   pub chained_stands : Stands layout chained
   chained_stands = shows_alike layout old chained (world_in layout old) refl same stands
 
+  -- the number that was found is the machine's
   its_number : n ≡ operation_marked (world_in layout old) mark
   its_number = number ∙ chained_stands.history.marked.each mark
 
+  -- so the operation may run alone that has the marks
   calm_marked : IsCalm (coding layout) (world_in layout old) n (map brick_of numbers)
       → IsCalm (coding layout) (world_in layout old) (operation_marked (world_in layout old) mark) (map brick_of numbers)
   calm_marked calm = subst (λ (k : ℕ). IsCalm (coding layout) (world_in layout old) k (map brick_of numbers)) its_number calm

@@ -53,6 +53,7 @@ still old new same d reached calls are = record {
 
 -- Room was made for what a step of a brick adds.
 module _ (layout : Layout) (old : Simulation) (room : History) (same : IsSameHistory old.history room) (stands : Stands layout old) where
+  -- the state with the room, and the world that it has come to
   abbrev roomy : Simulation
   roomy = record old { history = room }
 
@@ -67,6 +68,7 @@ module _ (layout : Layout) (old : Simulation) (room : History) (same : IsSameHis
 
   -- what was found of the messages behind a slice is what the machine finds
   module _ (message : ℕ) (fault : Option Fault) (sent : List Packet) (sent_is : sent ≡ room.sent.packets.items) where
+    -- the state with the room shows the world, and what was found of the messages is the machine's
     shows : Shows layout roomy w
     shows = shows_alike layout old roomy w refl same stands
 
@@ -91,6 +93,7 @@ module _ (layout : Layout) (old : Simulation) (room : History) (same : IsSameHis
 
       -- it is, and room was made
       module _ (to : BrickId) (finds : FindsUp bricks b (Some to)) where
+        -- it is the one that the message is for
         to_is : to ≡ packet.to
         to_is = finds.0 ∙ ap brick_of b_is
 
@@ -105,6 +108,7 @@ module _ (layout : Layout) (old : Simulation) (room : History) (same : IsSameHis
 
         module _ (delivered : Deliveries) (expects : (k : ℕ) → get_or delivered.reached.items k false ≡ get_or room.delivered.reached.items k false)
             (calls : CallNumbers) (reserves : (i : ℕ) → calls_in calls i ≡ calls_in room.calls i) where
+          -- the history with all the room tells the world
           abbrev ready : History
           ready = record room { delivered = delivered; calls = calls }
 
@@ -127,9 +131,11 @@ module _ (layout : Layout) (old : Simulation) (room : History) (same : IsSameHis
           module _ (noted : History) (rest : noted ≡ record ready { delivered = noted.delivered })
               (notes : (k : ℕ) → get_or noted.delivered.reached.items k false
               ≡ (if nat_eq (k + 1) message then true else get_or ready.delivered.reached.items k false)) (new : Simulation) (trail : new.trail ≡ old.trail) where
+            -- the history with the delivery tells the world with it
             told_noted : Tells noted (record w { reached = put w.reached message true })
             told_noted = tells_delivered (seqs_of w) ready noted w message rest notes told
 
+            -- what the brick did is so of the one that the message is for
             handled : (o found : Option Sent) → o ≡ found → ChangesBrick old.bricks.items new.bricks.items to (DoesHandle packet fault (Ok o))
                 → ChangesBrick old.bricks.items new.bricks.items packet.to (DoesHandle packet fault (Ok found))
             handled o found at changes =
