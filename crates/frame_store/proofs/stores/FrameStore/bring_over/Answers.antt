@@ -118,80 +118,38 @@ overflow_add-at g c =
     let bytes : c.len-bytes.result ≡ length c.deref-2.result.now = omega arith in
     omega (arith, bytes, ap length line_is, length-closed_list fs, at_is, within.list_below, end_small x.shape c.self.invariant.0.limits)
 
-pub bring_gated-requires-clause-reach : goal.bring_gated-requires-clause-reach
-bring_gated-requires-clause-reach g c = omega (arith, c.end-end.ensures, end_small c.self.inside.shape c.self.invariant.0.limits)
-
-pub bring_gated-requires-clause-shut : goal.bring_gated-requires-clause-shut
-bring_gated-requires-clause-shut g c =
+-- the eight calls have their room, and blocks, list and header lie below the store's end
+pub bring_gated-requires : goal.bring_gated-requires
+bring_gated-requires g c =
     let x = c.self.inside in
     let fs = c.args.frames.items in
+    let n = length c.args.blocks.now in
     let to : c.formed-shape.result ≡ formed Moved x.shape = c.formed-shape.ensures in
     let line_is = c.deref-2.ensures.value ∙ c.in_ok-stage_list.ensures.line ∙ ap closed_list c.deref.ensures.value in
     let at_is : c.half_at-at.result ≡ half_at (formed Moved x.shape) (other x.half) =
     c.half_at-at.ensures ∙ ap (half_at c.formed-shape.result) c.other-other.ensures ∙ ap (λ (s : Shape). half_at s (other x.half)) to in
     let start_is : c.slot_at-start.result ≡ slot_at (formed Moved x.shape) 0 = c.slot_at-start.ensures ∙ ap (λ (s : Shape). slot_at s 0) to in
-    let within = brought_within _ c.args.self.now x.half fs c.args.blocks.now c.self.view_is c.requires.old c.requires.fits c.requires.blocks in
-    omega (arith, c.end-end.ensures, ap length c.closing-shut.ensures, closing_short x.other_shut, c.header_at-gate.ensures ∙ ap header_at c.other-other.ensures, header_within (other x.half), within.headers_below)
-
-pub bring_gated-requires-clause-blocks : goal.bring_gated-requires-clause-blocks
-bring_gated-requires-clause-blocks g c =
-    let x = c.self.inside in
-    let fs = c.args.frames.items in
-    let to : c.formed-shape.result ≡ formed Moved x.shape = c.formed-shape.ensures in
-    let line_is = c.deref-2.ensures.value ∙ c.in_ok-stage_list.ensures.line ∙ ap closed_list c.deref.ensures.value in
-    let at_is : c.half_at-at.result ≡ half_at (formed Moved x.shape) (other x.half) =
-    c.half_at-at.ensures ∙ ap (half_at c.formed-shape.result) c.other-other.ensures ∙ ap (λ (s : Shape). half_at s (other x.half)) to in
-    let start_is : c.slot_at-start.result ≡ slot_at (formed Moved x.shape) 0 = c.slot_at-start.ensures ∙ ap (λ (s : Shape). slot_at s 0) to in
-    let within = brought_within _ c.args.self.now x.half fs c.args.blocks.now c.self.view_is c.requires.old c.requires.fits c.requires.blocks in
-    omega (arith, c.end-end.ensures, start_is, within.blocks_below)
-
-pub bring_gated-requires-clause-list : goal.bring_gated-requires-clause-list
-bring_gated-requires-clause-list g c =
-    let x = c.self.inside in
-    let fs = c.args.frames.items in
-    let to : c.formed-shape.result ≡ formed Moved x.shape = c.formed-shape.ensures in
-    let line_is = c.deref-2.ensures.value ∙ c.in_ok-stage_list.ensures.line ∙ ap closed_list c.deref.ensures.value in
-    let at_is : c.half_at-at.result ≡ half_at (formed Moved x.shape) (other x.half) =
-    c.half_at-at.ensures ∙ ap (half_at c.formed-shape.result) c.other-other.ensures ∙ ap (λ (s : Shape). half_at s (other x.half)) to in
-    let start_is : c.slot_at-start.result ≡ slot_at (formed Moved x.shape) 0 = c.slot_at-start.ensures ∙ ap (λ (s : Shape). slot_at s 0) to in
-    let within = brought_within _ c.args.self.now x.half fs c.args.blocks.now c.self.view_is c.requires.old c.requires.fits c.requires.blocks in
-    omega (arith, c.end-end.ensures, at_is, ap length line_is, length-closed_list fs, within.list_below)
-
-pub bring_gated-requires-clause-rest : goal.bring_gated-requires-clause-rest
-bring_gated-requires-clause-rest g c =
-    let x = c.self.inside in
-    let fs = c.args.frames.items in
-    let to : c.formed-shape.result ≡ formed Moved x.shape = c.formed-shape.ensures in
-    let line_is = c.deref-2.ensures.value ∙ c.in_ok-stage_list.ensures.line ∙ ap closed_list c.deref.ensures.value in
-    let at_is : c.half_at-at.result ≡ half_at (formed Moved x.shape) (other x.half) =
-    c.half_at-at.ensures ∙ ap (half_at c.formed-shape.result) c.other-other.ensures ∙ ap (λ (s : Shape). half_at s (other x.half)) to in
-    let start_is : c.slot_at-start.result ≡ slot_at (formed Moved x.shape) 0 = c.slot_at-start.ensures ∙ ap (λ (s : Shape). slot_at s 0) to in
-    let within = brought_within _ c.args.self.now x.half fs c.args.blocks.now c.self.view_is c.requires.old c.requires.fits c.requires.blocks in
-    omega (arith, c.end-end.ensures, c.header_at-gate.ensures ∙ ap header_at c.other-other.ensures, header_within (other x.half), within.headers_below)
-
-pub bring_gated-requires-clause-room : goal.bring_gated-requires-clause-room
-bring_gated-requires-clause-room g c =
-    let x = c.self.inside in
-    let fs = c.args.frames.items in
-    let to : c.formed-shape.result ≡ formed Moved x.shape = c.formed-shape.ensures in
-    let line_is = c.deref-2.ensures.value ∙ c.in_ok-stage_list.ensures.line ∙ ap closed_list c.deref.ensures.value in
-    let at_is : c.half_at-at.result ≡ half_at (formed Moved x.shape) (other x.half) =
-    c.half_at-at.ensures ∙ ap (half_at c.formed-shape.result) c.other-other.ensures ∙ ap (λ (s : Shape). half_at s (other x.half)) to in
-    let start_is : c.slot_at-start.result ≡ slot_at (formed Moved x.shape) 0 = c.slot_at-start.ensures ∙ ap (λ (s : Shape). slot_at s 0) to in
+    let gate_is = c.header_at-gate.ensures ∙ ap header_at c.other-other.ensures in
     let within = brought_within _ c.args.self.now x.half fs c.args.blocks.now c.self.view_is c.requires.old c.requires.fits c.requires.blocks in
     let listed : size_of c.deref.result.now ≡ size_of fs = ap size_of c.deref.ensures.value in
-    let n = length c.args.blocks.now in
-    g.met.D.Disk.room_for_less c.stage_list.new.disk 8 (n + (size_of c.deref.result.now + 34)) c.end-end.result
-    8 (length c.closing-shut.result.now + (n + (length c.deref-2.result.now + length c.header_rest-rest.result) + 1)) c.end-end.result (omega arith)
-    (omega (
-      arith,
-      ap length c.closing-shut.ensures,
-      closing_short x.other_shut,
-      ap length c.header_rest-rest.ensures,
-      ap length line_is,
-      length-closed_list fs,
-      listed,
-    )) (omega arith) c.in_ok-stage_list.ensures.made
+    record {
+      reach = omega (arith, c.end-end.ensures, end_small x.shape c.self.invariant.0.limits);
+      shut = omega (arith, c.end-end.ensures, ap length c.closing-shut.ensures, closing_short x.other_shut, gate_is, header_within (other x.half), within.headers_below);
+      blocks = omega (arith, c.end-end.ensures, start_is, within.blocks_below);
+      list = omega (arith, c.end-end.ensures, at_is, ap length line_is, length-closed_list fs, within.list_below);
+      rest = omega (arith, c.end-end.ensures, gate_is, header_within (other x.half), within.headers_below);
+      room = g.met.D.Disk.room_for_less c.stage_list.new.disk 8 (n + (size_of c.deref.result.now + 34)) c.end-end.result
+          8 (length c.closing-shut.result.now + (n + (length c.deref-2.result.now + length c.header_rest-rest.result) + 1)) c.end-end.result (omega arith)
+          (omega (
+            arith,
+            ap length c.closing-shut.ensures,
+            closing_short x.other_shut,
+            ap length c.header_rest-rest.ensures,
+            ap length line_is,
+            length-closed_list fs,
+            listed,
+          )) (omega arith) c.in_ok-stage_list.ensures.made;
+    }
 
 -- what room there was beyond the call is left
 pub returns-in-Ok-clause-left : goal.returns-in-Ok-clause-left
