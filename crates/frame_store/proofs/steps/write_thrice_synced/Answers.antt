@@ -1,4 +1,4 @@
-use Rattle.std.proofs.Common.{◌≡◌, ◌+◌, length, ℕ, List, arith, refl, sym, ap, ◌∙◌, Err, rules}
+use Rattle.std.proofs.Common.{◌≡◌, length, ℕ, List, arith, refl, sym, ap, ◌∙◌, Err, rules}
 use Rattle.fab_base.proofs.Keeping.{Kept-trans}
 use Rattle.fab_disk.specs.Disk.{written}
 use Rattle.fab_disk.proofs.Plans.{run_both}
