@@ -1,7 +1,7 @@
 -- A frame behind a list.
-use Rattle.std.proofs.Common.{◌≡◌, ◌⊎◌, inl, inr, ℕ, ◌+◌, ◌-◌, ◌<◌, ◌≤◌, Bool, true, false, List, [], ◌∷◌, ◌++◌, length, get_or, refl, sym, ◌∙◌, ap, subst, arith, length-append}
+use Rattle.std.proofs.Common.{◌≡◌, ◌⊎◌, inl, inr, ℕ, ◌+◌, ◌-◌, ◌≤◌, Bool, true, false, List, [], ◌∷◌, ◌++◌, length, get_or, refl, sym, ◌∙◌, ap, subst, arith, length-append}
 use Rattle.std.proofs.lemmas.Bool.{cases_eq}
-use Rattle.std.proofs.lemmas.List.{places, append-nil, take_at}
+use Rattle.std.proofs.lemmas.List.{append-nil, take_at}
 use Rattle.std.proofs.Math.Seq.{get_or-append_right}
 use Rattle.fab_disk.specs.Disk.{Torn, written}
 use Rattle.fab_disk.proofs.Writes.{written_torn}

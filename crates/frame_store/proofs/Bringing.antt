@@ -1,5 +1,5 @@
 -- An old store that is brought over: its blocks in the slots behind its halves, and its list in the other half of the index.
-use Rattle.std.proofs.Common.{◌≡◌, ◌⊎◌, inl, inr, ℕ, ◌+◌, ◌*◌, ◌^◌, ◌<◌, ◌≤◌, Bool, true, false, List, [], ◌∷◌, length, get_or, sym, ◌∙◌, ap, subst, arith}
+use Rattle.std.proofs.Common.{◌≡◌, ◌⊎◌, inl, inr, ℕ, ◌+◌, ◌*◌, ◌^◌, ◌<◌, ◌≤◌, Bool, true, false, List, [], ◌∷◌, length, get_or, ◌∙◌, ap, arith}
 use Rattle.std.proofs.lemmas.Bool.{cases_eq}
 use Rattle.fab_disk.specs.Disk.{Torn, written}
 use Rattle.fab_disk.proofs.Writes.{written_torn}
@@ -12,7 +12,7 @@ use Rattle.frame_store.specs.Layouts.{IsShape, formed, is_old, header_at, slot_a
 use Rattle.frame_store.specs.Listed.{size_of, closed_list, AreShort}
 use Rattle.frame_store.specs.Laid.{other, Laid}
 use Rattle.frame_store.specs.Images.{part, IsShut, EndsClosed, OpensAs, IsBroughtOver}
-use Rattle.frame_store.specs.Steps.{IsStagedThrice, IsThriceGated, IsShutBefore, IsBrought, thrice_written, closing, next_of}
+use Rattle.frame_store.specs.Steps.{IsStagedThrice, IsShutBefore, IsBrought, thrice_written, closing, next_of}
 use Rattle.frame_store.proofs.Parts.{below, above, part_kept, part_stays, part_written, written_get, length-written}
 use Rattle.frame_store.proofs.Listing.{are_short}
 use Rattle.frame_store.proofs.Headers.{header_within}
@@ -20,7 +20,7 @@ use Rattle.frame_store.proofs.Slots.{half_behind, slot_behind, old_before}
 use Rattle.frame_store.proofs.Indexes.{Index, half_small, index_opens, index_kept}
 use Rattle.frame_store.proofs.Appending.{Rooted, laid_of}
 use Rattle.frame_store.proofs.Changes.{laid_opens}
-use Rattle.frame_store.proofs.Shutting.{length-closed_list, apart_headers, closing_short, shut_kept, index_closing, is_shut, torn_shut, own_shut, index_header, index_unopened, taken_over, taken_ends}
+use Rattle.frame_store.proofs.Shutting.{length-closed_list, apart_headers, shut_kept, index_closing, is_shut, torn_shut, own_shut, index_header, index_unopened, taken_over, taken_ends}
 
 module _ (shape : Shape) (half : Half) (number : ℕ) (other_shut : Bool) (frames new : List Frame) (blocks content : List ℕ) (limits : IsShape shape)
     (old : is_old shape ≡ true) (small : number < 2 ^ 64) (fits : size_of new + 1 ≤ index_half_size shape)

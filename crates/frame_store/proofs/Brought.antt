@@ -75,14 +75,21 @@ brought_few held s frames blocks view limits are =
     mul-le-mul_left {m = held.shape.block} {n = 4096} held.shape.records limits.few_bytes in
     omega (arith, here, wide, limits.few_slots)
 
+module _ {D : Type 0} (d : on_disk.Ghosts D) where
+  -- the run of calls that brings it over, by where they write and what
+  abbrev pub BringRun : ℕ → List ℕ → ℕ → List ℕ → ℕ → List ℕ → List ℕ → D → D → End → Type 0
+  BringRun gate shut start blocks at list behind mid new end =
+      Run d 8 (IsShutBefore gate shut start blocks at list behind (d.seen mid)) (IsBrought gate shut start blocks at list behind (d.seen mid))
+      (λ image. image ≡ written gate (open_gate ∷ []) (thrice_written start blocks at list (gate + 1) behind (written gate shut (d.seen mid)))) mid new end
+
+  -- the store is brought over so, and where that was made whole, what it keeps of it is true
+  pub record Comes (half : Half) (number used size : ℕ) (after : List Frame) (blocks : List ℕ) (shape : Shape) (s : Held D) (new : D) (end : End) : Type 0 where
+    pub change : BringsOver d s after blocks new end
+    pub counted : IsCounted (formed Moved shape) after used
+    pub laid : end ≡ Whole → d.tells → Laid (formed Moved shape) half number false after true (d.seen new) × (length (d.seen new) ≡ size)
+
 module _ {D : Type 0} (d : on_disk.Ghosts D) (only_now : (disk : D) (image : List ℕ) → d.left_since disk (d.moment disk) image → d.may_leave disk image)
     (counts : (disk : D) (t : ℕ) (image : List ℕ) → t ≤ d.moment disk → d.may_leave disk image → d.left_since disk t image) where
-  -- the store is brought over so, and where that was made whole, what it keeps of it is true
-  pub record Comes (half : Half) (number used size : ℕ) (after : List Frame) (blocks : List ℕ) (held s : Held D) (new : D) (end : End) : Type 0 where
-    pub change : BringsOver d s after blocks new end
-    pub counted : IsCounted (formed Moved held.shape) after used
-    pub laid : end ≡ Whole → d.tells → Laid (formed Moved held.shape) half number false after true (d.seen new) × (length (d.seen new) ≡ size)
-
   -- Nothing was done yet but to make room, and the store is what a clause sees.
   module _ (half : Half) (number : ℕ) (other_shut : Bool) (used : ℕ) (held s : Held D) (mid new : D) (end : End) (view : held ≡ s)
       (counted : IsCounted held.shape held.frames used)
@@ -111,11 +118,8 @@ module _ {D : Type 0} (d : on_disk.Ghosts D) (only_now : (disk : D) (image : Lis
     root : d.tells → Rooted held.shape half number other_shut held.frames content
     root told = rooted d held half number other_shut used mid new ready told
 
-    -- the runs of calls, by where they write and what
     abbrev Brings : ℕ → List ℕ → ℕ → ℕ → List ℕ → List ℕ → Type 0
-    Brings gate shut start at list behind =
-        Run d 8 (IsShutBefore gate shut start blocks at list behind (d.seen mid)) (IsBrought gate shut start blocks at list behind (d.seen mid))
-        (λ image. image ≡ written gate (open_gate ∷ []) (thrice_written start blocks at list (gate + 1) behind (written gate shut (d.seen mid)))) mid new end
+    Brings gate shut start at list behind = BringRun d gate shut start blocks at list behind mid new end
 
     abbrev after : List ℕ → List ℕ
     after c = written (header_at (other half)) (open_gate ∷ [])
@@ -166,8 +170,8 @@ module _ {D : Type 0} (d : on_disk.Ghosts D) (only_now : (disk : D) (image : Lis
             half_behind to (other half),
           )
 
-      came_so : Comes (other half) (next_of number) (length (closed_list fs) - 1) (max held.size (half_at to (other half) + length (closed_list fs))) fs blocks
-          held s new end
+      came_so : Comes d (other half) (next_of number) (length (closed_list fs) - 1) (max held.size (half_at to (other half) + length (closed_list fs))) fs blocks
+          held.shape s new end
       came_so = record {
         change = subst (λ (h : Held D). BringsOver d h fs blocks new end) view change_held;
         counted = record {
@@ -189,10 +193,10 @@ module _ {D : Type 0} (d : on_disk.Ghosts D) (only_now : (disk : D) (image : Lis
 
     pub came : (gate start at : ℕ) (shut behind line : List ℕ) → gate ≡ header_at (other half) → start ≡ slot_at to 0 → at ≡ half_at to (other half)
         → shut ≡ closing other_shut → behind ≡ header_rest to (next_of number) → line ≡ closed_list fs → Brings gate shut start at line behind
-        → Comes (other half) (next_of number) (length line - 1) (max held.size (at + length line)) fs blocks held s new end
+        → Comes d (other half) (next_of number) (length line - 1) (max held.size (at + length line)) fs blocks held.shape s new end
     came gate start at shut behind line gate_is start_is at_is shut_is behind_is line_is run =
-        subst (λ (a : ℕ). Comes (other half) (next_of number) (length line - 1) (max held.size (a + length line)) fs blocks held s new end) (sym at_is)
-        (subst (λ (l : List ℕ). Comes (other half) (next_of number) (length l - 1) (max held.size (half_at to (other half) + length l)) fs blocks held s new end)
+        subst (λ (a : ℕ). Comes d (other half) (next_of number) (length line - 1) (max held.size (a + length line)) fs blocks held.shape s new end) (sym at_is)
+        (subst (λ (l : List ℕ). Comes d (other half) (next_of number) (length l - 1) (max held.size (half_at to (other half) + length l)) fs blocks held.shape s new end)
         (sym line_is)
         (came_so (subst (λ (l : List ℕ). Brings (header_at (other half)) (closing other_shut) (slot_at to 0) (half_at to (other half)) l (header_rest to (next_of number))) line_is
         (subst (λ (r : List ℕ). Brings (header_at (other half)) (closing other_shut) (slot_at to 0) (half_at to (other half)) line r) behind_is

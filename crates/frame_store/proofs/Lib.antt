@@ -1,6 +1,7 @@
 pub mod Standing
 pub mod Parts
 pub mod Listing
+pub mod Rooms
 pub mod Runs
 pub mod Stopping
 pub mod Ends

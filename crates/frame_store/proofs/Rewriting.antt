@@ -1,20 +1,18 @@
 -- A list in the other half, in the place of the one that is there.
-use Rattle.std.proofs.Common.{◌≡◌, ◌⊎◌, inl, inr, ℕ, ◌+◌, ◌-◌, ◌^◌, ◌<◌, ◌≤◌, Bool, true, false, List, [], ◌∷◌, length, get_or, None, refl, sym, ◌∙◌, ap, subst, arith, length-append}
+use Rattle.std.proofs.Common.{◌≡◌, ◌⊎◌, inl, inr, ℕ, ◌+◌, ◌^◌, ◌<◌, ◌≤◌, Bool, true, false, List, [], ◌∷◌, length, get_or, None, sym, ◌∙◌, ap, subst, arith}
 use Rattle.std.proofs.lemmas.Bool.{cases_eq}
-use Rattle.std.proofs.lemmas.List.{take_at}
-use Rattle.std.proofs.Math.Seq.{get_or-append_right}
 use Rattle.fab_disk.specs.Disk.{Torn, written}
 use Rattle.fab_disk.proofs.Writes.{written_torn}
 use Rattle.frame_store.specs.declared.frames.Frame.{Frame}
 use Rattle.frame_store.specs.declared.shapes.Shape.{Shape}
 use Rattle.frame_store.specs.declared.shapes.Half.{Half}
 use Rattle.frame_store.specs.declared.shapes.Half.TheVariants.{A, B}
-use Rattle.frame_store.specs.Layouts.{IsShape, formed, is_old, header_at, half_at, half_size, index_half_size, header_rest}
+use Rattle.frame_store.specs.Layouts.{IsShape, is_old, header_at, half_at, half_size, index_half_size, header_rest}
 use Rattle.frame_store.specs.Listed.{size_of, closed_list, AreShort}
 use Rattle.frame_store.specs.Laid.{other, Laid}
-use Rattle.frame_store.specs.Images.{part, IsOpen, InForce, IsLater, IsShut, EndsClosed, Lists, ListsWith, KeepsSlots, generation_at}
+use Rattle.frame_store.specs.Images.{part, IsShut, EndsClosed, Lists, ListsWith, KeepsSlots}
 use Rattle.frame_store.specs.Steps.{IsStaged, IsShutFirst, IsBothGated, both_written, closing, next_of}
-use Rattle.frame_store.proofs.Parts.{IsClear, below, above, unwritten, part_get, part_kept, same_part, byte_kept, part_of_part, part_written, written_get, length-written}
+use Rattle.frame_store.proofs.Parts.{IsClear, below, above, part_kept, part_written, written_get, length-written}
 use Rattle.frame_store.proofs.Listing.{are_short}
 use Rattle.frame_store.proofs.Headers.{header_within}
 use Rattle.frame_store.proofs.Shutting.{length-closed_list, apart_headers, closing_short, shut_kept, index_closing, is_shut, torn_shut, own_shut, index_header, index_unopened, taken_over, taken_ends}

@@ -16,6 +16,9 @@ made_or_cut (Err f) only not_whole not_cut = not_cut (ap Err only)
 pub torn_same : (at n : ℕ) (content : List ℕ) → Torn at n content content
 torn_same at n content = record { kept = λ i lt out. refl; no_shorter = omega arith; no_longer = omega arith }
 
+pub torn_is : (at n : ℕ) (content image : List ℕ) → image ≡ content → Torn at n content image
+torn_is at n content image is = subst (Torn at n content) (sym is) (torn_same at n content)
+
 -- a write after which a crash leaves the one content torn
 pub torn_from : (at n : ℕ) (content : List ℕ) (old new : List ℕ → Type 0) → Only content old → Follows (Torn at n) old new → (image : List ℕ)
     → new image → Torn at n content image

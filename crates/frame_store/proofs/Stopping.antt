@@ -56,6 +56,25 @@ module _ {D : Type 0} (seen certain : D → List ℕ) (moment : D → ℕ) where
       late = λ is. made.1;
     }
 
+    -- a write that is neither the first nor the last, where what stood before it is known
+    pub stops_between : (calls made : ℕ) (old mid new : D) (here : List ℕ) (step : List ℕ → List ℕ) (Before After : List ℕ → Type 0) → made + 3 ≤ calls
+        → Only (seen old) (may_leave old) → Before (seen old) → Before here → Before (step here) → seen mid ≡ here → certain mid ≡ certain old
+        → moment mid ≡ moment old + made → certain new ≡ certain mid
+        → IsWrittenOrNot (moment mid) (moment new) (seen mid) (seen new) (step (seen mid)) → Stops calls old new Before After
+    stops_between calls made old mid new here step Before After long only first now there is kept counted same written_or =
+        stops_middle calls made old mid new (step (seen mid)) Before After long only first (subst Before (sym is) now)
+        (subst (λ (x : List ℕ). Before (step x)) (sym is) there) kept counted same written_or
+
+    -- the last write before the sync, where what stood before it is known
+    pub stops_last : (calls : ℕ) (old mid new : D) (here : List ℕ) (step : List ℕ → List ℕ) (Before : List ℕ → Type 0)
+        → Only (seen old) (may_leave old) → Before (seen old) → Before here → seen mid ≡ here → certain mid ≡ certain old
+        → moment mid + 2 ≡ moment old + calls → certain new ≡ certain mid
+        → IsWrittenOrNot (moment mid) (moment new) (seen mid) (seen new) (step (seen mid))
+        → Stops calls old new Before (λ image. image ≡ step here)
+    stops_last calls old mid new here step Before only first now is kept counted same written_or =
+        subst (λ (x : List ℕ). Stops calls old new Before (λ (image : List ℕ). image ≡ step x)) is
+        (stops_write calls old mid new (step (seen mid)) Before only first (subst Before (sym is) now) kept counted same written_or)
+
     -- the sync behind the writes of a run, which make a change
     pub stops_sync : (calls : ℕ) (old mid new : D) (changed : List ℕ) (Before : List ℕ → Type 0) → Only (seen old) (may_leave old) → Before (seen old)
         → certain mid ≡ certain old → seen mid ≡ changed → moment mid + 1 ≡ moment old + calls

@@ -1,5 +1,6 @@
 use Rattle.std.proofs.Common.{◌≡◌, ◌+◌, ◌-◌, ◌≤◌, ℕ, List, not, nat_eq, get_or, min, length, sym, ◌∙◌, ap, subst, rules, arith}
 use Rattle.std.proofs.lemmas.Result.{err_from_is_err_and}
+use Rattle.fab_disk.specs.Changing.{Still}
 use Rattle.frame_store.specs.Layouts.{IsShape, formed, header_at, half_at, half_size}
 use Rattle.frame_store.specs.declared.shapes.Shape.{Shape}
 use Rattle.frame_store.specs.Laid.{other}
@@ -9,6 +10,8 @@ use Rattle.frame_store.proofs.Openings.{headers_none, read_laid}
 use Rattle.frame_store.proofs.Pieces.{part_within}
 use Rattle.frame_store.proofs.Slots.{half_reach}
 use Rattle.frame_store.proofs.Stills.{still_then, still_none}
+use Rattle.frame_store.proofs.reading.read_store.Given.{Over}
+use Rattle.frame_store.proofs.reading.read_store.Goals.{In_ok-headers}
 use Rattle.frame_store.proofs.reading.read_store.Goals as goal
 
 pub returns-in_default-clause-none : goal.returns-in_default-clause-none
@@ -18,24 +21,24 @@ returns-in_default-clause-none g c = λ told is.
     let are = c.in_ok-headers.ensures.bytes told ∙ ap (λ (l : List ℕ). part 0 64 l) c.len.ensures.still.untouched.content in
     headers_none c.args.shape image c.in_ok-headers.headers whole are c.in_default.ensures.none
 
+-- the headers were read, and nothing was changed
+headers_still : (g : Over) (c : In_ok-headers g) → Still g.D.Disk c.args.disk.now c.read_headers.new.disk ⊥
+headers_still g c =
+    let old = c.args.disk.now in
+    still_then g.D.Disk g.met.D.Disk.counts_now old c.len.new.disk c.read_headers.new.disk _ ⊥ (λ is. absurd is)
+    (still_then g.D.Disk g.met.D.Disk.counts_now old old c.len.new.disk _ ⊥ (λ is. absurd is) (still_none g.D.Disk old) c.in_ok-size.ensures.still)
+    c.in_ok-headers.ensures.still
+
 pub returns-in_err-listing-clause-still : goal.returns-in_err-listing-clause-still
 returns-in_err-listing-clause-still g c =
-    let d = g.D.Disk in
-    let counts = g.met.D.Disk.counts_now in
-    let old = c.args.disk.now in
     let p = err_from_is_err_and c.from_residual-in_err-listing.result c.from_residual-in_err-listing.ensures.1 in
-    let first = still_then d counts old old c.len.new.disk _ ⊥ (λ is. absurd is) (still_none d old) c.in_ok-size.ensures.still in
-    let second = still_then d counts old c.len.new.disk c.read_headers.new.disk _ ⊥ (λ is. absurd is) first c.in_ok-headers.ensures.still in
-    still_then d counts old c.read_headers.new.disk c.read_list.new.disk _ _ (λ is. cc (p.1, p.2, is)) second c.in_err-listing.ensures.still
+    still_then g.D.Disk g.met.D.Disk.counts_now c.args.disk.now c.read_headers.new.disk c.read_list.new.disk _ _ (λ is. cc (p.1, p.2, is))
+    (headers_still g (goal.at.returns-in_err-listing-clause-still g c).In_ok-headers) c.in_err-listing.ensures.still
 
 pub returns-clause-still : goal.returns-clause-still
 returns-clause-still g c =
-    let d = g.D.Disk in
-    let counts = g.met.D.Disk.counts_now in
-    let old = c.args.disk.now in
-    let first = still_then d counts old old c.len.new.disk _ ⊥ (λ is. absurd is) (still_none d old) c.in_ok-size.ensures.still in
-    let second = still_then d counts old c.len.new.disk c.read_headers.new.disk _ ⊥ (λ is. absurd is) first c.in_ok-headers.ensures.still in
-    still_then d counts old c.read_headers.new.disk c.read_list.new.disk _ _ (λ is. absurd cc) second c.in_ok-listing.ensures.still
+    still_then g.D.Disk g.met.D.Disk.counts_now c.args.disk.now c.read_headers.new.disk c.read_list.new.disk _ _ (λ is. absurd cc)
+    (headers_still g (goal.at.returns-clause-still g c).In_ok-headers) c.in_ok-listing.ensures.still
 
 -- the half ends well below 2^48
 pub read_list-requires-clause-reach : goal.read_list-requires-clause-reach

@@ -39,18 +39,8 @@ returns-clause-change g c =
 
 pub returns-in_err-write_thrice_synced-clause-change : goal.returns-in_err-write_thrice_synced-clause-change
 returns-in_err-write_thrice_synced-clause-change g c =
-    let content = g.D.Disk.seen c.args.disk.now in
-    let a = c.args.first in
-    let b = c.args.second in
-    let e = c.args.third in
-    let P : List ℕ → Type 0 = IsStagedThrice a.at (length a.bytes.now) b.at (length b.bytes.now) e.at (length e.bytes.now) content in
-    let W : List ℕ → Type 0 = IsThriceGated a.at a.bytes.now b.at b.bytes.now e.at e.bytes.now c.args.gate content in
-    let all = thrice_written a.at a.bytes.now b.at b.bytes.now e.at e.bytes.now content in
-    let staged : P all = thrice_all a.at b.at e.at a.bytes.now b.bytes.now e.bytes.now content in
-    let R : List ℕ → Type 0 = λ image. image ≡ written c.args.gate (165 ∷ []) all in
     let failed : c.write_thrice_synced.result ≡ Err Disk = search rules in
     let is : c.from_residual.result ≡ Err Disk = search rules in
-    cut_on g.D.Disk 4 6 P P all P W R c.args.disk.now c.write_thrice_synced.new.disk c.write_thrice_synced.result c.from_residual.result failed is
-    (omega arith)
-    (thrice_none a.at b.at e.at a.bytes.now b.bytes.now e.bytes.now content) (λ image is. is) (λ image is. inl is) staged
-    c.write_thrice_synced.ensures.change
+    cut_on g.D.Disk 4 6 _ _ _ _ _ _ _ _ c.write_thrice_synced.result c.from_residual.result failed is (omega arith)
+    (thrice_none _ _ _ c.args.first.bytes.now c.args.second.bytes.now c.args.third.bytes.now _) (λ image is. is) (λ image is. inl is)
+    (thrice_all _ _ _ c.args.first.bytes.now c.args.second.bytes.now c.args.third.bytes.now _) c.write_thrice_synced.ensures.change

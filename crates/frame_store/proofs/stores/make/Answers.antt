@@ -1,4 +1,4 @@
-use Rattle.std.proofs.Common.{rules, ℕ, ◌∷◌, [], List, sym, ◌∙◌, ap, subst, arith, ◌≡◌}
+use Rattle.std.proofs.Common.{rules, ℕ, ◌∷◌, [], List, sym, ◌∙◌, ap, subst, ◌≡◌}
 use Rattle.fab_disk.specs.Disk.{written}
 use Rattle.fab_disk.specs.Changing.{IsAny, Still, Run}
 use Rattle.fab_disk.proofs.Changing.{widen, still, behind}
