@@ -24,7 +24,7 @@ use Rattle.protocol.specs.Proposals.{Proposal, Voting, Ignored, Waited, Asks, En
 use Rattle.protocol.specs.declared.tellings.Report.{Report}
 use Rattle.protocol.specs.declared.tellings.Report.TheVariants as report
 use Rattle.protocol.specs.declared.tellings.ViewAnswer.TheVariants as answer
-use Rattle.protocol.specs.Nodes.{Node, NodeStep, put, no_step, sending, with_known, with_round, known_after, carried_out, carried_ballot, replied_ballot, replied_at, view_counted, may_teach, node_taught, node_taught_by, node_learnt, node_synced, with_learnt, with_job, coordinator_in, is_spent, read_begun_by, read_begun_in, read_begun, read_closed, job_goes, job_reading, carried_read, begun_aside, with_scrub, scrubbing, scrub_coordinator, carried_scrub, scrub_of, carried_for, synced_at, scrubbed_in, scrubbed_at, group_at, replied, lists_fit, heard, requested, received, new_proposal, proposing, reporting, proposed_in, proposed}
+use Rattle.protocol.specs.Nodes.{Node, NodeStep, put, no_step, sending, with_known, with_round, known_after, carried_out, carried_ballot, replied_ballot, replied_at, view_counted, may_teach, node_taught, node_taught_by, node_learnt, node_synced, with_learnt, with_job, coordinator_in, is_spent, read_begun_by, read_begun_in, read_begun, read_closed, job_goes, job_reading, carried_read, carried_scrub, scrub_of, carried_for, synced_at, scrubbed_in, scrubbed_at, group_at, replied, lists_fit, heard, requested, received, new_proposal, proposing, reporting, proposed_in, proposed}
 use Rattle.protocol.specs.Worlds.{first_world}
 use Rattle.protocol.proofs.Puts.{put_other}
 use Rattle.protocol.proofs.Served.{request_each}
