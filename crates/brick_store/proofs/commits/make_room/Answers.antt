@@ -18,22 +18,27 @@ differ e = cc
 
 pub returns-then-fits-clause-step : goal.returns-then-fits-clause-step
 returns-then-fits-clause-step g c =
-    let bytes = size_of c.args.frames.now.frames in
-    let room : HasMadeRoom (has_room_for c.args.frames.now.shape bytes c.args.body) (live (state_of c.args.index.now)) bytes bytes =
-    room_there (fits_there c.args.frames.now.shape bytes c.args.body (c.fits.ensures.0 c.if-fits.true)) in
+    let old = c.args.frames.now in
+    let bytes = size_of old.frames in
+    let room : HasMadeRoom (has_room_for old.shape bytes c.args.body) (live (state_of c.args.index.now)) bytes bytes =
+    room_there (fits_there old.shape bytes c.args.body (c.fits.ensures.0 c.if-fits.true)) in
     search (rules, room)
 
 pub returns-then-fits-clause-change : goal.returns-then-fits-clause-change
 returns-then-fits-clause-change g c =
-    subst (λ (n : ℕ). StateChange g.D.Disk n c.args.frames.now None (state_of c.args.index.now) (state_of c.args.index.now) c.args.frames.now.disk Whole) (stays c.args.frames.now.shape (size_of c.args.frames.now.frames) c.args.body 0 (c.fits.ensures.0 c.if-fits.true))
-    (unchanged_stands g.D.Disk g.met.D.Disk.only_now (state_of c.args.index.now) c.args.frames.now c.requires.store.may)
+    let st = state_of c.args.index.now in
+    let old = c.args.frames.now in
+    subst (λ (n : ℕ). StateChange g.D.Disk n old None st st old.disk Whole) (stays old.shape (size_of old.frames) c.args.body 0 (c.fits.ensures.0 c.if-fits.true))
+    (unchanged_stands g.D.Disk g.met.D.Disk.only_now st old c.requires.store.may)
 
 pub returns : goal.returns
 returns g c =
-    let number = renews c.args.frames.now.shape (size_of c.args.frames.now.frames) c.args.body 0 (λ fits. differ (sym (c.fits.ensures.1 fits) ∙ c.if-fits.false)) in
-    let change = subst (λ (n : ℕ). StateChange g.D.Disk n c.args.frames.now None (state_of c.args.index.now) (state_of c.args.index.now) c.rewrite.new.frames.disk (end_of c.rewrite.result)) number
+    let st = state_of c.args.index.now in
+    let old = c.args.frames.now in
+    let number = renews old.shape (size_of old.frames) c.args.body 0 (λ fits. differ (sym (c.fits.ensures.1 fits) ∙ c.if-fits.false)) in
+    let change = subst (λ (n : ℕ). StateChange g.D.Disk n old None st st c.rewrite.new.frames.disk (end_of c.rewrite.result)) number
     c.rewrite.ensures.change in
-    let none = fits_not c.args.frames.now.shape (size_of c.args.frames.now.frames) c.args.body (λ fits. differ (sym (c.fits.ensures.1 fits) ∙ c.if-fits.false)) in
-    let Made = HasMadeRoom (has_room_for c.args.frames.now.shape (size_of c.args.frames.now.frames) c.args.body) (live (state_of c.args.index.now)) (size_of c.args.frames.now.frames) in
-    let step = step_made g.D.Disk (state_of c.args.index.now) (state_of c.args.index.now) {Listed = Made} (λ bytes few. room_made none few) c.args.frames.now c.rewrite.new.frames c.rewrite.result c.rewrite.ensures.step in
+    let none = fits_not old.shape (size_of old.frames) c.args.body (λ fits. differ (sym (c.fits.ensures.1 fits) ∙ c.if-fits.false)) in
+    let Made = HasMadeRoom (has_room_for old.shape (size_of old.frames) c.args.body) (live st) (size_of old.frames) in
+    let step = step_made g.D.Disk st st {Listed = Made} (λ bytes few. room_made none few) old c.rewrite.new.frames c.rewrite.result c.rewrite.ensures.step in
     search (rules, change, step)

@@ -12,19 +12,24 @@ use Rattle.brick_store.proofs.commits.rewrite.Goals as goal
 
 pub returns-in_err-live-clause-change : goal.returns-in_err-live-clause-change
 returns-in_err-live-clause-change g c =
+    let st = state_of c.args.index.now in
     let p = err_from_is_err_and c.from_residual.result c.from_residual.ensures.1 in
-    rw (p.1, p.2) (unbegun g.D.Disk g.met.D.Disk.only_now 7 None (state_of c.args.index.now) (state_of c.args.index.now) c.args.frames.now)
+    rw (p.1, p.2) (unbegun g.D.Disk g.met.D.Disk.only_now 7 None st st c.args.frames.now)
 
 pub returns-in_err-reserve-clause-change : goal.returns-in_err-reserve-clause-change
 returns-in_err-reserve-clause-change g c =
+    let st = state_of c.args.index.now in
+    let call = c.in_err-reserve.ensures in
     let p = err_from_is_err_and c.from_residual-in_err-reserve.result c.from_residual-in_err-reserve.ensures.1 in
-    rw (p.1, p.2) (reserve_failed g.D.Disk g.met.D.Disk.only_now g.met.D.Disk.certain_is_left 7 None (state_of c.args.index.now) (state_of c.args.index.now) c.args.frames.now c.reserve.new.self.disk
-    c.in_err-reserve.field-0.0 c.in_err-reserve.ensures.still c.in_err-reserve.ensures.certain (omega arith))
+    rw (p.1, p.2) (reserve_failed g.D.Disk g.met.D.Disk.only_now g.met.D.Disk.certain_is_left 7 None st st c.args.frames.now c.reserve.new.self.disk
+    c.in_err-reserve.field-0.0 call.still call.certain (omega arith))
 
 pub returns-in_err-reserve-clause-step : goal.returns-in_err-reserve-clause-step
 returns-in_err-reserve-clause-step g c =
+    let st = state_of c.args.index.now in
+    let call = c.in_err-reserve.ensures in
     let p = err_from_is_err_and c.from_residual-in_err-reserve.result c.from_residual-in_err-reserve.ensures.1 in
-    rw (p.1, p.2) (call_refused g.D.Disk (state_of c.args.index.now) (state_of c.args.index.now) _ c.args.frames.now c.reserve.new.self c.in_err-reserve.field-0.0 c.requires.store.may c.in_err-reserve.ensures.same c.in_err-reserve.ensures.read c.in_err-reserve.ensures.answer)
+    rw (p.1, p.2) (call_refused g.D.Disk st st _ c.args.frames.now c.reserve.new.self c.in_err-reserve.field-0.0 c.requires.store.may call.same call.read call.answer)
 
 pub returns-in_err-rewrite : goal.returns-in_err-rewrite
 returns-in_err-rewrite g c =
@@ -40,17 +45,19 @@ returns-in_err-rewrite g c =
 
 pub returns-clause-step : goal.returns-clause-step
 returns-clause-step g c =
+    let call = c.in_ok-rewrite.ensures in
     (reserved_made g.D.Disk g.met.D.Disk.only_now g.met.D.Disk.counts_now c.in_ok-live.live.items (state_of c.args.index.now) c.args.frames.now
     c.reserve.new.self c.rewrite.new.self _ (Ok tt) c.requires.store.may c.requires.store.indexed.kept c.in_ok-live.ensures.read c.in_ok-live.ensures.size
     c.in_ok-reserve.ensures.same c.in_ok-reserve.ensures.still c.in_ok-reserve.ensures.read c.in_ok-reserve.ensures.answer.halts
-    (record { change = c.in_ok-rewrite.ensures.change; ok = c.in_ok-rewrite.ensures.ok; answer = c.in_ok-rewrite.ensures.answer; refused = tt; read = c.in_ok-rewrite.ensures.read })).step
+    (record { change = call.change; ok = call.ok; answer = call.answer; refused = tt; read = call.read })).step
 
 pub returns-clause-change : goal.returns-clause-change
 returns-clause-change g c =
+    let call = c.in_ok-rewrite.ensures in
     (reserved_made g.D.Disk g.met.D.Disk.only_now g.met.D.Disk.counts_now c.in_ok-live.live.items (state_of c.args.index.now) c.args.frames.now
     c.reserve.new.self c.rewrite.new.self _ (Ok tt) c.requires.store.may c.requires.store.indexed.kept c.in_ok-live.ensures.read c.in_ok-live.ensures.size
     c.in_ok-reserve.ensures.same c.in_ok-reserve.ensures.still c.in_ok-reserve.ensures.read c.in_ok-reserve.ensures.answer.halts
-    (record { change = c.in_ok-rewrite.ensures.change; ok = c.in_ok-rewrite.ensures.ok; answer = c.in_ok-rewrite.ensures.answer; refused = tt; read = c.in_ok-rewrite.ensures.read })).change
+    (record { change = call.change; ok = call.ok; answer = call.answer; refused = tt; read = call.read })).change
 
 pub returns-clause-room : goal.returns-clause-room
 returns-clause-room g c =
@@ -58,6 +65,7 @@ returns-clause-room g c =
     let mid = c.reserve.new.self in
     let new = c.rewrite.new.self in
     let live = c.in_ok-live.live.items in
+    let call = c.in_ok-rewrite.ensures in
     let reserved = c.in_ok-reserve.ensures in
     let size = ap size_of c.deref.ensures.value in
     let bytes = mid.shape.block + c.args.body + 7 in
@@ -65,5 +73,5 @@ returns-clause-room g c =
     room_less d.has_room g.met.D.Disk.room_for_less mid _ _ _ _ _ _ (omega arith) (omega (arith, size, ap (λ (s : Shape). s.block) reserved.same.shape))
     (omega arith) (ahead_new d.has_room mid c.deref.result.now c.args.body (reserved_new c.args.frames.now mid c.requires.store.may.slotted reserved.same)
     reserved.room) in
-    room_less d.has_room g.met.D.Disk.room_for_less new _ _ _ _ _ _ (omega arith) (omega (arith, ap (λ (s : Shape). s.block) c.in_ok-rewrite.ensures.ok.shape)) (omega arith)
-    (c.in_ok-rewrite.ensures.left 6 bytes (c.args.body + 6) before)
+    room_less d.has_room g.met.D.Disk.room_for_less new _ _ _ _ _ _ (omega arith) (omega (arith, ap (λ (s : Shape). s.block) call.ok.shape)) (omega arith)
+    (call.left 6 bytes (c.args.body + 6) before)

@@ -29,17 +29,21 @@ few false before now one = omega (arith, one)
 
 pub returns-then-is_appendable-clause-room : goal.returns-then-is_appendable-clause-room
 returns-then-is_appendable-clause-room g c =
+    let d = g.D.Disk in
+    let old = c.args.frames.now in
     let mid = c.reserve.new.self in
     let new = c.sync.new.self in
+    let made = c.in_ok-reserve.ensures in
     let call = c.in_ok-sync.ensures in
     let block : new.shape.block ≡ mid.shape.block = ap (λ (s : Shape). s.block) call.same.shape in
-    room_less g.D.Disk.has_room g.met.D.Disk.room_for_less new _ _ _ _ _ _ (omega arith) (omega (arith, block)) (omega arith) (call.left 12 _ _
-    (ahead_new g.D.Disk.has_room mid [] c.args.body (reserved_new c.args.frames.now mid c.requires.held.slotted c.in_ok-reserve.ensures.same) c.in_ok-reserve.ensures.room))
+    room_less d.has_room g.met.D.Disk.room_for_less new _ _ _ _ _ _ (omega arith) (omega (arith, block)) (omega arith) (call.left 12 _ _
+    (ahead_new d.has_room mid [] c.args.body (reserved_new old mid c.requires.held.slotted made.same) made.room))
 
 pub returns-then-is_appendable-clause-listed : goal.returns-then-is_appendable-clause-listed
 returns-then-is_appendable-clause-listed g c =
-    let there : is_appendable c.args.whole c.args.frames.now c.args.body ≡ true = search rules in
-    subst (λ (fs : List Frame). HasMadeRoom (is_appendable c.args.whole c.args.frames.now c.args.body) (live (state_of c.args.index.now)) (size_of c.args.frames.now.frames)
+    let old = c.args.frames.now in
+    let there : is_appendable c.args.whole old c.args.body ≡ true = search rules in
+    subst (λ (fs : List Frame). HasMadeRoom (is_appendable c.args.whole old c.args.body) (live (state_of c.args.index.now)) (size_of old.frames)
     (size_of fs)) (sym (c.in_ok-sync.ensures.same.frames ∙ c.in_ok-reserve.ensures.same.frames)) (room_there there)
 
 pub returns-clause-listed : goal.returns-clause-listed
@@ -49,35 +53,41 @@ returns-clause-listed g c =
 
 pub returns-then-is_appendable-clause-readies : goal.returns-then-is_appendable-clause-readies
 returns-then-is_appendable-clause-readies g c =
+    let d = g.D.Disk in
     let calls : ℕ = if is_appendable c.args.whole c.args.frames.now c.args.body then 1 else 8 in
-    ready_by g.D.Disk g.met.D.Disk.only_now calls (state_of c.args.index.now) c.args.frames.now c.sync.new.self.disk (Ok tt) tt (search rules) (search rules)
+    ready_by d g.met.D.Disk.only_now calls (state_of c.args.index.now) c.args.frames.now c.sync.new.self.disk (Ok tt) tt (search rules) (search rules)
     (λ told free closed is. absurd cc) (λ is. absurd cc) (search rules)
 
 pub returns-in_err-reserve-clause-readies : goal.returns-in_err-reserve-clause-readies
 returns-in_err-reserve-clause-readies g c =
+    let d = g.D.Disk in
     let calls : ℕ = if is_appendable c.args.whole c.args.frames.now c.args.body then 1 else 8 in
     let f = c.in_err-reserve.field-0.0 in
     let p = err_from_is_err_and c.from_residual.result c.from_residual.ensures.1 in
-    rw (p.1, p.2) (ready_by g.D.Disk g.met.D.Disk.only_now calls (state_of c.args.index.now) c.args.frames.now c.reserve.new.self.disk (refused (fault_of f))
+    rw (p.1, p.2) (ready_by d g.met.D.Disk.only_now calls (state_of c.args.index.now) c.args.frames.now c.reserve.new.self.disk (refused (fault_of f))
     (search rules) (search rules) (search rules) (search rules) (search rules) (search rules))
 
 pub returns-in_err-sync-clause-readies : goal.returns-in_err-sync-clause-readies
 returns-in_err-sync-clause-readies g c =
-    let calls : ℕ = if is_appendable c.args.whole c.args.frames.now c.args.body then 1 else 8 in
+    let d = g.D.Disk in
+    let old = c.args.frames.now in
+    let calls : ℕ = if is_appendable c.args.whole old c.args.body then 1 else 8 in
     let f = c.in_err-sync.field-0.0 in
+    let made = c.in_ok-reserve.ensures in
     let call = c.in_err-sync.ensures in
     let meant = λ (is : refused (fault_of f) ≡ refused Disk). ap (refused {E = FrameFault}) (disk_meant f is) in
     let p = err_from_is_err_and c.from_residual-in_err-sync.result c.from_residual-in_err-sync.ensures.1 in
-    rw (p.1, p.2) (ready_by g.D.Disk g.met.D.Disk.only_now calls (state_of c.args.index.now) c.args.frames.now c.sync.new.self.disk (refused (fault_of f))
+    rw (p.1, p.2) (ready_by d g.met.D.Disk.only_now calls (state_of c.args.index.now) old c.sync.new.self.disk (refused (fault_of f))
     (search rules) (search rules) (search rules)
-    (λ told free closed is. sync_cut g.D.Disk.seen g.D.Disk.certain g.D.Disk.may_leave g.D.Disk.moment g.D.Disk.left_since _ c.args.frames.now
-    c.reserve.new.self.disk c.sync.new.self.disk (state_of c.args.index.now) (c.requires.held.read told c.requires.held.runs) closed c.requires.held.found c.in_ok-reserve.ensures.still.untouched
-    call.content c.in_ok-reserve.ensures.certain call.certain
-    (few (is_appendable c.args.whole c.args.frames.now c.args.body) _ _ (run_clock {whole = IsOk (refused f)} {cut = refused f ≡ refused frames.Disk} call.run told (c.in_ok-reserve.ensures.still.plan.stays free) (meant is))))
+    (λ told free closed is. sync_cut d.seen d.certain d.may_leave d.moment d.left_since _ old
+    c.reserve.new.self.disk c.sync.new.self.disk (state_of c.args.index.now) (c.requires.held.read told c.requires.held.runs) closed c.requires.held.found made.still.untouched
+    call.content made.certain call.certain
+    (few (is_appendable c.args.whole old c.args.body) _ _ (run_clock {whole = IsOk (refused f)} {cut = refused f ≡ refused frames.Disk} call.run told (made.still.plan.stays free) (meant is))))
     (search rules) (search rules))
 
 pub returns-clause-readies : goal.returns-clause-readies
 returns-clause-readies g c =
-    let never : is_appendable c.args.whole c.args.frames.now c.args.body ≡ false = search rules in
-    subst (λ (b : Bool). Readies g.D.Disk (if b then 1 else 8) (state_of c.args.index.now) c.args.frames.now c.renew.new.frames.disk (end_of c.renew.result)) (sym never)
+    let old = c.args.frames.now in
+    let never : is_appendable c.args.whole old c.args.body ≡ false = search rules in
+    subst (λ (b : Bool). Readies g.D.Disk (if b then 1 else 8) (state_of c.args.index.now) old c.renew.new.frames.disk (end_of c.renew.result)) (sym never)
     c.renew.ensures.readies

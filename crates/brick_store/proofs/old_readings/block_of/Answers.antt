@@ -12,19 +12,20 @@ returns-in_default c = sym (no_block c.args.size c.args.bytes.now (omega (arith,
 
 pub returns-then-flag-gt1 : goal.returns-then-flag-gt1
 returns-then-flag-gt1 c =
-    let told : c.from_be_bytes-length.result ≡ from_be_bytes w16 (get_or c.args.bytes.now 1 0 ∷ get_or c.args.bytes.now 2 0 ∷ []) = c.from_be_bytes-length.ensures in
-    let rest = take_rest c.args.bytes.now 3 in
+    let bytes = c.args.bytes.now in
+    let told : c.from_be_bytes-length.result ≡ from_be_bytes w16 (get_or bytes 1 0 ∷ get_or bytes 2 0 ∷ []) = c.from_be_bytes-length.ensures in
+    let rest = take_rest bytes 3 in
     elim c.then-flag-gt1.branch [
       | then-flag-gt1-via-then-flag-gt1 w ↦
-          let first : leb (get_or c.args.bytes.now 0 0) 1 ≡ false = let h = w.if-flag-gt1.true in grind (arith, nat_tests) in
-          sym (none_told c.args.size c.args.bytes.now false _ _ c.in-len3-up.len_at_least first refl refl refl)
+          let first : leb (get_or bytes 0 0) 1 ≡ false = let h = w.if-flag-gt1.true in grind (arith, nat_tests) in
+          sym (none_told c.args.size bytes false _ _ c.in-len3-up.len_at_least first refl refl refl)
       | then-flag-gt1-via-else-flag-gt1+then-length-size w ↦
-          let second : eqb (from_be_bytes w16 (get_or c.args.bytes.now 1 0 ∷ get_or c.args.bytes.now 2 0 ∷ [])) c.args.size ≡ false = ne_eqb _ _ (λ is. w.if-length-size.true (told ∙ is)) in
-          sym (none_told c.args.size c.args.bytes.now (leb (get_or c.args.bytes.now 0 0) 1) false _ c.in-len3-up.len_at_least refl second refl (never (leb (get_or c.args.bytes.now 0 0) 1)))
+          let second : eqb (from_be_bytes w16 (get_or bytes 1 0 ∷ get_or bytes 2 0 ∷ [])) c.args.size ≡ false = ne_eqb _ _ (λ is. w.if-length-size.true (told ∙ is)) in
+          sym (none_told c.args.size bytes (leb (get_or bytes 0 0) 1) false _ c.in-len3-up.len_at_least refl second refl (never (leb (get_or bytes 0 0) 1)))
       | then-flag-gt1-via-else-flag-gt1+else-length-size+then-block-size w ↦
-          let third : eqb (length (drop 3 c.args.bytes.now)) c.args.size ≡ false =
+          let third : eqb (length (drop 3 bytes)) c.args.size ≡ false =
           ne_eqb _ _ (λ is. w.if-block-size.true (ap length rest ∙ is)) in
-          sym (none_told c.args.size c.args.bytes.now (leb (get_or c.args.bytes.now 0 0) 1) _ false c.in-len3-up.len_at_least refl refl third (neither (leb (get_or c.args.bytes.now 0 0) 1) _))
+          sym (none_told c.args.size bytes (leb (get_or bytes 0 0) 1) _ false c.in-len3-up.len_at_least refl refl third (neither (leb (get_or bytes 0 0) 1) _))
     ]
   where
     never : (x : Bool) → (x && false) ≡ false
@@ -38,9 +39,10 @@ returns-then-flag-gt1 c =
 
 pub returns : goal.returns
 returns c =
-    let told : c.from_be_bytes-length.result ≡ from_be_bytes w16 (get_or c.args.bytes.now 1 0 ∷ get_or c.args.bytes.now 2 0 ∷ []) = c.from_be_bytes-length.ensures in
-    let rest : take (length c.args.bytes.now - 3) (drop 3 c.args.bytes.now) ≡ drop 3 c.args.bytes.now = take_rest c.args.bytes.now 3 in
-    let first : leb (get_or c.args.bytes.now 0 0) 1 ≡ true = let h = c.if-flag-gt1.false in grind (arith, nat_tests) in
-    let second : eqb (from_be_bytes w16 (get_or c.args.bytes.now 1 0 ∷ get_or c.args.bytes.now 2 0 ∷ [])) c.args.size ≡ true = eq-eqb _ _ (sym told ∙ c.if-length-size.false) in
-    let third : eqb (length (drop 3 c.args.bytes.now)) c.args.size ≡ true = eq-eqb _ _ (ap length (sym rest) ∙ c.if-block-size.false) in
-    ap (λ (block : List ℕ). Some (eqb (get_or c.args.bytes.now 0 0) 1, block)) rest ∙ sym (some_told c.args.size c.args.bytes.now c.in-len3-up.len_at_least first second third)
+    let bytes = c.args.bytes.now in
+    let told : c.from_be_bytes-length.result ≡ from_be_bytes w16 (get_or bytes 1 0 ∷ get_or bytes 2 0 ∷ []) = c.from_be_bytes-length.ensures in
+    let rest : take (length bytes - 3) (drop 3 bytes) ≡ drop 3 bytes = take_rest bytes 3 in
+    let first : leb (get_or bytes 0 0) 1 ≡ true = let h = c.if-flag-gt1.false in grind (arith, nat_tests) in
+    let second : eqb (from_be_bytes w16 (get_or bytes 1 0 ∷ get_or bytes 2 0 ∷ [])) c.args.size ≡ true = eq-eqb _ _ (sym told ∙ c.if-length-size.false) in
+    let third : eqb (length (drop 3 bytes)) c.args.size ≡ true = eq-eqb _ _ (ap length (sym rest) ∙ c.if-block-size.false) in
+    ap (λ (block : List ℕ). Some (eqb (get_or bytes 0 0) 1, block)) rest ∙ sym (some_told c.args.size bytes c.in-len3-up.len_at_least first second third)

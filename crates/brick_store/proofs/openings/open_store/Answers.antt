@@ -34,40 +34,61 @@ returns-in-Err-opened-clause-opens g c =
 
 pub returns-in-Ok-take_up-clause-found : goal.returns-in-Ok-take_up-clause-found
 returns-in-Ok-take_up-clause-found g c = λ told.
+    let d = g.D.Disk in
+    let held = c.in-Ok-opened.frames in
+    let here = c.in-Ok-opened.ensures in
+    let slotted : is_old c.in-Ok-opened.frames.shape ≡ false = sym c.is_old.ensures ∙ c.if-is_old.false in
+    let made = c.in-Ok-take_up.ensures in
+    let taken = c.in-Ok-take_up.taken in
     let size = c.take_up.new.frames.shape.block in
-    subst (λ (s : Shape). IsCounted s (g.D.Disk.seen c.args.disk) (resolved (cached size c.in-Ok-take_up.taken.blocks) (state_of c.in-Ok-take_up.taken.index))) (ap (formed New) c.in-Ok-opened.ensures.shape)
-    (found_there g.D.Disk.seen c.in-Ok-opened.frames (c.in-Ok-opened.ensures.read told c.in-Ok-opened.ensures.runs) (sym c.is_old.ensures ∙ c.if-is_old.false) (g.D.Disk.seen c.args.disk) c.in-Ok-opened.ensures.still.untouched.content c.in-Ok-take_up.taken.blocks size (state_of c.in-Ok-take_up.taken.index)
-    (ap (λ (s : Shape). s.block) c.in-Ok-take_up.ensures.shape) (c.in-Ok-take_up.ensures.stored told) c.in-Ok-take_up.ensures.state (c.in-Ok-take_up.ensures.boots refl))
+    subst (λ (s : Shape). IsCounted s (d.seen c.args.disk) (resolved (cached size taken.blocks) (state_of taken.index))) (ap (formed New) here.shape)
+    (found_there d.seen held (here.read told here.runs) slotted (d.seen c.args.disk) here.still.untouched.content taken.blocks size (state_of taken.index)
+    (ap (λ (s : Shape). s.block) made.shape) (made.stored told) made.state (made.boots refl))
 
 pub returns-in-Ok-take_up-clause-stands : goal.returns-in-Ok-take_up-clause-stands
 returns-in-Ok-take_up-clause-stands g c = λ told.
-    standing_stands g.D.Disk c.in-Ok-take_up.taken.blocks c.in-Ok-take_up.taken.zero c.take_up.new.frames c.in-Ok-take_up.taken.index c.in-Ok-take_up.ensures.standing told (c.in-Ok-take_up.ensures.still_runs refl)
+    let made = c.in-Ok-take_up.ensures in
+    let taken = c.in-Ok-take_up.taken in
+    standing_stands g.D.Disk taken.blocks taken.zero c.take_up.new.frames taken.index made.standing told (made.still_runs refl)
 
 pub returns-in-Ok-take_up-clause-listed : goal.returns-in-Ok-take_up-clause-listed
 returns-in-Ok-take_up-clause-listed g c = λ told.
-    counted_there c.in-Ok-opened.frames _ (g.D.Disk.seen c.args.disk) c.take_up.new.frames.shape _ (sym c.is_old.ensures ∙ c.if-is_old.false)
-    (subst (λ (image : List ℕ). OpensAs c.in-Ok-opened.frames.shape c.in-Ok-opened.frames.frames c.in-Ok-opened.frames.closed image) c.in-Ok-opened.ensures.still.untouched.content (c.in-Ok-opened.ensures.read told c.in-Ok-opened.ensures.runs).opens) c.in-Ok-take_up.ensures.shape
-    (live-resolved (cached c.take_up.new.frames.shape.block c.in-Ok-take_up.taken.blocks) (state_of c.in-Ok-take_up.taken.index) ∙ ap (λ (s : StateOf Entry). live s) c.in-Ok-take_up.ensures.state)
-    (c.in-Ok-take_up.ensures.listed refl)
+    let held = c.in-Ok-opened.frames in
+    let here = c.in-Ok-opened.ensures in
+    let slotted : is_old c.in-Ok-opened.frames.shape ≡ false = sym c.is_old.ensures ∙ c.if-is_old.false in
+    let made = c.in-Ok-take_up.ensures in
+    let taken = c.in-Ok-take_up.taken in
+    counted_there held _ (g.D.Disk.seen c.args.disk) c.take_up.new.frames.shape _ slotted
+    (subst (λ (image : List ℕ). OpensAs held.shape held.frames held.closed image) here.still.untouched.content (here.read told here.runs).opens) made.shape
+    (live-resolved (cached c.take_up.new.frames.shape.block taken.blocks) (state_of taken.index) ∙ ap (λ (s : StateOf Entry). live s) made.state)
+    (made.listed refl)
 
 pub returns-in-Ok-take_up-clause-opens : goal.returns-in-Ok-take_up-clause-opens
 returns-in-Ok-take_up-clause-opens g c =
-    subst (λ (s : Shape). Opens g.D.Disk s c.args.disk c.take_up.new.frames.disk Whole) (ap (formed New) c.in-Ok-opened.ensures.shape)
+    let here = c.in-Ok-opened.ensures in
+    let slotted : is_old c.in-Ok-opened.frames.shape ≡ false = sym c.is_old.ensures ∙ c.if-is_old.false in
+    subst (λ (s : Shape). Opens g.D.Disk s c.args.disk c.take_up.new.frames.disk Whole) (ap (formed New) here.shape)
     (started_opens g.D.Disk g.met.D.Disk.only_now g.met.D.Disk.counts_now c.args.disk c.take_up.new.frames.disk c.in-Ok-opened.frames _ _
-    (λ told. c.in-Ok-opened.ensures.read told c.in-Ok-opened.ensures.runs) (sym c.is_old.ensures ∙ c.if-is_old.false) c.in-Ok-opened.ensures.still c.in-Ok-opened.ensures.certain c.in-Ok-take_up.ensures.starts)
+    (λ told. here.read told here.runs) slotted here.still here.certain c.in-Ok-take_up.ensures.starts)
 
 pub returns-in-Err-take_up-clause-opens : goal.returns-in-Err-take_up-clause-opens
 returns-in-Err-take_up-clause-opens g c =
+    let here = c.in-Ok-opened.ensures in
+    let slotted : is_old c.in-Ok-opened.frames.shape ≡ false = sym c.is_old.ensures ∙ c.if-is_old.false in
     let back = sym c.into_disk.ensures in
     subst (λ (last : g.row.D.Denot). Opens g.D.Disk (shape_of c.args.me.0 c.args.block c.args.records) c.args.disk last (stopped_by c.in-Err-take_up.fault)) back
-    (subst (λ (s : Shape). Opens g.D.Disk s c.args.disk c.take_up.new.frames.disk (stopped_by c.in-Err-take_up.fault)) (ap (formed New) c.in-Ok-opened.ensures.shape)
+    (subst (λ (s : Shape). Opens g.D.Disk s c.args.disk c.take_up.new.frames.disk (stopped_by c.in-Err-take_up.fault)) (ap (formed New) here.shape)
     (started_opens g.D.Disk g.met.D.Disk.only_now g.met.D.Disk.counts_now c.args.disk c.take_up.new.frames.disk c.in-Ok-opened.frames _ _
-    (λ told. c.in-Ok-opened.ensures.read told c.in-Ok-opened.ensures.runs) (sym c.is_old.ensures ∙ c.if-is_old.false) c.in-Ok-opened.ensures.still c.in-Ok-opened.ensures.certain c.in-Err-take_up.ensures.starts))
+    (λ told. here.read told here.runs) slotted here.still here.certain c.in-Err-take_up.ensures.starts))
 
 pub returns-in-Err-take_up-clause-worn : goal.returns-in-Err-take_up-clause-worn
 returns-in-Err-take_up-clause-worn g c = λ is told.
-    subst (λ (s : Shape). IsWornOut s (g.D.Disk.seen c.args.disk)) (ap (formed New) c.in-Ok-opened.ensures.shape)
-    (worn_there g.D.Disk.seen c.in-Ok-opened.frames (c.in-Ok-opened.ensures.read told c.in-Ok-opened.ensures.runs) (sym c.is_old.ensures ∙ c.if-is_old.false) (g.D.Disk.seen c.args.disk) c.in-Ok-opened.ensures.still.untouched.content (c.in-Err-take_up.ensures.worn (ap Err is)))
+    let d = g.D.Disk in
+    let held = c.in-Ok-opened.frames in
+    let here = c.in-Ok-opened.ensures in
+    let slotted : is_old c.in-Ok-opened.frames.shape ≡ false = sym c.is_old.ensures ∙ c.if-is_old.false in
+    subst (λ (s : Shape). IsWornOut s (d.seen c.args.disk)) (ap (formed New) here.shape)
+    (worn_there d.seen held (here.read told here.runs) slotted (d.seen c.args.disk) here.still.untouched.content (c.in-Err-take_up.ensures.worn (ap Err is)))
 
 -- ---- an old store
 
@@ -89,30 +110,46 @@ returns-then-is_old-clause-shape g c =
 
 pub returns-then-is_old-clause-found : goal.returns-then-is_old-clause-found
 returns-then-is_old-clause-found g c =
+    let d = g.D.Disk in
+    let held = c.in-Ok-opened.frames in
+    let here = c.in-Ok-opened.ensures in
+    let old : is_old held.shape ≡ true = sym c.is_old.ensures ∙ c.if-is_old.true in
     if_both c.open_over.result _ _ _ c.open_over.ensures.state c.open_over.ensures.boots (λ store state boots told.
-    subst (λ (s : Shape). IsCounted s (g.D.Disk.seen c.args.disk) store.state) (ap (formed New) c.in-Ok-opened.ensures.shape)
-    (over_counted g.D.Disk.seen c.in-Ok-opened.frames (c.in-Ok-opened.ensures.read told c.in-Ok-opened.ensures.runs) (sym c.is_old.ensures ∙ c.if-is_old.true) (g.D.Disk.seen c.args.disk) c.in-Ok-opened.ensures.still.untouched.content store.state state boots))
+    subst (λ (s : Shape). IsCounted s (d.seen c.args.disk) store.state) (ap (formed New) here.shape)
+    (over_counted d.seen held (here.read told here.runs) old (d.seen c.args.disk) here.still.untouched.content store.state state boots))
 
 pub returns-then-is_old-clause-listed : goal.returns-then-is_old-clause-listed
 returns-then-is_old-clause-listed g c =
+    let d = g.D.Disk in
+    let held = c.in-Ok-opened.frames in
+    let here = c.in-Ok-opened.ensures in
+    let old : is_old held.shape ≡ true = sym c.is_old.ensures ∙ c.if-is_old.true in
     if_both c.open_over.result _ _ _ c.open_over.ensures.listed
-    (if_both c.open_over.result _ _ (λ store. (store.shape ≡ formed New c.in-Ok-opened.frames.shape) × (store.state ≡ _)) c.open_over.ensures.shape c.open_over.ensures.state
+    (if_both c.open_over.result _ _ (λ store. (store.shape ≡ formed New held.shape) × (store.state ≡ _)) c.open_over.ensures.shape c.open_over.ensures.state
     (λ store shape state. (shape, state)))
-    (λ store listed is told. subst (λ (s : Shape). IsListedOnOpening s (g.D.Disk.seen c.args.disk) (live store.state) store.listed) (sym is.0)
-    (over_listed_on g.D.Disk.seen c.in-Ok-opened.frames (c.in-Ok-opened.ensures.read told c.in-Ok-opened.ensures.runs) (sym c.is_old.ensures ∙ c.if-is_old.true) (g.D.Disk.seen c.args.disk) c.in-Ok-opened.ensures.still.untouched.content (live store.state) store.listed
-    (subst (λ (n : ℕ). IsAppended false n (size_of c.in-Ok-opened.frames.frames) 4 store.listed) (sym (ap (λ (s : StateOf Version). live s) is.1)) listed)))
+    (λ store listed is told. subst (λ (s : Shape). IsListedOnOpening s (d.seen c.args.disk) (live store.state) store.listed) (sym is.0)
+    (over_listed_on d.seen held (here.read told here.runs) old (d.seen c.args.disk) here.still.untouched.content (live store.state) store.listed
+    (subst (λ (n : ℕ). IsAppended false n (size_of held.frames) 4 store.listed) (sym (ap (λ (s : StateOf Version). live s) is.1)) listed)))
 
 pub returns-then-is_old-clause-opens : goal.returns-then-is_old-clause-opens
 returns-then-is_old-clause-opens g c =
-    subst (λ (s : Shape). Opens g.D.Disk s c.args.disk (disk_in c.open_over.result) (end_in c.open_over.result)) (ap (formed New) c.in-Ok-opened.ensures.shape)
-    (over_opens g.D.Disk g.met.D.Disk.only_now g.met.D.Disk.counts_now c.args.disk (disk_in c.open_over.result) c.in-Ok-opened.frames (end_in c.open_over.result) _
-    (λ told. c.in-Ok-opened.ensures.read told c.in-Ok-opened.ensures.runs) (sym c.is_old.ensures ∙ c.if-is_old.true) c.in-Ok-opened.ensures.still c.in-Ok-opened.ensures.certain c.open_over.ensures.starts)
+    let d = g.D.Disk in
+    let held = c.in-Ok-opened.frames in
+    let here = c.in-Ok-opened.ensures in
+    let old : is_old held.shape ≡ true = sym c.is_old.ensures ∙ c.if-is_old.true in
+    subst (λ (s : Shape). Opens d s c.args.disk (disk_in c.open_over.result) (end_in c.open_over.result)) (ap (formed New) here.shape)
+    (over_opens d g.met.D.Disk.only_now g.met.D.Disk.counts_now c.args.disk (disk_in c.open_over.result) held (end_in c.open_over.result) _
+    (λ told. here.read told here.runs) old here.still here.certain c.open_over.ensures.starts)
 
 pub returns-then-is_old-clause-not_a_store : goal.returns-then-is_old-clause-not_a_store
 returns-then-is_old-clause-not_a_store g c = if_err c.open_over.result _ _ c.open_over.ensures.a_store (λ refused never is. absurd (never is))
 
 pub returns-then-is_old-clause-worn : goal.returns-then-is_old-clause-worn
 returns-then-is_old-clause-worn g c =
+    let d = g.D.Disk in
+    let held = c.in-Ok-opened.frames in
+    let here = c.in-Ok-opened.ensures in
+    let old : is_old held.shape ≡ true = sym c.is_old.ensures ∙ c.if-is_old.true in
     if_err c.open_over.result _ _ c.open_over.ensures.worn (λ refused worn is told.
-    subst (λ (s : Shape). IsWornOut s (g.D.Disk.seen c.args.disk)) (ap (formed New) c.in-Ok-opened.ensures.shape)
-    (over_worn g.D.Disk.seen c.in-Ok-opened.frames (c.in-Ok-opened.ensures.read told c.in-Ok-opened.ensures.runs) (sym c.is_old.ensures ∙ c.if-is_old.true) (g.D.Disk.seen c.args.disk) c.in-Ok-opened.ensures.still.untouched.content (worn is)))
+    subst (λ (s : Shape). IsWornOut s (d.seen c.args.disk)) (ap (formed New) here.shape)
+    (over_worn d.seen held (here.read told here.runs) old (d.seen c.args.disk) here.still.untouched.content (worn is)))

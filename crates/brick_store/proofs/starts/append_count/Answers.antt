@@ -16,26 +16,36 @@ use Rattle.brick_store.proofs.starts.append_count.Goals as goal
 
 pub returns-in_err-append_frame : goal.returns-in_err-append_frame
 returns-in_err-append_frame g c =
+    let st = state_of c.args.index.now in
+    let old = c.args.frames.now in
+    let frame = c.args.frame in
     let f = c.in_err-append_frame.field-0.0 in
     let call = c.in_err-append_frame.ensures in
-    let leads = leads_changed (limits_of c.args.index.now) (images.limits_of c.args.frames.now.shape) c.args.frames.now.frames c.args.frame c.args.item.now (state_of c.args.index.now) c.requires.limits
+    let leads = leads_changed (limits_of c.args.index.now) (images.limits_of old.shape) old.frames frame c.args.item.now st c.requires.limits
     c.requires.may.leads c.requires.read c.requires.can in
-    let Longer = λ (bytes : ℕ). bytes ≡ size_of c.args.frames.now.frames + framed (length c.args.frame.body) in
-    let size : size_of (c.args.frames.now.frames ++ c.args.frame ∷ []) ≡ size_of c.args.frames.now.frames + framed (length c.args.frame.body) =
-    omega (arith, size_of-append c.args.frames.now.frames (c.args.frame ∷ [])) in
-    let one = made g.D.Disk 4 (c.args.frames.now.frames ++ c.args.frame ∷ []) None (state_of c.args.index.now) (changed (limits_of c.args.index.now) c.args.item.now (state_of c.args.index.now)) Longer c.args.frames.now
+    let Longer = λ (bytes : ℕ). bytes ≡ size_of old.frames + framed (length frame.body) in
+    let size : size_of (old.frames ++ frame ∷ []) ≡ size_of old.frames + framed (length frame.body) =
+    omega (arith, size_of-append old.frames (frame ∷ [])) in
+    let one = made g.D.Disk 4 (old.frames ++ frame ∷ []) None st (changed (limits_of c.args.index.now) c.args.item.now st) Longer old
     c.append_frame.new.frames (Err f) c.requires.may leads size call.answer in
     let p = err_from_is_err_and c.from_residual.result c.from_residual.ensures.1 in
+    let step = one.step in
+    let change = one.change in
     let never = λ (is : refused (fault_of f) ≡ refused NoMemory). call.room c.requires.room (ap (refused {E = FrameFault}) (memory_refused f is)) in
-    rw (p.1, p.2) (search (rules, one.step, one.change, never))
+    rw (p.1, p.2) (search (rules, step, change, never))
 
 pub returns : goal.returns
 returns g c =
-    let leads = leads_changed (limits_of c.args.index.now) (images.limits_of c.args.frames.now.shape) c.args.frames.now.frames c.args.frame c.args.item.now (state_of c.args.index.now) c.requires.limits
+    let st = state_of c.args.index.now in
+    let old = c.args.frames.now in
+    let frame = c.args.frame in
+    let leads = leads_changed (limits_of c.args.index.now) (images.limits_of old.shape) old.frames frame c.args.item.now st c.requires.limits
     c.requires.may.leads c.requires.read c.requires.can in
-    let Longer = λ (bytes : ℕ). bytes ≡ size_of c.args.frames.now.frames + framed (length c.args.frame.body) in
-    let size : size_of (c.args.frames.now.frames ++ c.args.frame ∷ []) ≡ size_of c.args.frames.now.frames + framed (length c.args.frame.body) =
-    omega (arith, size_of-append c.args.frames.now.frames (c.args.frame ∷ [])) in
-    let one = made g.D.Disk 4 (c.args.frames.now.frames ++ c.args.frame ∷ []) None (state_of c.args.index.now) (changed (limits_of c.args.index.now) c.args.item.now (state_of c.args.index.now)) Longer c.args.frames.now
+    let Longer = λ (bytes : ℕ). bytes ≡ size_of old.frames + framed (length frame.body) in
+    let size : size_of (old.frames ++ frame ∷ []) ≡ size_of old.frames + framed (length frame.body) =
+    omega (arith, size_of-append old.frames (frame ∷ [])) in
+    let one = made g.D.Disk 4 (old.frames ++ frame ∷ []) None st (changed (limits_of c.args.index.now) c.args.item.now st) Longer old
     c.append_frame.new.frames (Ok tt) c.requires.may leads size c.in_ok-append_frame.ensures.answer in
-    search (rules, one.step, one.change)
+    let step = one.step in
+    let change = one.change in
+    search (rules, step, change)

@@ -1,5 +1,5 @@
 -- The store is brought over, and its opening is counted.
-use Rattle.std.proofs.Common.{◌≡◌, ℕ, ◌+◌, Bool, true, false, List, None, Result, Ok, Err, OnOk, refl, sym, ap, subst, ◌∙◌, length, arith, rules}
+use Rattle.std.proofs.Common.{◌≡◌, ℕ, ◌+◌, ◌<◌, Bool, true, false, List, None, Result, Ok, Err, OnOk, refl, sym, ap, subst, ◌∙◌, length, arith, rules}
 use Rattle.std.proofs.lemmas.Result.{err_from_is_err_and}
 use Rattle.fab_disk.specs.Changing.{Change, Cut, NotBegun, Whole, Stands}
 use Rattle.frame_store.specs.declared.faults.FrameFault.{FrameFault}
@@ -24,6 +24,7 @@ use Rattle.brick_store.specs.Bricks.{fault_of}
 use Rattle.brick_store.specs.BringingOver.{IsAmong, LiesIn, cut_block}
 use Rattle.brick_store.specs.Ends.{end_of}
 use Rattle.brick_store.specs.Images.{StandsFor}
+use Rattle.brick_store.specs.OldLists.{old_state_in}
 use Rattle.brick_store.specs.Sizes.{framed}
 use Rattle.brick_store.specs.Steps.{IsUnchanged, IsChanged, changed}
 use Rattle.brick_store.proofs.Counting.{disk_failed}
@@ -38,26 +39,34 @@ use Rattle.brick_store.proofs.starts_over.start_over.Goals as goal
 
 pub returns-in_err-frame-clause-starts : goal.returns-in_err-frame-clause-starts
 returns-in_err-frame-clause-starts g c =
+    let d = g.D.Disk in
+    let old = c.args.frames.now in
     let p = err_from_is_err_and c.from_residual.result c.from_residual.ensures.1 in
-    rw (p.1, p.2) (refused_over g.D.Disk g.met.D.Disk.only_now g.met.D.Disk.counts_now c.args.frames.now c.requires.old c.args.frames.now.disk NotBegun ⊥ (λ is. absurd cc) (λ is. absurd cc)
-    (still_none g.D.Disk c.args.frames.now.disk))
+    rw (p.1, p.2) (refused_over d g.met.D.Disk.only_now g.met.D.Disk.counts_now old c.requires.old old.disk NotBegun ⊥ (λ is. absurd cc) (λ is. absurd cc)
+    (still_none d old.disk))
 
 pub returns-in_err-reserve-clause-starts : goal.returns-in_err-reserve-clause-starts
 returns-in_err-reserve-clause-starts g c =
+    let d = g.D.Disk in
+    let old = c.args.frames.now in
     let f = c.in_err-reserve.field-0.0 in
     let here = c.in_err-reserve.ensures in
     let p = err_from_is_err_and c.from_residual-in_err-reserve.result c.from_residual-in_err-reserve.ensures.1 in
-    rw (p.1, p.2) (refused_over g.D.Disk g.met.D.Disk.only_now g.met.D.Disk.counts_now c.args.frames.now c.requires.old c.reserve.new.self.disk (end_of (refused (fault_of f)))
+    rw (p.1, p.2) (refused_over d g.met.D.Disk.only_now g.met.D.Disk.counts_now old c.requires.old c.reserve.new.self.disk (end_of (refused (fault_of f)))
     (refused f ≡ refused frames.Disk) (not_whole (fault_of f)) (cut_means f) here.still)
 
 pub returns-in_err-sync-clause-starts : goal.returns-in_err-sync-clause-starts
 returns-in_err-sync-clause-starts g c =
+    let d = g.D.Disk in
+    let old = c.args.frames.now in
     let f = c.in_err-sync.field-0.0 in
+    let made = c.in_ok-reserve.ensures in
     let call = c.in_err-sync.ensures in
-    let runs : c.reserve.new.self.halted ≡ false = c.in_ok-reserve.ensures.answer.halts ∙ c.requires.runs in
+    let runs : c.reserve.new.self.halted ≡ false = made.answer.halts ∙ c.requires.runs in
+    let few : (old_state_in old.shape.block old.shape.records old.frames).boot < 4294967295 = few_boots (cut_block old.shape.block c.args.blocks.now) (state_of c.args.index.now) _ c.requires.state c.requires.boots in
     let p = err_from_is_err_and c.from_residual-in_err-sync.result c.from_residual-in_err-sync.ensures.1 in
-    rw (p.1, p.2) (sync_over g.D.Disk g.met.D.Disk.only_now g.met.D.Disk.counts_now c.args.frames.now c.requires.old c.reserve.new.self.disk _ c.in_ok-reserve.ensures.still (few_boots (cut_block c.args.frames.now.shape.block c.args.blocks.now) (state_of c.args.index.now) _ c.requires.state c.requires.boots) c.sync.new.self.disk f
-    (λ told. c.requires.read told c.requires.runs) c.in_ok-reserve.ensures.certain call.content call.certain call.crash call.time call.run
+    rw (p.1, p.2) (sync_over d g.met.D.Disk.only_now g.met.D.Disk.counts_now old c.requires.old c.reserve.new.self.disk _ made.still few c.sync.new.self.disk f
+    (λ told. c.requires.read told c.requires.runs) made.certain call.content call.certain call.crash call.time call.run
     (λ is. call.no_memory (ap (refused {E = FrameFault}) is)) (λ is. halted_not (sym (call.answer.only_then (ap (refused {E = FrameFault}) is)) ∙ runs)) call.cause)
   where
     halted_not : true ≡ false → ⊥
@@ -65,31 +74,40 @@ returns-in_err-sync-clause-starts g c =
 
 pub returns-in_err-bring_over-clause-starts : goal.returns-in_err-bring_over-clause-starts
 returns-in_err-bring_over-clause-starts g c =
+    let d = g.D.Disk in
+    let old = c.args.frames.now in
+    let listed = c.args.listed.items in
+    let blocks = c.args.blocks.now in
+    let held = c.sync.new.self in
     let new = c.bring_over.new.self.disk in
     let f = c.in_err-bring_over.field-0.0 in
+    let made = c.in_ok-reserve.ensures in
+    let synced = c.in_ok-sync.ensures in
     let call = c.in_err-bring_over.ensures in
-    let shape : c.sync.new.self.shape ≡ c.args.frames.now.shape = c.in_ok-sync.ensures.same.shape ∙ c.in_ok-reserve.ensures.same.shape in
-    let listed_is : c.sync.new.self.frames ≡ c.args.frames.now.frames = c.in_ok-sync.ensures.same.frames ∙ c.in_ok-reserve.ensures.same.frames in
-    let runs : c.sync.new.self.halted ≡ false = c.in_ok-sync.ensures.answer.halts ∙ c.in_ok-reserve.ensures.answer.halts ∙ c.requires.runs in
-    let ahead = ahead_old g.D.Disk.has_room g.met.D.Disk.room_for_less c.reserve.new.self c.deref.result.now c.len.result c.args.blocks.now
-    (subst (λ (s : Shape). is_old s ≡ true) (sym c.in_ok-reserve.ensures.same.shape) c.requires.old) (search rules) c.in_ok-reserve.ensures.room in
-    let never = call.room (room_less g.D.Disk.has_room g.met.D.Disk.room_for_less c.sync.new.self _ _ _ _ _ _ (omega arith) (omega (arith, (ap size_of c.deref.ensures.value))) (omega (arith, (ap size_of c.deref.ensures.value)))
-    (c.in_ok-sync.ensures.left 13 _ _ ahead)) in
-    let is : f ≡ frames.Disk = disk_failed f c.sync.new.self.halted runs call.answer.only_then never in
-    let change = subst (λ (fs : List Frame). Change g.D.Disk 8 (OpensAs c.args.frames.now.shape fs true) (IsBroughtOver c.args.frames.now.shape c.args.listed.items c.args.blocks.now) c.sync.new.self.disk new Cut) listed_is
-    (subst (λ (s : Shape). Change g.D.Disk 8 (OpensAs s c.sync.new.self.frames true) (IsBroughtOver s c.args.listed.items c.args.blocks.now) c.sync.new.self.disk new Cut) shape
-    (subst (λ (fault : FrameFault). Change g.D.Disk 8 (OpensAs c.sync.new.self.shape c.sync.new.self.frames true) (IsBroughtOver c.sync.new.self.shape c.args.listed.items c.args.blocks.now) c.sync.new.self.disk new
+    let few : (old_state_in old.shape.block old.shape.records old.frames).boot < 4294967295 = few_boots (cut_block old.shape.block c.args.blocks.now) (state_of c.args.index.now) _ c.requires.state c.requires.boots in
+    let shape : held.shape ≡ old.shape = synced.same.shape ∙ made.same.shape in
+    let listed_is : held.frames ≡ old.frames = synced.same.frames ∙ made.same.frames in
+    let runs : held.halted ≡ false = synced.answer.halts ∙ made.answer.halts ∙ c.requires.runs in
+    let size = ap size_of c.deref.ensures.value in
+    let ahead = ahead_old d.has_room g.met.D.Disk.room_for_less c.reserve.new.self c.deref.result.now c.len.result blocks
+    (subst (λ (s : Shape). is_old s ≡ true) (sym made.same.shape) c.requires.old) (search rules) made.room in
+    let never = call.room (room_less d.has_room g.met.D.Disk.room_for_less held _ _ _ _ _ _ (omega arith) (omega (arith, size)) (omega (arith, size))
+    (synced.left 13 _ _ ahead)) in
+    let is : f ≡ frames.Disk = disk_failed f held.halted runs call.answer.only_then never in
+    let change = subst (λ (fs : List Frame). Change d 8 (OpensAs old.shape fs true) (IsBroughtOver old.shape listed blocks) held.disk new Cut) listed_is
+    (subst (λ (s : Shape). Change d 8 (OpensAs s held.frames true) (IsBroughtOver s listed blocks) held.disk new Cut) shape
+    (subst (λ (fault : FrameFault). Change d 8 (OpensAs held.shape held.frames true) (IsBroughtOver held.shape listed blocks) held.disk new
     (lists.end_of (refused fault))) is call.change)) in
-    let stands : (told : g.D.Disk.tells) → c.args.frames.now.closed ≡ true → Stands g.D.Disk (OpensAs c.args.frames.now.shape c.args.frames.now.frames true) c.sync.new.self.disk = λ told closed. record {
-      only = c.in_ok-sync.ensures.certain_now told;
-      has = subst (λ (b : Bool). OpensAs c.args.frames.now.shape c.args.frames.now.frames b (g.D.Disk.seen c.sync.new.self.disk)) (c.in_ok-sync.ensures.same.closed ∙ c.in_ok-reserve.ensures.same.closed ∙ closed)
-          (subst (λ (fs : List Frame). OpensAs c.args.frames.now.shape fs c.sync.new.self.closed (g.D.Disk.seen c.sync.new.self.disk)) listed_is
-          (subst (λ (s : Shape). OpensAs s c.sync.new.self.frames c.sync.new.self.closed (g.D.Disk.seen c.sync.new.self.disk)) shape (c.in_ok-sync.ensures.read told runs).opens));
+    let stands : (told : d.tells) → old.closed ≡ true → Stands d (OpensAs old.shape old.frames true) held.disk = λ told closed. record {
+      only = synced.certain_now told;
+      has = subst (λ (b : Bool). OpensAs old.shape old.frames b (d.seen held.disk)) (synced.same.closed ∙ made.same.closed ∙ closed)
+          (subst (λ (fs : List Frame). OpensAs old.shape fs held.closed (d.seen held.disk)) listed_is
+          (subst (λ (s : Shape). OpensAs s held.frames held.closed (d.seen held.disk)) shape (synced.read told runs).opens));
     } in
-    let after = λ (image : List ℕ) (at : IsBroughtOver c.args.frames.now.shape c.args.listed.items c.args.blocks.now image). subst (λ (s : StateOf Version). StandsFor (formed New c.args.frames.now.shape) s image)
-    c.requires.state (after_over c.args.frames.now.shape c.args.listed.items c.args.blocks.now image (state_of c.args.index.now) c.requires.shape c.requires.leads c.requires.slots at) in
-    let over = bring_cut g.D.Disk g.met.D.Disk.only_now g.met.D.Disk.counts_now c.args.frames.now c.requires.old c.reserve.new.self.disk _ c.in_ok-reserve.ensures.still (few_boots (cut_block c.args.frames.now.shape.block c.args.blocks.now) (state_of c.args.index.now) _ c.requires.state c.requires.boots) c.sync.new.self.disk _ _ refl c.in_ok-sync.ensures.time
-    c.in_ok-sync.ensures.crash c.in_ok-sync.ensures.run c.in_ok-sync.ensures.cause stands (IsBroughtOver c.args.frames.now.shape c.args.listed.items c.args.blocks.now) after new change in
+    let after = λ (image : List ℕ) (at : IsBroughtOver old.shape listed blocks image). subst (λ (s : StateOf Version). StandsFor (formed New old.shape) s image)
+    c.requires.state (after_over old.shape listed blocks image (state_of c.args.index.now) c.requires.shape c.requires.leads c.requires.slots at) in
+    let over = bring_cut d g.met.D.Disk.only_now g.met.D.Disk.counts_now old c.requires.old c.reserve.new.self.disk _ made.still few held.disk _ _ refl synced.time
+    synced.crash synced.run synced.cause stands (IsBroughtOver old.shape listed blocks) after new change in
     let p = err_from_is_err_and c.from_residual-in_err-bring_over.result c.from_residual-in_err-bring_over.ensures.1 in
     rw (p.1, p.2, is) over
 
@@ -97,28 +115,39 @@ returns-in_err-bring_over-clause-starts g c =
 
 pub append_count-requires-clause-may : goal.append_count-requires-clause-may
 append_count-requires-clause-may g c =
-    let runs : c.bring_over.new.self.halted ≡ false = c.in_ok-bring_over.ensures.answer.halts ∙ c.in_ok-sync.ensures.answer.halts ∙ c.in_ok-reserve.ensures.answer.halts ∙ c.requires.runs in
-    may_over g.D.Disk c.args.frames.now.shape c.args.listed.items (state_of c.args.index.now) c.bring_over.new.self
-    (c.in_ok-bring_over.ensures.ok.shape ∙ ap (formed Moved) (c.in_ok-sync.ensures.same.shape ∙ c.in_ok-reserve.ensures.same.shape)) runs c.in_ok-bring_over.ensures.ok.frames c.requires.leads
-    (λ told. record { only = (c.in_ok-bring_over.ensures.change.whole refl told).only; shows = c.in_ok-bring_over.ensures.read told runs; closed = c.in_ok-bring_over.ensures.ok.closed })
+    let here = c.in_ok-bring_over.ensures in
+    let new = c.bring_over.new.self in
+    let runs : new.halted ≡ false = here.answer.halts ∙ c.in_ok-sync.ensures.answer.halts ∙ c.in_ok-reserve.ensures.answer.halts ∙ c.requires.runs in
+    may_over g.D.Disk c.args.frames.now.shape c.args.listed.items (state_of c.args.index.now) new
+    (here.ok.shape ∙ ap (formed Moved) (c.in_ok-sync.ensures.same.shape ∙ c.in_ok-reserve.ensures.same.shape)) runs here.ok.frames c.requires.leads
+    (λ told. record { only = (here.change.whole refl told).only; shows = here.read told runs; closed = here.ok.closed })
 
 pub append_count-requires-clause-room : goal.append_count-requires-clause-room
 append_count-requires-clause-room g c =
+    let d = g.D.Disk in
+    let held = c.sync.new.self in
+    let new = c.bring_over.new.self in
+    let blocks = c.args.blocks.now in
+    let made = c.in_ok-reserve.ensures in
+    let synced = c.in_ok-sync.ensures in
+    let call = c.in_ok-bring_over.ensures in
+    let size = ap size_of c.deref.ensures.value in
     let block = λ (a b : Shape) (same : a ≡ b). ap (λ (s : Shape). s.block) same in
-    let ahead = ahead_old g.D.Disk.has_room g.met.D.Disk.room_for_less c.reserve.new.self c.deref.result.now c.len.result c.args.blocks.now
-    (subst (λ (s : Shape). is_old s ≡ true) (sym c.in_ok-reserve.ensures.same.shape) c.requires.old) (search rules) c.in_ok-reserve.ensures.room in
-    let bytes = c.sync.new.self.shape.block + c.len.result + 7 in
-    let before : HasRoom g.D.Disk.has_room c.sync.new.self (5 + 8) (bytes + (length c.args.blocks.now + (size_of c.args.listed.items + 34))) (c.len.result + 6) =
-    room_less g.D.Disk.has_room g.met.D.Disk.room_for_less c.sync.new.self _ _ _ _ _ _ (omega arith)
-    (omega (arith, (ap size_of c.deref.ensures.value), block c.sync.new.self.shape c.reserve.new.self.shape c.in_ok-sync.ensures.same.shape)) (omega arith) (c.in_ok-sync.ensures.left 13 _ _ ahead) in
-    let after = c.in_ok-bring_over.ensures.left 5 bytes (c.len.result + 6) before in
-    room_less g.D.Disk.has_room g.met.D.Disk.room_for_less c.bring_over.new.self _ _ _ _ _ _ (omega arith)
-    (omega (arith, block c.bring_over.new.self.shape (formed Moved c.sync.new.self.shape) c.in_ok-bring_over.ensures.ok.shape, c.len.ensures)) (omega (arith, c.len.ensures)) after
+    let ahead = ahead_old d.has_room g.met.D.Disk.room_for_less c.reserve.new.self c.deref.result.now c.len.result blocks
+    (subst (λ (s : Shape). is_old s ≡ true) (sym made.same.shape) c.requires.old) (search rules) made.room in
+    let bytes = held.shape.block + c.len.result + 7 in
+    let before : HasRoom d.has_room held (5 + 8) (bytes + (length blocks + (size_of c.args.listed.items + 34))) (c.len.result + 6) =
+    room_less d.has_room g.met.D.Disk.room_for_less held _ _ _ _ _ _ (omega arith)
+    (omega (arith, size, block held.shape c.reserve.new.self.shape synced.same.shape)) (omega arith) (synced.left 13 _ _ ahead) in
+    let after = call.left 5 bytes (c.len.result + 6) before in
+    room_less d.has_room g.met.D.Disk.room_for_less new _ _ _ _ _ _ (omega arith)
+    (omega (arith, block new.shape (formed Moved held.shape) call.ok.shape, c.len.ensures)) (omega (arith, c.len.ensures)) after
 
 pub returns-clause-made : goal.returns-clause-made
 returns-clause-made g c =
-    let is : changed (indexes.limits_of c.args.index.now) (forms.Kept (Boot (c.boot.result + 1))) (state_of c.args.index.now) ≡ booted (c.args.index.now.boot + 1) (state_of c.args.index.now) =
-    counted (indexes.limits_of c.args.index.now) (c.boot.result + 1) (state_of c.args.index.now) ∙ ap (λ (n : ℕ). booted (n + 1) (state_of c.args.index.now)) c.boot.ensures in
+    let st = state_of c.args.index.now in
+    let is : changed (indexes.limits_of c.args.index.now) (forms.Kept (Boot (c.boot.result + 1))) st ≡ booted (c.args.index.now.boot + 1) st =
+    counted (indexes.limits_of c.args.index.now) (c.boot.result + 1) st ∙ ap (λ (n : ℕ). booted (n + 1) st) c.boot.ensures in
     subst (λ (s : StateOf Entry). OnOk c.append_count.result (state_of c.append_count.new.index ≡ s)) is c.append_count.ensures.made
 
 pub returns-clause-listed : goal.returns-clause-listed
@@ -136,14 +165,21 @@ returns-clause-listed g c =
 
 pub returns-clause-lie : goal.returns-clause-lie
 returns-clause-lie g c = λ told.
+    let d = g.D.Disk in
+    let old = c.args.frames.now in
+    let blocks = c.args.blocks.now in
+    let st = state_of c.args.index.now in
+    let mid = c.bring_over.new.self in
     let new = c.append_count.new.frames in
-    let shape : c.sync.new.self.shape ≡ c.args.frames.now.shape = c.in_ok-sync.ensures.same.shape ∙ c.in_ok-reserve.ensures.same.shape in
-    let stand = subst (λ (s : Shape). IsBroughtOver s c.args.listed.items c.args.blocks.now (g.D.Disk.seen c.bring_over.new.self.disk)) shape (c.in_ok-bring_over.ensures.change.whole refl told).has in
-    let over : c.bring_over.new.self.shape ≡ formed Moved c.args.frames.now.shape = c.in_ok-bring_over.ensures.ok.shape ∙ ap (formed Moved) shape in
-    let slots = slots_after g.D.Disk 4 _ _ (formed Moved c.args.frames.now.shape) (g.D.Disk.seen c.bring_over.new.self.disk) c.bring_over.new.self new.disk c.append_count.result over
-    (slots_same (formed Moved c.args.frames.now.shape) None (g.D.Disk.seen c.bring_over.new.self.disk) (g.D.Disk.seen c.bring_over.new.self.disk) refl) c.append_count.ensures.change told in
-    each c.append_count.result slots (λ kept. slots_imply (IsAmong c.args.frames.now.shape.block (length c.args.blocks.now)) (LiesIn (formed Moved c.args.frames.now.shape) c.args.blocks.now (g.D.Disk.seen new.disk))
-    (λ slot. lies c.args.frames.now.shape c.args.blocks.now (g.D.Disk.seen c.bring_over.new.self.disk) (g.D.Disk.seen new.disk) c.requires.blocks.count slot c.requires.shape c.requires.blocks.long c.requires.blocks.slots stand.stand kept) (state_of c.args.index.now) c.requires.slots)
+    let call = c.in_ok-bring_over.ensures in
+    let shape : c.sync.new.self.shape ≡ old.shape = c.in_ok-sync.ensures.same.shape ∙ c.in_ok-reserve.ensures.same.shape in
+    let stand = subst (λ (s : Shape). IsBroughtOver s c.args.listed.items blocks (d.seen mid.disk)) shape (call.change.whole refl told).has in
+    let over : mid.shape ≡ formed Moved old.shape = call.ok.shape ∙ ap (formed Moved) shape in
+    let slots = slots_after d 4 _ _ (formed Moved old.shape) (d.seen mid.disk) mid new.disk c.append_count.result over
+    (slots_same (formed Moved old.shape) None (d.seen mid.disk) (d.seen mid.disk) refl) c.append_count.ensures.change told in
+    let are = c.requires.blocks in
+    each c.append_count.result slots (λ kept. slots_imply (IsAmong old.shape.block (length blocks)) (LiesIn (formed Moved old.shape) blocks (d.seen new.disk))
+    (λ slot. lies old.shape blocks (d.seen mid.disk) (d.seen new.disk) are.count slot c.requires.shape are.long are.slots stand.stand kept) st c.requires.slots)
   where
     each : {E P Q : Type 0} (r : Result (Unit {0}) E) → OnOk r P → (P → Q) → OnOk r Q
     each (Ok value) is then = then is
@@ -151,51 +187,67 @@ returns-clause-lie g c = λ told.
 
 pub returns-clause-settled : goal.returns-clause-settled
 returns-clause-settled g c =
-    let runs : c.bring_over.new.self.halted ≡ false = c.in_ok-bring_over.ensures.answer.halts ∙ c.in_ok-sync.ensures.answer.halts ∙ c.in_ok-reserve.ensures.answer.halts ∙ c.requires.runs in
-    let may = may_over g.D.Disk c.args.frames.now.shape c.args.listed.items (state_of c.args.index.now) c.bring_over.new.self
-    (c.in_ok-bring_over.ensures.ok.shape ∙ ap (formed Moved) (c.in_ok-sync.ensures.same.shape ∙ c.in_ok-reserve.ensures.same.shape)) runs c.in_ok-bring_over.ensures.ok.frames c.requires.leads
-    (λ told. record { only = (c.in_ok-bring_over.ensures.change.whole refl told).only; shows = c.in_ok-bring_over.ensures.read told runs; closed = c.in_ok-bring_over.ensures.ok.closed }) in
-    settled_after g.D.Disk 4 None _ _ c.bring_over.new.self c.append_count.new.frames c.append_count.result may c.append_count.ensures.step c.append_count.ensures.change
+    let count = c.append_count.ensures in
+    let here = c.in_ok-bring_over.ensures in
+    let mid = c.bring_over.new.self in
+    let runs : mid.halted ≡ false = here.answer.halts ∙ c.in_ok-sync.ensures.answer.halts ∙ c.in_ok-reserve.ensures.answer.halts ∙ c.requires.runs in
+    let may = may_over g.D.Disk c.args.frames.now.shape c.args.listed.items (state_of c.args.index.now) mid
+    (here.ok.shape ∙ ap (formed Moved) (c.in_ok-sync.ensures.same.shape ∙ c.in_ok-reserve.ensures.same.shape)) runs here.ok.frames c.requires.leads
+    (λ told. record { only = (here.change.whole refl told).only; shows = here.read told runs; closed = here.ok.closed }) in
+    settled_after g.D.Disk 4 None _ _ mid c.append_count.new.frames c.append_count.result may count.step count.change
 
 pub returns-clause-starts : goal.returns-clause-starts
 returns-clause-starts g c =
+    let d = g.D.Disk in
+    let old = c.args.frames.now in
+    let listed = c.args.listed.items in
+    let blocks = c.args.blocks.now in
+    let st = state_of c.args.index.now in
+    let held = c.sync.new.self in
+    let mid = c.bring_over.new.self in
     let new = c.append_count.new.frames.disk in
-    let shape : c.sync.new.self.shape ≡ c.args.frames.now.shape = c.in_ok-sync.ensures.same.shape ∙ c.in_ok-reserve.ensures.same.shape in
-    let listed_is : c.sync.new.self.frames ≡ c.args.frames.now.frames = c.in_ok-sync.ensures.same.frames ∙ c.in_ok-reserve.ensures.same.frames in
-    let runs : c.sync.new.self.halted ≡ false = c.in_ok-sync.ensures.answer.halts ∙ c.in_ok-reserve.ensures.answer.halts ∙ c.requires.runs in
-    let change = subst (λ (fs : List Frame). Change g.D.Disk 8 (OpensAs c.args.frames.now.shape fs true) (IsBroughtOver c.args.frames.now.shape c.args.listed.items c.args.blocks.now) c.sync.new.self.disk c.bring_over.new.self.disk Whole) listed_is
-    (subst (λ (s : Shape). Change g.D.Disk 8 (OpensAs s c.sync.new.self.frames true) (IsBroughtOver s c.args.listed.items c.args.blocks.now) c.sync.new.self.disk c.bring_over.new.self.disk Whole) shape c.in_ok-bring_over.ensures.change) in
-    let stands : (told : g.D.Disk.tells) → c.args.frames.now.closed ≡ true → Stands g.D.Disk (OpensAs c.args.frames.now.shape c.args.frames.now.frames true) c.sync.new.self.disk = λ told closed. record {
-      only = c.in_ok-sync.ensures.certain_now told;
-      has = subst (λ (b : Bool). OpensAs c.args.frames.now.shape c.args.frames.now.frames b (g.D.Disk.seen c.sync.new.self.disk)) (c.in_ok-sync.ensures.same.closed ∙ c.in_ok-reserve.ensures.same.closed ∙ closed)
-          (subst (λ (fs : List Frame). OpensAs c.args.frames.now.shape fs c.sync.new.self.closed (g.D.Disk.seen c.sync.new.self.disk)) listed_is
-          (subst (λ (s : Shape). OpensAs s c.sync.new.self.frames c.sync.new.self.closed (g.D.Disk.seen c.sync.new.self.disk)) shape (c.in_ok-sync.ensures.read told runs).opens));
+    let made = c.in_ok-reserve.ensures in
+    let synced = c.in_ok-sync.ensures in
+    let call = c.in_ok-bring_over.ensures in
+    let count = c.append_count.ensures in
+    let few : (old_state_in old.shape.block old.shape.records old.frames).boot < 4294967295 = few_boots (cut_block old.shape.block c.args.blocks.now) (state_of c.args.index.now) _ c.requires.state c.requires.boots in
+    let shape : held.shape ≡ old.shape = synced.same.shape ∙ made.same.shape in
+    let listed_is : held.frames ≡ old.frames = synced.same.frames ∙ made.same.frames in
+    let runs : held.halted ≡ false = synced.answer.halts ∙ made.answer.halts ∙ c.requires.runs in
+    let change = subst (λ (fs : List Frame). Change d 8 (OpensAs old.shape fs true) (IsBroughtOver old.shape listed blocks) held.disk mid.disk Whole) listed_is
+    (subst (λ (s : Shape). Change d 8 (OpensAs s held.frames true) (IsBroughtOver s listed blocks) held.disk mid.disk Whole) shape call.change) in
+    let stands : (told : d.tells) → old.closed ≡ true → Stands d (OpensAs old.shape old.frames true) held.disk = λ told closed. record {
+      only = synced.certain_now told;
+      has = subst (λ (b : Bool). OpensAs old.shape old.frames b (d.seen held.disk)) (synced.same.closed ∙ made.same.closed ∙ closed)
+          (subst (λ (fs : List Frame). OpensAs old.shape fs held.closed (d.seen held.disk)) listed_is
+          (subst (λ (s : Shape). OpensAs s held.frames held.closed (d.seen held.disk)) shape (synced.read told runs).opens));
     } in
-    let after = λ (image : List ℕ) (at : IsBroughtOver c.args.frames.now.shape c.args.listed.items c.args.blocks.now image). subst (λ (s : StateOf Version). StandsFor (formed New c.args.frames.now.shape) s image)
-    c.requires.state (after_over c.args.frames.now.shape c.args.listed.items c.args.blocks.now image (state_of c.args.index.now) c.requires.shape c.requires.leads c.requires.slots at) in
-    let over : c.bring_over.new.self.shape ≡ formed Moved c.args.frames.now.shape = c.in_ok-bring_over.ensures.ok.shape ∙ ap (formed Moved) shape in
+    let after = λ (image : List ℕ) (at : IsBroughtOver old.shape listed blocks image). subst (λ (s : StateOf Version). StandsFor (formed New old.shape) s image)
+    c.requires.state (after_over old.shape listed blocks image st c.requires.shape c.requires.leads c.requires.slots at) in
+    let over : mid.shape ≡ formed Moved old.shape = call.ok.shape ∙ ap (formed Moved) shape in
     let item = forms.Kept (Boot (c.boot.result + 1)) in
-    let next : changed (indexes.limits_of c.args.index.now) item (state_of c.args.index.now) ≡ booted ((state_of c.args.index.now).boot + 1) (state_of c.args.index.now) =
-    counted (indexes.limits_of c.args.index.now) (c.boot.result + 1) (state_of c.args.index.now) ∙ ap (λ (n : ℕ). booted (n + 1) (state_of c.args.index.now)) c.boot.ensures in
-    let counting = subst (λ (s : StateOf Entry). Change g.D.Disk 4 (IsUnchanged (formed Moved c.args.frames.now.shape) None (state_of c.args.index.now) (g.D.Disk.seen c.bring_over.new.self.disk))
-    (IsChanged (formed Moved c.args.frames.now.shape) None s (g.D.Disk.seen c.bring_over.new.self.disk)) c.bring_over.new.self.disk new (end_of c.append_count.result)) next
-    (subst (λ (s : Shape). Change g.D.Disk 4 (IsUnchanged s None (state_of c.args.index.now) (g.D.Disk.seen c.bring_over.new.self.disk))
-    (IsChanged s None (changed (indexes.limits_of c.args.index.now) item (state_of c.args.index.now)) (g.D.Disk.seen c.bring_over.new.self.disk)) c.bring_over.new.self.disk new (end_of c.append_count.result)) over c.append_count.ensures.change) in
-    let now : c.bring_over.new.self.halted ≡ false = c.in_ok-bring_over.ensures.answer.halts ∙ runs in
-    let may = may_over g.D.Disk c.args.frames.now.shape c.args.listed.items (state_of c.args.index.now) c.bring_over.new.self over now c.in_ok-bring_over.ensures.ok.frames c.requires.leads
-    (λ told. record { only = (c.in_ok-bring_over.ensures.change.whole refl told).only; shows = c.in_ok-bring_over.ensures.read told now; closed = c.in_ok-bring_over.ensures.ok.closed }) in
-    let here = λ (told : g.D.Disk.tells). subst (λ (s : Shape). Stands g.D.Disk (IsUnchanged s None (state_of c.args.index.now) (g.D.Disk.seen c.bring_over.new.self.disk)) c.bring_over.new.self.disk) over
-    (stands_before g.D.Disk None (state_of c.args.index.now) c.bring_over.new.self may told) in
-    let so_far = λ (told : g.D.Disk.tells) (image : List ℕ) (at : IsUnchanged (formed Moved c.args.frames.now.shape) None (state_of c.args.index.now) (g.D.Disk.seen c.bring_over.new.self.disk) image).
-    subst (λ (s : StateOf Version). StandsFor (formed New c.args.frames.now.shape) s image) c.requires.state
-    (moved_stands c.args.frames.now.shape c.args.blocks.now (g.D.Disk.seen c.bring_over.new.self.disk) image c.requires.blocks.count (state_of c.args.index.now) c.requires.shape c.requires.blocks.long c.requires.blocks.slots (change.whole refl told).has.stand c.requires.slots
+    let next : changed (indexes.limits_of c.args.index.now) item st ≡ booted (st.boot + 1) st =
+    counted (indexes.limits_of c.args.index.now) (c.boot.result + 1) st ∙ ap (λ (n : ℕ). booted (n + 1) st) c.boot.ensures in
+    let counting = subst (λ (s : StateOf Entry). Change d 4 (IsUnchanged (formed Moved old.shape) None st (d.seen mid.disk))
+    (IsChanged (formed Moved old.shape) None s (d.seen mid.disk)) mid.disk new (end_of c.append_count.result)) next
+    (subst (λ (s : Shape). Change d 4 (IsUnchanged s None st (d.seen mid.disk))
+    (IsChanged s None (changed (indexes.limits_of c.args.index.now) item st) (d.seen mid.disk)) mid.disk new (end_of c.append_count.result)) over count.change) in
+    let now : mid.halted ≡ false = call.answer.halts ∙ runs in
+    let may = may_over d old.shape listed st mid over now call.ok.frames c.requires.leads
+    (λ told. record { only = (call.change.whole refl told).only; shows = call.read told now; closed = call.ok.closed }) in
+    let here = λ (told : d.tells). subst (λ (s : Shape). Stands d (IsUnchanged s None st (d.seen mid.disk)) mid.disk) over
+    (stands_before d None st mid may told) in
+    let are = c.requires.blocks in
+    let so_far = λ (told : d.tells) (image : List ℕ) (at : IsUnchanged (formed Moved old.shape) None st (d.seen mid.disk) image).
+    subst (λ (s : StateOf Version). StandsFor (formed New old.shape) s image) c.requires.state
+    (moved_stands old.shape blocks (d.seen mid.disk) image are.count st c.requires.shape are.long are.slots (change.whole refl told).has.stand c.requires.slots
     at.slots at.opens) in
-    let later = λ (told : g.D.Disk.tells) (image : List ℕ) (at : IsChanged (formed Moved c.args.frames.now.shape) None (booted ((state_of c.args.index.now).boot + 1) (state_of c.args.index.now)) (g.D.Disk.seen c.bring_over.new.self.disk) image).
-    subst (λ (s : StateOf Version). StandsFor (formed New c.args.frames.now.shape) s image)
-    (counted_seen (cut_block c.args.frames.now.shape.block c.args.blocks.now) (state_of c.args.index.now) ∙ ap (λ (s : StateOf Version). booted (s.boot + 1) s) c.requires.state)
-    (moved_stands c.args.frames.now.shape c.args.blocks.now (g.D.Disk.seen c.bring_over.new.self.disk) image c.requires.blocks.count (booted ((state_of c.args.index.now).boot + 1) (state_of c.args.index.now)) c.requires.shape c.requires.blocks.long c.requires.blocks.slots
+    let later = λ (told : d.tells) (image : List ℕ) (at : IsChanged (formed Moved old.shape) None (booted (st.boot + 1) st) (d.seen mid.disk) image).
+    subst (λ (s : StateOf Version). StandsFor (formed New old.shape) s image)
+    (counted_seen (cut_block old.shape.block blocks) st ∙ ap (λ (s : StateOf Version). booted (s.boot + 1) s) c.requires.state)
+    (moved_stands old.shape blocks (d.seen mid.disk) image are.count (booted (st.boot + 1) st) c.requires.shape are.long are.slots
     (change.whole refl told).has.stand c.requires.slots at.slots at.opens) in
-    let ends = tried_ends c.append_count.result c.append_count.ensures.step.only c.append_count.ensures.no_memory in
-    count_over g.D.Disk g.met.D.Disk.only_now g.met.D.Disk.counts_now c.args.frames.now c.requires.old c.reserve.new.self.disk _ c.in_ok-reserve.ensures.still (few_boots (cut_block c.args.frames.now.shape.block c.args.blocks.now) (state_of c.args.index.now) _ c.requires.state c.requires.boots) c.sync.new.self.disk _ _ refl c.in_ok-sync.ensures.time
-    c.in_ok-sync.ensures.crash c.in_ok-sync.ensures.run c.in_ok-sync.ensures.cause stands (IsBroughtOver c.args.frames.now.shape c.args.listed.items c.args.blocks.now) after c.bring_over.new.self.disk new (end_of c.append_count.result) _ _ change counting
+    let ends = tried_ends c.append_count.result count.step.only count.no_memory in
+    count_over d g.met.D.Disk.only_now g.met.D.Disk.counts_now old c.requires.old c.reserve.new.self.disk _ made.still few held.disk _ _ refl synced.time
+    synced.crash synced.run synced.cause stands (IsBroughtOver old.shape listed blocks) after mid.disk new (end_of c.append_count.result) _ _ change counting
     so_far later here ends.0 ends.1

@@ -46,8 +46,9 @@ boots_few block index st is few = omega (arith, few, boot-resolved block index, 
 
 pub returns-then-boot-clause-starts : goal.returns-then-boot-clause-starts
 returns-then-boot-clause-starts g c =
-    refused_over g.D.Disk g.met.D.Disk.only_now g.met.D.Disk.counts_now c.args.frames.now c.requires.old c.args.frames.now.disk NotBegun ⊥ (λ is. absurd cc) (λ is. absurd cc)
-    (still_none g.D.Disk c.args.frames.now.disk)
+    let old = c.args.frames.now in
+    refused_over g.D.Disk g.met.D.Disk.only_now g.met.D.Disk.counts_now old c.requires.old old.disk NotBegun ⊥ (λ is. absurd cc) (λ is. absurd cc)
+    (still_none g.D.Disk old.disk)
 
 pub returns-then-boot-clause-worn : goal.returns-then-boot-clause-worn
 returns-then-boot-clause-worn g c =
@@ -57,15 +58,17 @@ returns-then-boot-clause-worn g c =
 
 pub returns-in_err-vec-clause-starts : goal.returns-in_err-vec-clause-starts
 returns-in_err-vec-clause-starts g c =
+    let old = c.args.frames.now in
     let p = err_from_is_err_and c.from_residual.result c.from_residual.ensures.1 in
-    rw (p.1, p.2) (refused_over g.D.Disk g.met.D.Disk.only_now g.met.D.Disk.counts_now c.args.frames.now c.requires.old c.args.frames.now.disk NotBegun ⊥ (λ is. absurd cc)
-    (λ is. absurd cc) (still_none g.D.Disk c.args.frames.now.disk))
+    rw (p.1, p.2) (refused_over g.D.Disk g.met.D.Disk.only_now g.met.D.Disk.counts_now old c.requires.old old.disk NotBegun ⊥ (λ is. absurd cc)
+    (λ is. absurd cc) (still_none g.D.Disk old.disk))
 
 pub returns-in_err-brought-clause-starts : goal.returns-in_err-brought-clause-starts
 returns-in_err-brought-clause-starts g c =
+    let old = c.args.frames.now in
     let p = err_from_is_err_and c.from_residual-in_err-brought.result c.from_residual-in_err-brought.ensures.1 in
-    rw (p.1, p.2) (refused_over g.D.Disk g.met.D.Disk.only_now g.met.D.Disk.counts_now c.args.frames.now c.requires.old c.args.frames.now.disk NotBegun ⊥ (λ is. absurd cc)
-    (λ is. absurd cc) (still_none g.D.Disk c.args.frames.now.disk))
+    rw (p.1, p.2) (refused_over g.D.Disk g.met.D.Disk.only_now g.met.D.Disk.counts_now old c.requires.old old.disk NotBegun ⊥ (λ is. absurd cc)
+    (λ is. absurd cc) (still_none g.D.Disk old.disk))
 
 -- ---- what it is brought over to
 
@@ -103,25 +106,28 @@ start_over-requires-clause-leads g c =
 
 pub start_over-requires-clause-slots : goal.start_over-requires-clause-slots
 start_over-requires-clause-slots g c =
-    subst (λ (bytes : List ℕ). AllSlots (IsAmong c.args.frames.now.shape.block (length bytes)) (state_of c.in_ok-brought.brought.index)) (sym c.deref.ensures.value)
+    let shape = c.args.frames.now.shape in
+    subst (λ (bytes : List ℕ). AllSlots (IsAmong shape.block (length bytes)) (state_of c.in_ok-brought.brought.index)) (sym c.deref.ensures.value)
     (in_shape c.args.frames.now.shape c.requires.block c.requires.records c.in_ok-brought.ensures.over).among
 
 pub start_over-requires-clause-state : goal.start_over-requires-clause-state
 start_over-requires-clause-state g c =
+    let shape = c.args.frames.now.shape in
     let over = in_shape c.args.frames.now.shape c.requires.block c.requires.records c.in_ok-brought.ensures.over in
-    ap (λ (bytes : List ℕ). resolved (cut_block c.args.frames.now.shape.block bytes) (state_of c.in_ok-brought.brought.index)) c.deref.ensures.value ∙ over.state
+    ap (λ (bytes : List ℕ). resolved (cut_block shape.block bytes) (state_of c.in_ok-brought.brought.index)) c.deref.ensures.value ∙ over.state
     ∙ ap (λ (n : ℕ). resolved (cached n c.args.folded.blocks) (state_of c.args.folded.index)) c.requires.block ∙ sym c.requires.fold.1.found
 
 -- ---- it was brought over, or that failed
 
 pub returns-in-Ok-clause-standing : goal.returns-in-Ok-clause-standing
 returns-in-Ok-clause-standing g c =
+    let old = c.args.frames.now in
     let here = c.in-Ok.ensures in
-    let zero_is : c.from_vec-zero.result ≡ replicate c.args.frames.now.shape.block 0 = grind (arith, common_steps, c.requires.block) in
-    over_stands c.args.frames.now.shape _ _ _ _ _ _ (in_shape c.args.frames.now.shape c.requires.block c.requires.records c.in_ok-brought.ensures.over) g.D.Disk
+    let zero_is : c.from_vec-zero.result ≡ replicate old.shape.block 0 = grind (arith, common_steps, c.requires.block) in
+    over_stands old.shape _ _ _ _ _ _ (in_shape c.args.frames.now.shape c.requires.block c.requires.records c.in_ok-brought.ensures.over) g.D.Disk
     c.start_over.new.frames c.start_over.new.index c.from_vec-zero.result here.shape c.requires.shape zero_is c.start_over.ensures.limits here.made here.leads
     here.settled
-    (λ told. subst (λ (bytes : List ℕ). AllSlots (LiesIn (formed Moved c.args.frames.now.shape) bytes (g.D.Disk.seen c.start_over.new.frames.disk))
+    (λ told. subst (λ (bytes : List ℕ). AllSlots (LiesIn (formed Moved old.shape) bytes (g.D.Disk.seen c.start_over.new.frames.disk))
     (state_of c.in_ok-brought.brought.index)) c.deref.ensures.value (here.lie told))
 
 pub returns-in-Ok-clause-boots : goal.returns-in-Ok-clause-boots
@@ -132,18 +138,21 @@ returns-in-Ok-clause-boots g c = λ ok.
 
 pub returns-in-Ok-clause-state : goal.returns-in-Ok-clause-state
 returns-in-Ok-clause-state g c =
+    let shape = c.args.frames.now.shape in
     let over = in_shape c.args.frames.now.shape c.requires.block c.requires.records c.in_ok-brought.ensures.over in
     let st = ap (λ (n : ℕ). resolved (cached n c.args.folded.blocks) (state_of c.args.folded.index)) c.requires.block ∙ sym c.requires.fold.1.found in
-    over_counted c.args.frames.now.shape _ _ _ _ _ _ over (state_of c.start_over.new.index) c.in-Ok.ensures.made ∙ ap (λ (s : StateOf Version). booted (s.boot + 1) s) st
+    over_counted shape _ _ _ _ _ _ over (state_of c.start_over.new.index) c.in-Ok.ensures.made ∙ ap (λ (s : StateOf Version). booted (s.boot + 1) s) st
 
 pub returns-in-Ok-clause-listed : goal.returns-in-Ok-clause-listed
 returns-in-Ok-clause-listed g c = λ ok.
+    let old = c.args.frames.now in
     let over = in_shape c.args.frames.now.shape c.requires.block c.requires.records c.in_ok-brought.ensures.over in
     let st = ap (λ (n : ℕ). resolved (cached n c.args.folded.blocks) (state_of c.args.folded.index)) c.requires.block ∙ sym c.requires.fold.1.found in
-    subst (λ (s : StateOf Version). IsAppended false (live s) (size_of c.args.frames.now.frames) 4 (size_of c.start_over.new.frames.frames)) st
-    (over_listed c.args.frames.now.shape _ _ _ _ _ _ over (size_of c.args.frames.now.frames) (size_of c.start_over.new.frames.frames) c.in-Ok.ensures.listed)
+    subst (λ (s : StateOf Version). IsAppended false (live s) (size_of old.frames) 4 (size_of c.start_over.new.frames.frames)) st
+    (over_listed old.shape _ _ _ _ _ _ over (size_of old.frames) (size_of c.start_over.new.frames.frames) c.in-Ok.ensures.listed)
 
 pub returns-in-Err-clause-starts : goal.returns-in-Err-clause-starts
 returns-in-Err-clause-starts g c =
-    rw c.refusal_of.ensures (subst (λ (end : End). StartsOver g.D.Disk (old_state_in c.args.frames.now.shape.block c.args.frames.now.shape.records c.args.frames.now.frames) c.args.frames.now
+    let old = c.args.frames.now in
+    rw c.refusal_of.ensures (subst (λ (end : End). StartsOver g.D.Disk (old_state_in old.shape.block old.shape.records old.frames) old
     c.start_over.new.frames.disk end) (start_ends c.in-Err.fault) c.in-Err.ensures.starts)

@@ -22,46 +22,57 @@ use Rattle.brick_store.proofs.taking_up.take_up.Goals as goal
 
 pub returns-in_err-vec-clause-starts : goal.returns-in_err-vec-clause-starts
 returns-in_err-vec-clause-starts g c =
+    let d = g.D.Disk in
+    let old = c.args.frames.now in
     let p = err_from_is_err_and c.from_residual.result c.from_residual.ensures.1 in
-    rw (p.1, p.2) (refused_starts g.D.Disk g.met.D.Disk.only_now _ _ c.args.frames.now c.args.frames.now.disk NotBegun ⊥ (λ is. absurd cc) (λ is. absurd cc) (still_none g.D.Disk c.args.frames.now.disk))
+    rw (p.1, p.2) (refused_starts d g.met.D.Disk.only_now _ _ old old.disk NotBegun ⊥ (λ is. absurd cc) (λ is. absurd cc) (still_none d old.disk))
 
 pub returns-in_err-blocks-clause-starts : goal.returns-in_err-blocks-clause-starts
 returns-in_err-blocks-clause-starts g c =
+    let d = g.D.Disk in
     let here = c.in_err-blocks.ensures in
     let fault = c.in_err-blocks.field-0.0 in
     let p = err_from_is_err_and c.from_residual-in_err-blocks.result c.from_residual-in_err-blocks.ensures.1 in
-    rw (p.1, p.2) (refused_starts g.D.Disk g.met.D.Disk.only_now _ _ c.args.frames.now c.load.new.frames.disk (stopped_by fault) _ (never_whole fault)
+    rw (p.1, p.2) (refused_starts d g.met.D.Disk.only_now _ _ c.args.frames.now c.load.new.frames.disk (stopped_by fault) _ (never_whole fault)
     (λ is. ap Err (cut_by fault is)) (record { untouched = here.untouched; plan = here.plan; cause = here.cause }))
 
 pub returns-in-Ok-clause-starts : goal.returns-in-Ok-clause-starts
 returns-in-Ok-clause-starts g c =
-    loaded_starts g.D.Disk g.met.D.Disk.only_now g.met.D.Disk.counts_now c.args.folded.whole _ (state_of c.args.folded.index) _
-    c.args.frames.now c.load.new.frames c.start.new.frames.disk _ _ c.load.ensures.same (record { untouched = c.load.ensures.untouched; plan = c.load.ensures.plan; cause = c.load.ensures.cause })
-    c.load.ensures.certain c.in_ok-blocks.ensures.loaded.fold.whole_is c.in_ok-blocks.ensures.loaded.fold.found c.in-Ok.ensures.starts
+    let d = g.D.Disk in
+    let here = c.load.ensures in
+    let read = c.in_ok-blocks.ensures.loaded in
+    loaded_starts d g.met.D.Disk.only_now g.met.D.Disk.counts_now c.args.folded.whole _ (state_of c.args.folded.index) _
+    c.args.frames.now c.load.new.frames c.start.new.frames.disk _ _ here.same (record { untouched = here.untouched; plan = here.plan; cause = here.cause })
+    here.certain read.fold.whole_is read.fold.found c.in-Ok.ensures.starts
 
 pub returns-clause-starts : goal.returns-clause-starts
 returns-clause-starts g c =
+    let d = g.D.Disk in
+    let here = c.load.ensures in
+    let read = c.in_ok-blocks.ensures.loaded in
     let run = c.in-Err.ensures.starts in
-    let made = subst (λ (end : End). Starts g.D.Disk c.args.folded.whole (state_of c.args.folded.index) c.load.new.frames
+    let made = subst (λ (end : End). Starts d c.args.folded.whole (state_of c.args.folded.index) c.load.new.frames
     c.start.new.frames.disk end) (start_ends c.in-Err.fault) run in
-    rw c.refusal_of.ensures (loaded_starts g.D.Disk g.met.D.Disk.only_now g.met.D.Disk.counts_now c.args.folded.whole _
+    rw c.refusal_of.ensures (loaded_starts d g.met.D.Disk.only_now g.met.D.Disk.counts_now c.args.folded.whole _
     (state_of c.args.folded.index) _
-    c.args.frames.now c.load.new.frames c.start.new.frames.disk _ _ c.load.ensures.same (record { untouched = c.load.ensures.untouched; plan = c.load.ensures.plan; cause = c.load.ensures.cause })
-    c.load.ensures.certain c.in_ok-blocks.ensures.loaded.fold.whole_is c.in_ok-blocks.ensures.loaded.fold.found made)
+    c.args.frames.now c.load.new.frames c.start.new.frames.disk _ _ here.same (record { untouched = here.untouched; plan = here.plan; cause = here.cause })
+    here.certain read.fold.whole_is read.fold.found made)
 
 pub returns-in-Ok-clause-standing : goal.returns-in-Ok-clause-standing
 returns-in-Ok-clause-standing g c =
+    let d = g.D.Disk in
+    let old = c.args.frames.now in
     let mid = c.load.new.frames in
     let new = c.start.new.frames in
     let index = c.args.folded.index in
     let here = c.in-Ok.ensures in
-    let shape : mid.shape ≡ c.args.frames.now.shape = c.load.ensures.same.shape in
-    let zero_is : c.from_vec-zero.result ≡ replicate c.args.frames.now.shape.block 0 = grind (arith, common_steps) in
-    standing_from g.D.Disk new c.start.new.index c.in_ok-blocks.blocks c.from_vec-zero.result c.args.frames.now.shape c.args.frames.now.frames (g.D.Disk.seen c.args.frames.now.disk) (indexes.limits_of index) (state_of index) c.args.folded.whole
+    let shape : mid.shape ≡ old.shape = c.load.ensures.same.shape in
+    let zero_is : c.from_vec-zero.result ≡ replicate old.shape.block 0 = grind (arith, common_steps) in
+    standing_from d new c.start.new.index c.in_ok-blocks.blocks c.from_vec-zero.result old.shape old.frames (d.seen old.disk) (indexes.limits_of index) (state_of index) c.args.folded.whole
     (c.start.ensures.shape ∙ shape) c.requires.shape c.requires.new c.in_ok-blocks.ensures.loaded zero_is c.start.ensures.limits here.made
     (subst (λ (s : Shape). Leads (limits_of s) new.frames empty (state_of c.start.new.index)) shape here.leads) here.settled
-    (λ told. subst (λ (x : List ℕ). KeepsSlots c.args.frames.now.shape None x (g.D.Disk.seen new.disk)) c.load.ensures.untouched.content
-    (subst (λ (s : Shape). KeepsSlots s None (g.D.Disk.seen mid.disk) (g.D.Disk.seen new.disk)) shape (here.slots told)))
+    (λ told. subst (λ (x : List ℕ). KeepsSlots old.shape None x (d.seen new.disk)) c.load.ensures.untouched.content
+    (subst (λ (s : Shape). KeepsSlots s None (d.seen mid.disk) (d.seen new.disk)) shape (here.slots told)))
 
 pub returns-in-Ok-clause-stored : goal.returns-in-Ok-clause-stored
 returns-in-Ok-clause-stored g c = λ told.

@@ -34,17 +34,20 @@ changed_as size part same change = subst (λ (p : Plan). IsChange size (is_share
 
 pub add_version-answer-requires-clause-above : goal.add_version-answer-requires-clause-above
 add_version-answer-requires-clause-above g c =
-    let log = log_at c.args.store.now.shape.block c.args.store.now.state (place_of c.args.call) in
-    let change = changed_as c.args.store.now.shape.block (part_at c.args.store.now.shape.block c.args.store.now.state c.args.call) c.in-Store.is c.requires.change in
+    let old = c.args.store.now in
+    let log = log_at old.shape.block old.state (place_of c.args.call) in
+    let change = changed_as old.shape.block (part_at old.shape.block old.state c.args.call) c.in-Store.is c.requires.change in
     record {
       above = λ v at. change.0 (as_version v) (newest_seen log ∙ ap (option_map as_version) at);
-      content = has_block c.args.store.now.shape.block log c.in-Store.block change.1;
+      content = has_block old.shape.block log c.in-Store.block change.1;
     }
 
 pub add_version-answer-requires-clause-block : goal.add_version-answer-requires-clause-block
 add_version-answer-requires-clause-block g c =
-    let change = changed_as c.args.store.now.shape.block (part_at c.args.store.now.shape.block c.args.store.now.state c.args.call) c.in-Store.is c.requires.change in
-    own_long c.args.store.now.shape.block (newest_of (part_at c.args.store.now.shape.block c.args.store.now.state c.args.call).log) c.in-Store.block change.1
+    let old = c.args.store.now in
+    let part = part_at old.shape.block old.state c.args.call in
+    let change = changed_as old.shape.block part c.in-Store.is c.requires.change in
+    own_long old.shape.block (newest_of part.log) c.in-Store.block change.1
 
 -- the reaction that is planned, with the block that the store adds
 module _ (full : Option ℕ) (part : Replica) (t : Stamp) (log : List Kept) (log_is : part.log ≡ map as_version log) where
@@ -59,71 +62,91 @@ module _ (full : Option ℕ) (part : Replica) (t : Stamp) (log : List Kept) (log
 
 pub returns-in-Ignore-clause-change : goal.returns-in-Ignore-clause-change
 returns-in-Ignore-clause-change g c =
-    let part = part_at c.args.store.now.shape.block c.args.store.now.state c.args.call in
-    let full = full_at c.args.store.now.shape.records (live c.args.store.now.state) in
-    let Follows = λ (p : Plan). IsReacted c.args.store.now.shape.block c.args.call c.args.store.now.state (planned full part p) in
-    let follows : Follows Ignore None c.args.store.now.state = search rules in
-    subst (λ (p : Plan). KeepsNext g.D.Disk (part_append (is_shared p) part (planned full part p).replica) (Follows p) c.args.store.now c.args.store.now Whole) (sym c.in-Ignore.is)
-    (keeps_none g.D.Disk g.met.D.Disk.only_now (Follows Ignore) c.args.store.now _ (append_kept false part) c.requires.runs.stands None follows)
+    let d = g.D.Disk in
+    let old = c.args.store.now in
+    let block = old.shape.block in
+    let part = part_at block old.state c.args.call in
+    let full = full_at old.shape.records (live old.state) in
+    let Follows = λ (p : Plan). IsReacted block c.args.call old.state (planned full part p) in
+    let follows : Follows Ignore None old.state = search rules in
+    subst (λ (p : Plan). KeepsNext d (part_append (is_shared p) part (planned full part p).replica) (Follows p) old old Whole) (sym c.in-Ignore.is)
+    (keeps_none d g.met.D.Disk.only_now (Follows Ignore) old _ (append_kept false part) c.requires.runs.stands None follows)
 
 pub returns-in-Tell-clause-change : goal.returns-in-Tell-clause-change
 returns-in-Tell-clause-change g c =
+    let d = g.D.Disk in
+    let old = c.args.store.now in
+    let block = old.shape.block in
     let reply = c.in-Tell.reply in
-    let part = part_at c.args.store.now.shape.block c.args.store.now.state c.args.call in
-    let full = full_at c.args.store.now.shape.records (live c.args.store.now.state) in
-    let Follows = λ (p : Plan). IsReacted c.args.store.now.shape.block c.args.call c.args.store.now.state (planned full part p) in
-    subst (λ (p : Plan). KeepsNext g.D.Disk (part_append (is_shared p) part (planned full part p).replica) (Follows p) c.args.store.now c.args.store.now Whole) (sym c.in-Tell.is)
-    (keeps_none g.D.Disk g.met.D.Disk.only_now (Follows (Tell reply)) c.args.store.now _ (append_kept false part) c.requires.runs.stands (Some reply)
-    (reacted_stays c.args.store.now.shape.block c.args.call reply c.args.store.now.state))
+    let part = part_at block old.state c.args.call in
+    let full = full_at old.shape.records (live old.state) in
+    let Follows = λ (p : Plan). IsReacted block c.args.call old.state (planned full part p) in
+    subst (λ (p : Plan). KeepsNext d (part_append (is_shared p) part (planned full part p).replica) (Follows p) old old Whole) (sym c.in-Tell.is)
+    (keeps_none d g.met.D.Disk.only_now (Follows (Tell reply)) old _ (append_kept false part) c.requires.runs.stands (Some reply)
+    (reacted_stays block c.args.call reply old.state))
 
 pub returns-in-Promise : goal.returns-in-Promise
 returns-in-Promise g c =
+    let d = g.D.Disk in
+    let old = c.args.store.now in
     let new = c.set_order.new.self in
+    let st = old.state in
+    let block = old.shape.block in
+    let call = c.args.call in
+    let records = old.shape.records in
     let t = c.in-Promise.stamp in
     let reply = c.in-Promise.reply in
     let result = c.answered.result in
-    let part = part_at c.args.store.now.shape.block c.args.store.now.state c.args.call in
-    let full = full_at c.args.store.now.shape.records (live c.args.store.now.state) in
+    let part = part_at block st call in
+    let full = full_at records (live st) in
+    let sorted = c.requires.runs.ordered.sorted in
     let appends = λ (p : Plan). part_append (is_shared p) part (planned full part p).replica in
     let made = λ (r : Reaction). part_append false part r.replica in
-    let Follows = λ (p : Plan). IsReacted c.args.store.now.shape.block c.args.call c.args.store.now.state (planned full part p) in
+    let Follows = λ (p : Plan). IsReacted block call st (planned full part p) in
     let reaction = promised part t reply in
-    let later : stamp_below part.order t ≡ true = changed_as c.args.store.now.shape.block part c.in-Promise.is c.requires.change in
-    let grows = promise_grows c.args.store.now.shape.block c.args.call c.args.store.now.state c.requires.runs.ordered.sorted t reply in
-    let both = subst (λ (p : Plan). Handles g.D.Disk (Follows p) c.args.store.now new result × KeepsNext g.D.Disk (appends p) (Follows p) c.args.store.now new (end_of result)) (sym c.in-Promise.is)
-    (changed_next g.D.Disk (Follows (Promise t reply)) c.args.store.now new (ordered (place_of c.args.call) t c.args.store.now.state) 30
-    (adds_stamp t (stripe_at c.args.store.now.state (place_of c.args.call)).order) 4 (Some reply) c.requires.runs
-    (order_made c.args.store.now.shape.block c.args.call c.args.store.now.state c.requires.runs.ordered.sorted c.args.store.now.shape.records t reply later)
-    (λ adds. none_made c.args.store.now.shape.block c.args.call c.args.store.now.state c.requires.runs.ordered.sorted c.args.store.now.shape.records reaction (grows ∙ adds))
-    (λ layout same. order_moves c.args.store.now.shape.block c.args.call c.args.store.now.state c.requires.runs.ordered.sorted t later (same.parts c.args.call.group.0 c.args.call.view.0 c.args.call.stripe.0)) g.met.D.Disk.only_now (appends (Promise t reply))
-    (λ room. ap made (sym (unless_room c.args.store.now.shape.block c.args.call c.args.store.now.state c.requires.runs.ordered.sorted c.args.store.now.shape.records part reaction (λ more. room (sym grows ∙ more)))) ∙ append_ordered false part t later)
-    (λ adds most. ap made (sym (unless_none c.args.store.now.shape.block c.args.call c.args.store.now.state c.requires.runs.ordered.sorted c.args.store.now.shape.records part reaction (grows ∙ adds) most)) ∙ append_kept false part)
+    let later : stamp_below part.order t ≡ true = changed_as block part c.in-Promise.is c.requires.change in
+    let grows = promise_grows block call st sorted t reply in
+    let both = subst (λ (p : Plan). Handles d (Follows p) old new result × KeepsNext d (appends p) (Follows p) old new (end_of result)) (sym c.in-Promise.is)
+    (changed_next d (Follows (Promise t reply)) old new (ordered (place_of call) t st) 30
+    (adds_stamp t (stripe_at st (place_of call)).order) 4 (Some reply) c.requires.runs
+    (order_made block call st sorted records t reply later)
+    (λ adds. none_made block call st sorted records reaction (grows ∙ adds))
+    (λ layout same. order_moves block call st sorted t later (same.parts call.group.0 call.view.0 call.stripe.0)) g.met.D.Disk.only_now (appends (Promise t reply))
+    (λ room. ap made (sym (unless_room block call st sorted records part reaction (λ more. room (sym grows ∙ more)))) ∙ append_ordered false part t later)
+    (λ adds most. ap made (sym (unless_none block call st sorted records part reaction (grows ∙ adds) most)) ∙ append_kept false part)
     c.set_order.result result c.answered.ensures c.set_order.ensures.change c.set_order.ensures.answer) in
     record { handles = both.0; change = both.1 }
 
 pub returns-in-Store : goal.returns-in-Store
 returns-in-Store g c =
+    let d = g.D.Disk in
+    let old = c.args.store.now in
     let new = c.add_version-answer.new.self in
+    let st = old.state in
+    let block = old.shape.block in
+    let call = c.args.call in
+    let records = old.shape.records in
     let t = c.in-Store.stamp in
     let own = c.in-Store.block in
     let result = c.answered-in-Store.result in
-    let log = log_at c.args.store.now.shape.block c.args.store.now.state (place_of c.args.call) in
+    let log = log_at block st (place_of call) in
     let bytes = block_added own log in
-    let part = part_at c.args.store.now.shape.block c.args.store.now.state c.args.call in
-    let full = full_at c.args.store.now.shape.records (live c.args.store.now.state) in
+    let part = part_at block st call in
+    let full = full_at records (live st) in
+    let sorted = c.requires.runs.ordered.sorted in
     let shared = is_shared c.args.plan in
     let appends = λ (r : Reaction). part_append shared part r.replica in
-    let Follows = λ (r : Reaction). IsReacted c.args.store.now.shape.block c.args.call c.args.store.now.state r in
+    let Follows = λ (r : Reaction). IsReacted block call st r in
     let reaction = unless_full full part (stored part t bytes) in
-    let both = subst (λ (r : Reaction). Handles g.D.Disk (Follows r) c.args.store.now new result × KeepsNext g.D.Disk (appends r) (Follows r) c.args.store.now new (end_of result))
+    let both = subst (λ (r : Reaction). Handles d (Follows r) old new result × KeepsNext d (appends r) (Follows r) old new (end_of result))
     (sym (store_planned full part t log refl c.args.plan own c.in-Store.is))
-    (changed_next g.D.Disk (Follows reaction) c.args.store.now new (added (place_of c.args.call) (version t bytes) c.args.store.now.state)
+    (changed_next d (Follows reaction) old new (added (place_of call) (version t bytes) st)
     (version_size own) true (version_calls own) (Some Stored) c.requires.runs
-    (store_made c.args.store.now.shape.block c.args.call c.args.store.now.state c.requires.runs.ordered.sorted c.args.store.now.shape.records t bytes) (none_made c.args.store.now.shape.block c.args.call c.args.store.now.state c.requires.runs.ordered.sorted c.args.store.now.shape.records (stored part t bytes))
-    (λ layout same. store_moves c.args.store.now.shape.block c.args.call c.args.store.now.state c.requires.runs.ordered.sorted t bytes (same.parts c.args.call.group.0 c.args.call.view.0 c.args.call.stripe.0)) g.met.D.Disk.only_now (appends reaction)
-    (λ room. ap appends (sym (unless_room c.args.store.now.shape.block c.args.call c.args.store.now.state c.requires.runs.ordered.sorted c.args.store.now.shape.records part (stored part t bytes) room)) ∙ append_stored shared part _
+    (store_made block call st sorted records t bytes) (none_made block call st sorted records (stored part t bytes))
+    (λ layout same. store_moves block call st sorted t bytes (same.parts call.group.0 call.view.0 call.stripe.0)) g.met.D.Disk.only_now (appends reaction)
+    (λ room. ap appends (sym (unless_room block call st sorted records part (stored part t bytes) room)) ∙ append_stored shared part _
     ∙ ap (λ (p : Plan). Some (stored_append (is_shared p))) c.in-Store.is ∙ version_stored own)
-    (λ adds most. ap appends (sym (unless_none c.args.store.now.shape.block c.args.call c.args.store.now.state c.requires.runs.ordered.sorted c.args.store.now.shape.records part (stored part t bytes) adds most)) ∙ append_kept shared part)
+    (λ adds most. ap appends (sym (unless_none block call st sorted records part (stored part t bytes) adds most)) ∙ append_kept shared part)
     c.add_version-answer.result result c.answered-in-Store.ensures c.add_version-answer.ensures.change c.add_version-answer.ensures.answer) in
     record { handles = both.0; change = both.1 }
 
@@ -131,24 +154,31 @@ returns-in-Store g c =
 
 pub collect-requires-clause-held : goal.collect-requires-clause-held
 collect-requires-clause-held g c =
-    let log = log_at c.args.store.now.shape.block c.args.store.now.state (place_of c.args.call) in
-    let change = changed_as c.args.store.now.shape.block (part_at c.args.store.now.shape.block c.args.store.now.state c.args.call) c.in-Collect.is c.requires.change in
+    let old = c.args.store.now in
+    let log = log_at old.shape.block old.state (place_of c.args.call) in
+    let change = changed_as old.shape.block (part_at old.shape.block old.state c.args.call) c.in-Collect.is c.requires.change in
     sym (held_seen c.in-Collect.stamp log) ∙ change.0
 
 pub returns-in-Collect : goal.returns-in-Collect
 returns-in-Collect g c =
+    let d = g.D.Disk in
+    let old = c.args.store.now in
     let new = c.collect.new.self in
+    let st = old.state in
+    let block = old.shape.block in
+    let call = c.args.call in
     let t = c.in-Collect.stamp in
     let result = c.answered-in-Collect.result in
-    let part = part_at c.args.store.now.shape.block c.args.store.now.state c.args.call in
-    let full = full_at c.args.store.now.shape.records (live c.args.store.now.state) in
-    let change = changed_as c.args.store.now.shape.block part c.in-Collect.is c.requires.change in
+    let part = part_at block st call in
+    let full = full_at old.shape.records (live st) in
+    let sorted = c.requires.runs.ordered.sorted in
+    let change = changed_as block part c.in-Collect.is c.requires.change in
     let appends = λ (p : Plan). part_append (is_shared p) part (planned full part p).replica in
-    let Follows = λ (p : Plan). IsReacted c.args.store.now.shape.block c.args.call c.args.store.now.state (planned full part p) in
-    let both = subst (λ (p : Plan). Handles g.D.Disk (Follows p) c.args.store.now new result × KeepsNext g.D.Disk (appends p) (Follows p) c.args.store.now new (end_of result)) (sym c.in-Collect.is)
-    (changed_next g.D.Disk (Follows (Collect t)) c.args.store.now new (collected version_stamp (place_of c.args.call) t c.args.store.now.state) 30 false
-    4 None c.requires.runs (λ room. reacted_collect c.args.store.now.shape.block c.args.call c.args.store.now.state c.requires.runs.ordered.sorted t change.0) (λ adds. absurd cc)
-    (λ layout same. collect_moves c.args.store.now.shape.block c.args.call c.args.store.now.state c.requires.runs.ordered.sorted t change.1 (same.parts c.args.call.group.0 c.args.call.view.0 c.args.call.stripe.0)) g.met.D.Disk.only_now (appends (Collect t))
+    let Follows = λ (p : Plan). IsReacted block call st (planned full part p) in
+    let both = subst (λ (p : Plan). Handles d (Follows p) old new result × KeepsNext d (appends p) (Follows p) old new (end_of result)) (sym c.in-Collect.is)
+    (changed_next d (Follows (Collect t)) old new (collected version_stamp (place_of call) t st) 30 false
+    4 None c.requires.runs (λ room. reacted_collect block call st sorted t change.0) (λ adds. absurd cc)
+    (λ layout same. collect_moves block call st sorted t change.1 (same.parts call.group.0 call.view.0 call.stripe.0)) g.met.D.Disk.only_now (appends (Collect t))
     (λ room. append_collected false part t change.0 change.1) (λ adds. absurd cc)
     c.collect.result result c.answered-in-Collect.ensures c.collect.ensures.change c.collect.ensures.answer) in
     record { handles = both.0; change = both.1 }

@@ -13,36 +13,41 @@ use Rattle.replica.proofs.members.modify.Goals as goal
 
 pub returns-in-Some-clause-plan : goal.returns-in-Some-clause-plan
 returns-in-Some-clause-plan c full start =
+    let a = c.args in
     let part = part_seen c.args.part.now start in
     let code = block_code c.args.member.block in
-    let reaction = modified_on code c.args.member.m full c.args.member.seat part c.args.stamp c.args.base c.args.data_block c.args.delta.now (newest_of part.log) in
+    let reaction = modified_on code a.member.m full a.member.seat part a.stamp a.base a.data_block a.delta.now (newest_of part.log) in
     ap (λ (told : Option Reply). unless_settled part told reaction) (c.in-Some.ensures.value start)
-    ∙ sym (modified_is code c.args.member.m full c.args.member.seat part c.args.stamp c.args.base c.args.data_block c.args.delta.now)
+    ∙ sym (modified_is code a.member.m full a.member.seat part a.stamp a.base a.data_block a.delta.now)
 
 pub returns-in_default-newest-clause-plan : goal.returns-in_default-newest-clause-plan
 returns-in_default-newest-clause-plan c full start =
-    sym (modified_none (block_code c.args.member.block) c.args.member.m full c.args.member.seat (part_seen c.args.part.now start) c.args.stamp c.args.base c.args.data_block c.args.delta.now
-    (sym (c.in_default.ensures.value start)) (newest_shown c.args.part.now.log None c.in_default-newest.ensures))
+    let a = c.args in
+    sym (modified_none (block_code a.member.block) a.member.m full a.member.seat (part_seen a.part.now start) a.stamp a.base a.data_block a.delta.now
+    (sym (c.in_default.ensures.value start)) (newest_shown a.part.now.log None c.in_default-newest.ensures))
 
 pub returns-then-not-is_same-clause-plan : goal.returns-then-not-is_same-clause-plan
 returns-then-not-is_same-clause-plan c full start =
+    let a = c.args in
     let top = version c.in-Some-newest.newest c.in-Some-newest.block.now in
-    sym (modified_behind (block_code c.args.member.block) c.args.member.m full c.args.member.seat (part_seen c.args.part.now start) c.args.stamp c.args.base c.args.data_block c.args.delta.now
-    (sym (c.in_default.ensures.value start)) (as_version top) (newest_shown c.args.part.now.log (Some top) c.in-Some-newest.ensures)
+    sym (modified_behind (block_code a.member.block) a.member.m full a.member.seat (part_seen a.part.now start) a.stamp a.base a.data_block a.delta.now
+    (sym (c.in_default.ensures.value start)) (as_version top) (newest_shown a.part.now.log (Some top) c.in-Some-newest.ensures)
     (sym c.is_same.ensures ∙ c.if-not-is_same.true))
 
 pub returns-clause-plan : goal.returns-clause-plan
 returns-clause-plan c full start =
+    let a = c.args in
     let top = version c.in-Some-newest.newest c.in-Some-newest.block.now in
-    modified_made (block_code c.args.member.block) c.args.member.m full c.args.member.seat (part_seen c.args.part.now start) c.args.stamp c.args.base c.args.data_block c.args.delta.now
-    (sym (c.in_default.ensures.value start)) (as_version top) (newest_shown c.args.part.now.log (Some top) c.in-Some-newest.ensures)
+    modified_made (block_code a.member.block) a.member.m full a.member.seat (part_seen a.part.now start) a.stamp a.base a.data_block a.delta.now
+    (sym (c.in_default.ensures.value start)) (as_version top) (newest_shown a.part.now.log (Some top) c.in-Some-newest.ensures)
     (sym c.is_same.ensures ∙ c.if-not-is_same.false) c.in_ok-block.block c.in_ok-block.ensures.block
 
 pub returns-clause-change : goal.returns-clause-change
 returns-clause-change c start =
+    let a = c.args in
     let top = version c.in-Some-newest.newest c.in-Some-newest.block.now in (
       c.in_default.ensures.above,
-      subst (λ (found : Option Version). IsStorable c.args.member.block (eqb (length c.args.delta.now) 0) found c.in_ok-block.block)
-          (sym (newest_shown c.args.part.now.log (Some top) c.in-Some-newest.ensures))
+      subst (λ (found : Option Version). IsStorable a.member.block (eqb (length a.delta.now) 0) found c.in_ok-block.block)
+          (sym (newest_shown a.part.now.log (Some top) c.in-Some-newest.ensures))
           (c.in_ok-block.ensures.storable (as_version top)),
     )

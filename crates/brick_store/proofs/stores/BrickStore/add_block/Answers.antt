@@ -20,31 +20,41 @@ use Rattle.brick_store.proofs.stores.BrickStore.add_block.Goals as goal
 
 pub returns-in_err-ready : goal.returns-in_err-ready
 returns-in_err-ready g c =
+    let d = g.D.Disk in
+    let x = c.self.inside in
     let f = c.in_err-ready.field-0.0 in
     let q = err_from_is_err_and c.from_residual.result c.from_residual.ensures.1 in
-    let both = told_as g.D.Disk _ _ _ _ _ _ c.from_residual.result (refused f) (q.1 ∙ ap refused q.2) (told_refused g.D.Disk g.met.D.Disk.only_now c.self.inside.blocks c.self.inside.zero c.self.inside.frames c.self.inside.index c.args.self.now
+    let both = told_as d _ _ _ _ _ _ c.from_residual.result (refused f) (q.1 ∙ ap refused q.2) (told_refused d g.met.D.Disk.only_now x.blocks x.zero x.frames x.index c.args.self.now
     (with_version c.args.self.now.shape.block (place c.args.group c.args.view c.args.stripe) c.args.stamp (Some c.args.block))
     (λ s. true) 35 true (calls_of c.args.self.now 35 5) f c.self.view_is refl c.self.invariant c.in_err-ready.ensures.refused) in
     record { change = both.0; answer = both.1 }
 
 pub invariant_of-self : goal.invariant_of-self
 invariant_of-self g c =
-    standing_same g.D.Disk c.self.inside.blocks c.hold_new.new.blocks c.self.inside.zero c.self.inside.frames c.self.inside.index c.hold_new.ensures.same c.self.invariant
+    let d = g.D.Disk in
+    let x = c.self.inside in
+    standing_same d x.blocks c.hold_new.new.blocks x.zero x.frames x.index c.hold_new.ensures.same c.self.invariant
 
 pub commit-answer-requires-clause-can : goal.commit-answer-requires-clause-can
 commit-answer-requires-clause-can g c =
-    let above = above_of c.self.inside.frames.shape.block c.self.inside.blocks (stripe_at (state_of c.self.inside.index) (place c.args.group c.args.view c.args.stripe)) c.args.stamp (Some c.args.block)
-    (next_seen c.self.inside.blocks c.self.inside.frames (state_of c.self.inside.index) (place c.args.group c.args.view c.args.stripe) c.args.stamp (Some c.args.block) c.args.self.now c.self.view_is c.requires.above) in
-    can_from _ _ _ _ (slot_applied (limits_of c.self.inside.index) c.args.group c.args.view c.args.stripe c.args.stamp c.in_ok-slot.slot (state_of c.self.inside.index) c.requires.group
+    let x = c.self.inside in
+    let st = state_of x.index in
+    let p = place c.args.group c.args.view c.args.stripe in
+    let above = above_of x.frames.shape.block x.blocks (stripe_at st p) c.args.stamp (Some c.args.block)
+    (next_seen x.blocks x.frames st p c.args.stamp (Some c.args.block) c.args.self.now c.self.view_is c.requires.above) in
+    can_from _ _ _ _ (slot_applied (limits_of x.index) c.args.group c.args.view c.args.stripe c.args.stamp c.in_ok-slot.slot st c.requires.group
     (c.in_ok-ready.ensures.free refl) c.in_ok-slot.ensures.slot above)
 
 pub returns-in_err-slot : goal.returns-in_err-slot
 returns-in_err-slot g c =
+    let d = g.D.Disk in
+    let x = c.self.inside in
+    let now = c.hold_new.new.blocks in
     let f = c.in_err-slot.field-0.0 in
-    let standing = standing_same g.D.Disk c.self.inside.blocks c.hold_new.new.blocks c.self.inside.zero c.self.inside.frames c.self.inside.index c.hold_new.ensures.same c.self.invariant in
-    let view = brick_same c.self.inside.blocks c.hold_new.new.blocks c.self.inside.frames (state_of c.self.inside.index) c.hold_new.ensures.same ∙ c.self.view_is in
+    let standing = standing_same d x.blocks now x.zero x.frames x.index c.hold_new.ensures.same c.self.invariant in
+    let view = brick_same x.blocks now x.frames (state_of x.index) c.hold_new.ensures.same ∙ c.self.view_is in
     let q = err_from_is_err_and c.from_residual-in_err-slot.result c.from_residual-in_err-slot.ensures.1 in
-    let both = told_as g.D.Disk _ _ _ _ _ _ c.from_residual-in_err-slot.result (refused f) (q.1 ∙ ap refused q.2) (told_stopped g.D.Disk g.met.D.Disk.only_now c.hold_new.new.blocks c.self.inside.zero c.self.inside.frames c.self.inside.index c.args.self.now
+    let both = told_as d _ _ _ _ _ _ c.from_residual-in_err-slot.result (refused f) (q.1 ∙ ap refused q.2) (told_stopped d g.met.D.Disk.only_now now x.zero x.frames x.index c.args.self.now
     (with_version c.args.self.now.shape.block (place c.args.group c.args.view c.args.stripe) c.args.stamp
     (Some c.args.block) c.args.self.now.state) 35 (calls_of c.args.self.now 35 5) f view (no_slot_fault f c.in_err-slot.ensures.memory) standing c.in_ok-ready.ensures.runs
     (c.in_ok-ready.ensures.free refl)) in
@@ -52,58 +62,74 @@ returns-in_err-slot g c =
 
 pub invariant_of-self-2 : goal.invariant_of-self-2
 invariant_of-self-2 g c =
-    let above = above_of c.self.inside.frames.shape.block c.self.inside.blocks (stripe_at (state_of c.self.inside.index) (place c.args.group c.args.view c.args.stripe)) c.args.stamp (Some c.args.block)
-    (next_seen c.self.inside.blocks c.self.inside.frames (state_of c.self.inside.index) (place c.args.group c.args.view c.args.stripe) c.args.stamp (Some c.args.block) c.args.self.now c.self.view_is c.requires.above) in
-    let standing = standing_same g.D.Disk c.self.inside.blocks c.hold_new.new.blocks c.self.inside.zero c.self.inside.frames c.self.inside.index c.hold_new.ensures.same c.self.invariant in
-    let small : c.in_ok-slot.slot < 4294967295 = omega (
+    let d = g.D.Disk in
+    let x = c.self.inside in
+    let st = state_of x.index in
+    let p = place c.args.group c.args.view c.args.stripe in
+    let t = c.args.stamp in
+    let now = c.hold_new.new.blocks in
+    let slot = c.in_ok-slot.slot in
+    let above = above_of x.frames.shape.block x.blocks (stripe_at st p) t (Some c.args.block)
+    (next_seen x.blocks x.frames st p t (Some c.args.block) c.args.self.now c.self.view_is c.requires.above) in
+    let standing = standing_same d x.blocks now x.zero x.frames x.index c.hold_new.ensures.same c.self.invariant in
+    let small : slot < 4294967295 = omega (
       arith,
       c.in_ok-slot.ensures.slot,
       ap (λ (l : Limits). l.slots) c.self.invariant.indexed.limits_are,
       c.self.invariant.limits.few_slots,
     ) in
-    let settled = same_settled c.hold_new.new.blocks c.forget_refused.new.blocks c.in_ok-slot.slot (state_of c.self.inside.index) (state_of c.commit-answer.new.index) c.commit-answer.result c.forget_refused.ensures.added c.forget_refused.ensures.others c.commit-answer.ensures.not_made c.in_ok-slot.ensures.unnamed in
-    standing_same g.D.Disk c.hold_new.new.blocks c.forget_refused.new.blocks c.self.inside.zero c.commit-answer.new.frames c.commit-answer.new.index settled
-    (standing_put g.D.Disk c.in_ok-slot.slot c.held_under.result.now c.hold_new.new.blocks c.self.inside.zero c.self.inside.frames c.commit-answer.new.frames c.self.inside.index c.commit-answer.new.index
-    (forms.Logged (record { group = c.args.group; view = c.args.view; stripe = c.args.stripe; stamp = c.args.stamp; change = Slot false c.in_ok-slot.slot }))
-    (added (place c.args.group c.args.view c.args.stripe) (entry c.args.stamp c.in_ok-slot.slot) (state_of c.self.inside.index)) c.commit-answer.result standing c.in_ok-ready.ensures.runs
-    (slot_applied (limits_of c.self.inside.index) c.args.group c.args.view c.args.stripe c.args.stamp c.in_ok-slot.slot (state_of c.self.inside.index) c.requires.group
+    let last = c.forget_refused.new.blocks in
+    let settled = same_settled now last slot st (state_of c.commit-answer.new.index) c.commit-answer.result c.forget_refused.ensures.added c.forget_refused.ensures.others c.commit-answer.ensures.not_made c.in_ok-slot.ensures.unnamed in
+    standing_same d now last x.zero c.commit-answer.new.frames c.commit-answer.new.index settled
+    (standing_put d slot c.held_under.result.now now x.zero x.frames c.commit-answer.new.frames x.index c.commit-answer.new.index
+    (forms.Logged (record { group = c.args.group; view = c.args.view; stripe = c.args.stripe; stamp = t; change = Slot false slot }))
+    (added p (entry t slot) st) c.commit-answer.result standing c.in_ok-ready.ensures.runs
+    (slot_applied (limits_of x.index) c.args.group c.args.view c.args.stripe t slot st c.requires.group
     (c.in_ok-ready.ensures.free refl) c.in_ok-slot.ensures.slot above)
-    (λ P here all. slots_added P (place c.args.group c.args.view c.args.stripe) c.args.stamp c.in_ok-slot.slot (state_of c.self.inside.index) here all) small c.held_under.ensures
+    (λ P here all. slots_added P p t slot st here all) small c.held_under.ensures
     (ap length (same_Some _ _ (sym c.held_under.ensures ∙ c.in_ok-slot.ensures.held)) ∙ c.requires.block
     ∙ sym (ap (λ (b : Brick g.row.D.Denot). b.shape.block) c.self.view_is)) c.in_ok-slot.ensures.unnamed
     c.self.invariant.indexed.members c.commit-answer.ensures.limits c.commit-answer.ensures.step c.commit-answer.ensures.made c.commit-answer.ensures.not_made c.commit-answer.ensures.change)
 
 pub returns : goal.returns
 returns g c =
-    let above = above_of c.self.inside.frames.shape.block c.self.inside.blocks (stripe_at (state_of c.self.inside.index) (place c.args.group c.args.view c.args.stripe)) c.args.stamp (Some c.args.block)
-    (next_seen c.self.inside.blocks c.self.inside.frames (state_of c.self.inside.index) (place c.args.group c.args.view c.args.stripe) c.args.stamp (Some c.args.block) c.args.self.now c.self.view_is c.requires.above) in
-    let standing = standing_same g.D.Disk c.self.inside.blocks c.hold_new.new.blocks c.self.inside.zero c.self.inside.frames c.self.inside.index c.hold_new.ensures.same c.self.invariant in
-    let small : c.in_ok-slot.slot < 4294967295 = omega (
+    let d = g.D.Disk in
+    let x = c.self.inside in
+    let st = state_of x.index in
+    let p = place c.args.group c.args.view c.args.stripe in
+    let t = c.args.stamp in
+    let now = c.hold_new.new.blocks in
+    let slot = c.in_ok-slot.slot in
+    let above = above_of x.frames.shape.block x.blocks (stripe_at st p) t (Some c.args.block)
+    (next_seen x.blocks x.frames st p t (Some c.args.block) c.args.self.now c.self.view_is c.requires.above) in
+    let standing = standing_same d x.blocks now x.zero x.frames x.index c.hold_new.ensures.same c.self.invariant in
+    let small : slot < 4294967295 = omega (
       arith,
       c.in_ok-slot.ensures.slot,
       ap (λ (l : Limits). l.slots) c.self.invariant.indexed.limits_are,
       c.self.invariant.limits.few_slots,
     ) in
-    let view = brick_same c.self.inside.blocks c.hold_new.new.blocks c.self.inside.frames (state_of c.self.inside.index) c.hold_new.ensures.same ∙ c.self.view_is in
-    let tried = changes_put g.D.Disk c.in_ok-slot.slot c.held_under.result.now c.hold_new.new.blocks c.self.inside.zero c.self.inside.frames c.commit-answer.new.frames c.self.inside.index
-    (forms.Logged (record { group = c.args.group; view = c.args.view; stripe = c.args.stripe; stamp = c.args.stamp; change = Slot false c.in_ok-slot.slot }))
-    (state_of c.commit-answer.new.index) (added (place c.args.group c.args.view c.args.stripe) (entry c.args.stamp c.in_ok-slot.slot) (state_of c.self.inside.index)) 35 c.commit-answer.result standing c.in_ok-ready.ensures.runs
+    let view = brick_same x.blocks now x.frames st c.hold_new.ensures.same ∙ c.self.view_is in
+    let tried = changes_put d slot c.held_under.result.now now x.zero x.frames c.commit-answer.new.frames x.index
+    (forms.Logged (record { group = c.args.group; view = c.args.view; stripe = c.args.stripe; stamp = t; change = Slot false slot }))
+    (state_of c.commit-answer.new.index) (added p (entry t slot) st) 35 c.commit-answer.result standing c.in_ok-ready.ensures.runs
     (c.in_ok-ready.ensures.free refl)
-    (slot_applied (limits_of c.self.inside.index) c.args.group c.args.view c.args.stripe c.args.stamp c.in_ok-slot.slot (state_of c.self.inside.index) c.requires.group
+    (slot_applied (limits_of x.index) c.args.group c.args.view c.args.stripe t slot st c.requires.group
     (c.in_ok-ready.ensures.free refl) c.in_ok-slot.ensures.slot above)
-    (λ P here all. slots_added P (place c.args.group c.args.view c.args.stripe) c.args.stamp c.in_ok-slot.slot (state_of c.self.inside.index) here all) small
+    (λ P here all. slots_added P p t slot st here all) small
     c.held_under.ensures c.in_ok-slot.ensures.unnamed
     c.commit-answer.ensures.step c.commit-answer.ensures.made c.commit-answer.ensures.not_made c.commit-answer.ensures.change in
+    let last = c.forget_refused.new.blocks in
     let B = Brick g.row.D.Denot in
-    let settled = same_settled c.hold_new.new.blocks c.forget_refused.new.blocks c.in_ok-slot.slot (state_of c.self.inside.index) (state_of c.commit-answer.new.index) c.commit-answer.result c.forget_refused.ensures.added c.forget_refused.ensures.others c.commit-answer.ensures.not_made c.in_ok-slot.ensures.unnamed in
-    let after = with_version c.args.self.now.shape.block (place c.args.group c.args.view c.args.stripe) c.args.stamp (Some c.args.block) c.args.self.now.state in
-    let both = subst (λ (r : Result (Unit {0}) StoreFault). Told g.D.Disk c.args.self.now
-    (brick_of c.forget_refused.new.blocks c.commit-answer.new.frames (state_of c.commit-answer.new.index)) after 35 true (calls_of c.args.self.now 35 5) r)
+    let settled = same_settled now last slot st (state_of c.commit-answer.new.index) c.commit-answer.result c.forget_refused.ensures.added c.forget_refused.ensures.others c.commit-answer.ensures.not_made c.in_ok-slot.ensures.unnamed in
+    let after = with_version c.args.self.now.shape.block p t (Some c.args.block) c.args.self.now.state in
+    let both = subst (λ (r : Result (Unit {0}) StoreFault). Told d c.args.self.now
+    (brick_of last c.commit-answer.new.frames (state_of c.commit-answer.new.index)) after 35 true (calls_of c.args.self.now 35 5) r)
     (sym c.forget_refused.ensures.answer)
-    (subst (λ (b : B). Told g.D.Disk c.args.self.now b after 35 true (calls_of c.args.self.now 35 5) c.commit-answer.result) (sym (brick_same c.hold_new.new.blocks c.forget_refused.new.blocks c.commit-answer.new.frames (state_of c.commit-answer.new.index) settled))
-    (told_of g.D.Disk c.hold_new.new.blocks c.self.inside.frames c.commit-answer.new.frames (state_of c.self.inside.index)
-    (state_of c.commit-answer.new.index) (added (place c.args.group c.args.view c.args.stripe) (entry c.args.stamp c.in_ok-slot.slot) (state_of c.self.inside.index)) c.args.self.now
-    (with_version c.args.self.now.shape.block (place c.args.group c.args.view c.args.stripe) c.args.stamp (Some c.args.block)) (λ s. true) (λ b. calls_of b 35 5) 35 true _ c.commit-answer.result view
-    (with_version_seen c.hold_new.new.blocks c.self.inside.frames (state_of c.self.inside.index) (place c.args.group c.args.view c.args.stripe) c.args.stamp (Some c.args.block) c.in_ok-slot.slot c.args.self.now view
-    (cached_is c.self.inside.frames.shape.block c.hold_new.new.blocks c.in_ok-slot.slot c.args.block small c.in_ok-slot.ensures.held)) refl refl tried)) in
+    (subst (λ (b : B). Told d c.args.self.now b after 35 true (calls_of c.args.self.now 35 5) c.commit-answer.result) (sym (brick_same now last c.commit-answer.new.frames (state_of c.commit-answer.new.index) settled))
+    (told_of d now x.frames c.commit-answer.new.frames st
+    (state_of c.commit-answer.new.index) (added p (entry t slot) st) c.args.self.now
+    (with_version c.args.self.now.shape.block p t (Some c.args.block)) (λ s. true) (λ b. calls_of b 35 5) 35 true _ c.commit-answer.result view
+    (with_version_seen now x.frames st p t (Some c.args.block) slot c.args.self.now view
+    (cached_is x.frames.shape.block now slot c.args.block small c.in_ok-slot.ensures.held)) refl refl tried)) in
     record { change = both.0; answer = both.1 }

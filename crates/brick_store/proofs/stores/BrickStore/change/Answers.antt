@@ -15,44 +15,53 @@ use Rattle.brick_store.proofs.stores.BrickStore.change.Goals as goal
 
 pub commit-requires-clause-can : goal.commit-requires-clause-can
 commit-requires-clause-can g c =
-    let p = plain_seen c.self.inside.blocks c.self.inside.frames (limits_of c.self.inside.index) c.args.item.now (state_of c.self.inside.index) c.args.self.now c.args.adds c.self.invariant.indexed.kept
+    let x = c.self.inside in
+    let p = plain_seen x.blocks x.frames (limits_of x.index) c.args.item.now (state_of x.index) c.args.self.now c.args.adds c.self.invariant.indexed.kept
     c.self.invariant.indexed.members c.self.view_is c.requires.can c.requires.adds c.in_ok-ready.ensures.free in
     can_from _ _ _ _ p.1.is
 
 pub commit-requires-clause-members : goal.commit-requires-clause-members
 commit-requires-clause-members g c =
-    let p = plain_seen c.self.inside.blocks c.self.inside.frames (limits_of c.self.inside.index) c.args.item.now (state_of c.self.inside.index) c.args.self.now c.args.adds c.self.invariant.indexed.kept
+    let x = c.self.inside in
+    let p = plain_seen x.blocks x.frames (limits_of x.index) c.args.item.now (state_of x.index) c.args.self.now c.args.adds c.self.invariant.indexed.kept
     c.self.invariant.indexed.members c.self.view_is c.requires.can c.requires.adds c.in_ok-ready.ensures.free in
     p.1.has
 
 pub invariant_of-self : goal.invariant_of-self
 invariant_of-self g c =
-    let p = plain_seen c.self.inside.blocks c.self.inside.frames (limits_of c.self.inside.index) c.args.item.now (state_of c.self.inside.index) c.args.self.now c.args.adds c.self.invariant.indexed.kept
+    let x = c.self.inside in
+    let p = plain_seen x.blocks x.frames (limits_of x.index) c.args.item.now (state_of x.index) c.args.self.now c.args.adds c.self.invariant.indexed.kept
     c.self.invariant.indexed.members c.self.view_is c.requires.can c.requires.adds c.in_ok-ready.ensures.free in
-    standing_plain g.D.Disk c.self.inside.blocks c.self.inside.zero c.self.inside.frames c.commit.new.frames c.self.inside.index c.commit.new.index c.args.item.now p.0 c.commit.result c.self.invariant
-    c.in_ok-ready.ensures.runs p.1.is p.1.slots (p.1.members c.self.invariant.indexed.members) c.commit.ensures.limits c.commit.ensures.step c.commit.ensures.made c.commit.ensures.not_made c.commit.ensures.change
+    let call = c.commit.ensures in
+    standing_plain g.D.Disk x.blocks x.zero x.frames c.commit.new.frames x.index c.commit.new.index c.args.item.now p.0 c.commit.result c.self.invariant
+    c.in_ok-ready.ensures.runs p.1.is p.1.slots (p.1.members c.self.invariant.indexed.members) call.limits call.step call.made call.not_made call.change
 
 pub returns : goal.returns
 returns g c =
     let d = g.D.Disk in
+    let x = c.self.inside in
+    let item = c.args.item.now in
     let now = state_of c.commit.new.index in
-    let p = plain_seen c.self.inside.blocks c.self.inside.frames (limits_of c.self.inside.index) c.args.item.now (state_of c.self.inside.index) c.args.self.now c.args.adds c.self.invariant.indexed.kept
+    let p = plain_seen x.blocks x.frames (limits_of x.index) item (state_of x.index) c.args.self.now c.args.adds c.self.invariant.indexed.kept
     c.self.invariant.indexed.members c.self.view_is c.requires.can c.requires.adds c.in_ok-ready.ensures.free in
-    let adds = c.requires.adds ∙ sym (ap (λ (b : Brick g.row.D.Denot). adds_record c.args.item.now b.state) c.self.view_is) in
-    let shown = subst (λ (b : Brick g.row.D.Denot). resolved (cached c.self.inside.frames.shape.block c.self.inside.blocks) p.0 ≡ made_by b.shape.block c.args.item.now
-    (resolved (cached c.self.inside.frames.shape.block c.self.inside.blocks) (state_of c.self.inside.index))) c.self.view_is p.1.shown in
-    let tried = changes_plain d c.self.inside.blocks c.self.inside.zero c.self.inside.frames c.commit.new.frames c.self.inside.index c.args.item.now now p.0 (body_size c.args.item.now) c.args.adds c.commit.result c.self.invariant
-    c.in_ok-ready.ensures.runs c.in_ok-ready.ensures.free p.1.is p.1.slots c.commit.ensures.step c.commit.ensures.made c.commit.ensures.not_made c.commit.ensures.change in
-    let both = told_of d c.self.inside.blocks c.self.inside.frames c.commit.new.frames (state_of c.self.inside.index) now p.0 c.args.self.now (made_by c.args.self.now.shape.block c.args.item.now)
-    (adds_record c.args.item.now) (λ b. calls_of b (body_size c.args.item.now) 4) (body_size c.args.item.now) c.args.adds _ c.commit.result c.self.view_is shown adds refl tried in
+    let adds = c.requires.adds ∙ sym (ap (λ (b : Brick g.row.D.Denot). adds_record item b.state) c.self.view_is) in
+    let shown = subst (λ (b : Brick g.row.D.Denot). resolved (cached x.frames.shape.block x.blocks) p.0 ≡ made_by b.shape.block item
+    (resolved (cached x.frames.shape.block x.blocks) (state_of x.index))) c.self.view_is p.1.shown in
+    let call = c.commit.ensures in
+    let tried = changes_plain d x.blocks x.zero x.frames c.commit.new.frames x.index item now p.0 (body_size item) c.args.adds c.commit.result c.self.invariant
+    c.in_ok-ready.ensures.runs c.in_ok-ready.ensures.free p.1.is p.1.slots call.step call.made call.not_made call.change in
+    let both = told_of d x.blocks x.frames c.commit.new.frames (state_of x.index) now p.0 c.args.self.now (made_by c.args.self.now.shape.block item)
+    (adds_record item) (λ b. calls_of b (body_size item) 4) (body_size item) c.args.adds _ c.commit.result c.self.view_is shown adds refl tried in
     record { change = both.0; answer = both.1 }
 
 pub returns-in_err-ready : goal.returns-in_err-ready
 returns-in_err-ready g c =
+    let x = c.self.inside in
+    let item = c.args.item.now in
     let f = c.in_err-ready.field-0.0 in
-    let adds = c.requires.adds ∙ sym (ap (λ (b : Brick g.row.D.Denot). adds_record c.args.item.now b.state) c.self.view_is) in
+    let adds = c.requires.adds ∙ sym (ap (λ (b : Brick g.row.D.Denot). adds_record item b.state) c.self.view_is) in
     let q = err_from_is_err_and c.from_residual.result c.from_residual.ensures.1 in
-    let both = told_as g.D.Disk _ _ _ _ _ _ c.from_residual.result (refused f) (q.1 ∙ ap refused q.2) (told_refused g.D.Disk g.met.D.Disk.only_now c.self.inside.blocks
-    c.self.inside.zero c.self.inside.frames c.self.inside.index c.args.self.now (made_by c.args.self.now.shape.block c.args.item.now) (adds_record c.args.item.now) (body_size c.args.item.now) c.args.adds
-    (calls_of c.args.self.now (body_size c.args.item.now) 4) f c.self.view_is adds c.self.invariant c.in_err-ready.ensures.refused) in
+    let both = told_as g.D.Disk _ _ _ _ _ _ c.from_residual.result (refused f) (q.1 ∙ ap refused q.2) (told_refused g.D.Disk g.met.D.Disk.only_now x.blocks
+    x.zero x.frames x.index c.args.self.now (made_by c.args.self.now.shape.block item) (adds_record item) (body_size item) c.args.adds
+    (calls_of c.args.self.now (body_size item) 4) f c.self.view_is adds c.self.invariant c.in_err-ready.ensures.refused) in
     record { change = both.0; answer = both.1 }

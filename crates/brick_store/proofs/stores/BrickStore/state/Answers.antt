@@ -14,28 +14,43 @@ use Rattle.brick_store.proofs.stores.BrickStore.state.Goals as goal
 
 pub invariant_of-t-11 : goal.invariant_of-t-11
 invariant_of-t-11 g c =
-    let size = c.self.inside.frames.shape.block in
-    let all = cached_held size c.self.inside.blocks (stripe_at (state_of c.self.inside.index) (place c.args.group c.args.view c.args.stripe)).added (slots_at (IsCached size c.self.inside.blocks) (place c.args.group c.args.view c.args.stripe) (state_of c.self.inside.index).stripes c.self.invariant.cached_all) in
-    subst (λ (es : List Entry). AllHeld c.self.inside.blocks es) (ap (λ (s : StripeOf Entry). s.added) c.in-Some.ensures.some) all
+    let x = c.self.inside in
+    let st = state_of x.index in
+    let size = x.frames.shape.block in
+    let p = place c.args.group c.args.view c.args.stripe in
+    let all = cached_held size x.blocks (stripe_at st p).added (slots_at (IsCached size x.blocks) p st.stripes c.self.invariant.cached_all) in
+    subst (λ (es : List Entry). AllHeld x.blocks es) (ap (λ (s : StripeOf Entry). s.added) c.in-Some.ensures.some) all
 
 pub returns-in-Some-clause-order : goal.returns-in-Some-clause-order
 returns-in-Some-clause-order g c =
-    sym (ap (λ (s : StripeOf Entry). s.order) c.in-Some.ensures.some) ∙ order_seen (cached c.self.inside.frames.shape.block c.self.inside.blocks) (state_of c.self.inside.index) (place c.args.group c.args.view c.args.stripe)
-    ∙ ap (λ (b : Brick g.row.D.Denot). (stripe_at b.state (place c.args.group c.args.view c.args.stripe)).order) c.self.view_is
+    let x = c.self.inside in
+    let st = state_of x.index in
+    let p = place c.args.group c.args.view c.args.stripe in
+    sym (ap (λ (s : StripeOf Entry). s.order) c.in-Some.ensures.some) ∙ order_seen (cached x.frames.shape.block x.blocks) st p
+    ∙ ap (λ (b : Brick g.row.D.Denot). (stripe_at b.state p).order) c.self.view_is
 
 pub returns-in-Some-clause-log : goal.returns-in-Some-clause-log
 returns-in-Some-clause-log g c =
-    log_seen c.self.inside.frames.shape.block c.self.inside.zero c.self.inside.blocks (state_of c.self.inside.index) (place c.args.group c.args.view c.args.stripe) c.in-Some.kept.now.from_start c.in-Some.kept.now.added.versions.items c.self.invariant.zero_is
+    let x = c.self.inside in
+    let st = state_of x.index in
+    let p = place c.args.group c.args.view c.args.stripe in
+    log_seen x.frames.shape.block x.zero x.blocks st p c.in-Some.kept.now.from_start c.in-Some.kept.now.added.versions.items c.self.invariant.zero_is
     (ap (λ (s : StripeOf Entry). s.from_start) c.in-Some.ensures.some) (ap (λ (s : StripeOf Entry). s.added) c.in-Some.ensures.some)
-    ∙ ap (λ (b : Brick g.row.D.Denot). log_at b.shape.block b.state (place c.args.group c.args.view c.args.stripe)) c.self.view_is
+    ∙ ap (λ (b : Brick g.row.D.Denot). log_at b.shape.block b.state p) c.self.view_is
 
 pub returns-in-None-clause-order : goal.returns-in-None-clause-order
 returns-in-None-clause-order g c =
-    sym (ap (λ (s : StripeOf Entry). s.order) c.in-None.ensures.none) ∙ order_seen (cached c.self.inside.frames.shape.block c.self.inside.blocks) (state_of c.self.inside.index) (place c.args.group c.args.view c.args.stripe)
-    ∙ ap (λ (b : Brick g.row.D.Denot). (stripe_at b.state (place c.args.group c.args.view c.args.stripe)).order) c.self.view_is
+    let x = c.self.inside in
+    let st = state_of x.index in
+    let p = place c.args.group c.args.view c.args.stripe in
+    sym (ap (λ (s : StripeOf Entry). s.order) c.in-None.ensures.none) ∙ order_seen (cached x.frames.shape.block x.blocks) st p
+    ∙ ap (λ (b : Brick g.row.D.Denot). (stripe_at b.state p).order) c.self.view_is
 
 pub returns-in-None-clause-log : goal.returns-in-None-clause-log
 returns-in-None-clause-log g c =
-    log_seen c.self.inside.frames.shape.block c.self.inside.zero c.self.inside.blocks (state_of c.self.inside.index) (place c.args.group c.args.view c.args.stripe) _ _ c.self.invariant.zero_is
+    let x = c.self.inside in
+    let st = state_of x.index in
+    let p = place c.args.group c.args.view c.args.stripe in
+    log_seen x.frames.shape.block x.zero x.blocks st p _ _ c.self.invariant.zero_is
     (ap (λ (s : StripeOf Entry). s.from_start) c.in-None.ensures.none) (ap (λ (s : StripeOf Entry). s.added) c.in-None.ensures.none)
-    ∙ ap (λ (b : Brick g.row.D.Denot). log_at b.shape.block b.state (place c.args.group c.args.view c.args.stripe)) c.self.view_is
+    ∙ ap (λ (b : Brick g.row.D.Denot). log_at b.shape.block b.state p) c.self.view_is

@@ -16,9 +16,10 @@ use Rattle.brick_store.proofs.stores.BrickStore.synced.Goals as goal
 
 pub learnt_view-requires : goal.learnt_view-requires
 learnt_view-requires g c =
+    let x = c.self.inside in
     subst (λ (group : Group). IsSome group.known) (sym c.group.ensures)
     (subst (λ (gs : List Group). IsSome (slice_index_or gs c.args.group.0 no_group).known)
-    (groups-resolved (cached c.self.inside.frames.shape.block c.self.inside.blocks) (state_of c.self.inside.index))
+    (groups-resolved (cached x.frames.shape.block x.blocks) (state_of x.index))
     (subst (λ (b : Brick g.row.D.Denot). IsSome (group_at b.state c.args.group.0).known) (sym c.self.view_is) c.requires.learnt))
 
 pub change-requires-clause-can : goal.change-requires-clause-can
@@ -33,11 +34,12 @@ change-requires-clause-can g c =
 
 pub returns : goal.returns
 returns g c =
+    let x = c.self.inside in
     let old = c.args.self.now in
     let group = group_at old.state c.args.group.0 in
     let is : learnt_view group ≡ Some c.learnt_view.result =
     ap (λ (b : Brick g.row.D.Denot). learnt_view (group_at b.state c.args.group.0)) (sym c.self.view_is)
-    ∙ ap (λ (gs : List Group). learnt_view (slice_index_or gs c.args.group.0 no_group)) (groups-resolved (cached c.self.inside.frames.shape.block c.self.inside.blocks) (state_of c.self.inside.index))
+    ∙ ap (λ (gs : List Group). learnt_view (slice_index_or gs c.args.group.0 no_group)) (groups-resolved (cached x.frames.shape.block x.blocks) (state_of x.index))
     ∙ ap learnt_view (sym c.group.ensures) ∙ c.learnt_view.ensures in
     let both = subst (λ (n : ℕ). Told g.D.Disk old c.change.new.self (synced_to (learnt_view group) c.args.group.0 old.state) n false (calls_of old n 4) c.change.result)
     (known_is group.known c.learnt_view.result is)
