@@ -9,7 +9,6 @@ use Rattle.brick.specs.declared.endings.Ending.{Ending}
 use Rattle.brick.specs.declared.endings.Ending.TheVariants.{Formatted, Ended, Commanded, Served, Usage, BadLayout, LongLayout, Source, Sink, Memory, Disk, Host, NotAStore, Worn}
 use Rattle.brick.specs.Endings.{status_of}
 use Rattle.brick.specs.Hosts.{HostSeen}
-use Rattle.frame_store.specs.declared.shapes.Form.{Form}
 use Rattle.frame_store.specs.Images.{OpensAs}
 use Rattle.frame_store.specs.Layouts.{shape_of, formed}
 use Rattle.brick_state.specs.States.{empty}

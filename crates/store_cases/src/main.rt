@@ -3,7 +3,7 @@
 //! A change of a store makes a number of calls of the disk. Each of them is made to stop, in the middle of its work, or to fail, with
 //! nothing done. The disk is then settled by pick 0 (nothing of the calls since the last sync was done), pick 1 (all was done) or pick 2
 //! (each byte that is not certain is drawn), and the store is opened again: it tells what it told before the change, or what it tells
-//! after it. A line has a word for each call, and one for a number that the change doesn't reach. Some are tried over a store of the old
+//! after it. A line has a word for each call, and one for a number that the change doesn't reach. One is tried over a store of the old
 //! format, too, that an opening brought over; so is that opening.
 #![tactic(auto)]
 

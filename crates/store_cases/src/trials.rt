@@ -233,18 +233,13 @@ fn print_each(rt: &(impl Print + AllocGlobal), trials: &[Trial<'_>]) -> Result<(
     Ok(())
 }
 
-/// Prints two changes that need a slot or free one, and an opening, of a store that is made in this format.
+/// Prints a change that needs a slot, of a store that is made in this format.
 pub fn run(rt: &(impl Print + AllocGlobal), origin: Origin) -> Result<()> {
     let plain = image_after(rt.alloc(), origin, &PREPARED)?;
-    let trials = [
-        change("add_version", Change::Version(9, 9), 5, &plain),
-        change("collect", Change::Collect(2), 4, &plain),
-        opening("open_store", 5, &plain),
-    ];
-    print_each(rt, &trials)
+    change("add_version", Change::Version(9, 9), 5, &plain).print(rt)
 }
 
-/// Prints each other change, and an order of a full store that first needs a rewrite of the list.
+/// Prints each other change and an opening, and an order of a full store that first needs a rewrite of the list.
 pub fn print_others(rt: &(impl Print + AllocGlobal)) -> Result<()> {
     let alloc = rt.alloc();
     let plain = image_after(alloc, Origin::New, &PREPARED)?;
@@ -253,10 +248,12 @@ pub fn print_others(rt: &(impl Print + AllocGlobal)) -> Result<()> {
     let trials = [
         change("set_order", Change::Order(9), 4, &plain),
         change("add_version of the same block", Change::Same(9), 4, &plain),
+        change("collect", Change::Collect(2), 4, &plain),
         change("set_ballot", Change::Promise(9), 4, &plain),
         change("accept", Change::Accept(9), 4, &plain),
         change("learn", Change::Learn(2), 4, &plain),
         change("synced", Change::Synced, 4, &learnt),
+        opening("open_store", 5, &plain),
         change("set_order with a rewrite", Change::Order(9), 11, &full),
     ];
     print_each(rt, &trials)

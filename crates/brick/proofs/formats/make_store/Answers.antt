@@ -16,7 +16,7 @@ returns-in-Ok-made-clause-makes g c = (
     },
     λ tells.
         let stands = c.in-Ok-made.ensures.change.whole refl tells in
-        fresh _ _ _ _ _ _ _ _ c.block.ensures c.records.ensures.value c.store.ensures stands.has (leaves _ _ _ stands) (c.in-Ok-made.ensures.form tells),
+        fresh _ _ _ _ _ _ _ _ c.block.ensures c.records.ensures.value c.store-is_old.ensures stands.has (leaves _ _ _ stands) (c.in-Ok-made.ensures.form tells),
   ),
 )
 
