@@ -3,11 +3,13 @@
 import os
 import signal
 import subprocess
+import time
 
 LAYOUT = """block = {block}
 bricks = {bricks}
 records = {records}
 port = {port}
+store = {store}
 [[group]]
 m = {m}
 members = [{members}]
@@ -25,7 +27,7 @@ def free_port():
 class Bricks:
     """The stores of a layout in a folder, and the processes that serve them."""
 
-    def __init__(self, program, folder, bricks=3, m=1, block=16, records=1000, stripes=8):
+    def __init__(self, program, folder, bricks=3, m=1, block=16, records=1000, stripes=8, store=2):
         self.program, self.folder, self.count = program, folder, bricks
         self.m, self.block, self.stripes = m, block, stripes
         self.port = free_port()
@@ -33,7 +35,7 @@ class Bricks:
         members = ", ".join(str(brick) for brick in range(bricks))
         with open(self.layout, "w") as text:
             text.write(LAYOUT.format(block=block, bricks=bricks, records=records, port=self.port, m=m,
-                                     members=members, stripes=stripes))
+                                     members=members, stripes=stripes, store=store))
         self.running = {}
 
     def store(self, brick):
@@ -46,14 +48,37 @@ class Bricks:
 
     def format(self):
         for brick in range(self.count):
-            status, text = self.run("format", self.layout, self.store(brick), str(brick))
-            if status != 0:
-                raise SystemExit(f"format ended with {status}: {text}")
+            self.format_at(self.store(brick), brick)
+
+    def format_at(self, store, brick):
+        status, text = self.run("format", self.layout, store, str(brick))
+        if status != 0:
+            raise SystemExit(f"format ended with {status}: {text}")
+
+    def first_start_seconds(self):
+        """How long the first start of a store takes, by a store that is made for this alone."""
+        store = os.path.join(self.folder, "timed")
+        self.format_at(store, 0)
+        begin = time.monotonic()
+        self.run("serve", self.layout, store, "0", "0")
+        return time.monotonic() - begin
+
+    def serve(self, brick):
+        """Begins to serve a brick."""
+        return subprocess.Popen([self.program, "serve", self.layout, self.store(brick), str(brick), FOREVER],
+                                stdout=subprocess.PIPE, text=True)
+
+    def start_and_kill(self, brick, seconds):
+        """Begins to serve a brick, and kills it after so long: whether it served by then."""
+        process = self.serve(brick)
+        time.sleep(seconds)
+        process.kill()
+        said, _ = process.communicate()
+        return said == f"serving {brick}\n"
 
     def start(self, brick):
         """Serves a brick, and waits until its link is open."""
-        process = subprocess.Popen([self.program, "serve", self.layout, self.store(brick), str(brick), FOREVER],
-                                   stdout=subprocess.PIPE, text=True)
+        process = self.serve(brick)
         said = process.stdout.readline()
         if said != f"serving {brick}\n":
             process.kill()

@@ -11,10 +11,15 @@ the median of both rates, their ratio, and the ratio of the median processor tim
 for at least a fifth.
 
 For m = 4, n = 6 and a block of 4,096 it also copies 16 MiB to and from the disk by `nbdcopy --requests=1`, of Debian's libnbd-bin, over `brick nbd`, in the same five
-turns, and prints the bytes a second of both and their ratio. nbdcopy asks for 256 KiB a request; its start is counted. The project asks for at least as many
-bytes a second as `brick local` has, and would like 1.3 times as many. Without nbdcopy these rows are left out.
+turns. nbdcopy asks for 256 KiB a request. The copy fills a new disk of 1,024 stripes, while `local` above writes 64 stripes again and again, whose memory is there
+already; so `local` also writes, and reads, each stripe of such a disk once. Two rows of ratios are printed: of the whole copy, nbdcopy's start with it, to the
+`local` above; and of the copy to `local` over the same disk, where the time of a first request and of a first command is left out. The project asks for at least as
+many bytes a second as `brick local` has, and would like 1.3 times as many. Without nbdcopy these rows are left out.
+
+All of it runs at a real-time priority if that is allowed, so that other work on the machine counts less.
 """
 
+import contextlib
 import os
 import resource
 import shutil
@@ -29,7 +34,7 @@ ROUNDS = 5
 HEAD = 6
 CALL, STAMP = 28, 18
 CLIENT, REPLY = HEAD + 22, HEAD + 9
-COPIED = 16 * 2**20
+COPIED, REQUEST = 16 * 2**20, 256 * 2**10
 COPIES = (4, 6, 4096)
 
 LAYOUT = """block = {block}
@@ -90,12 +95,12 @@ def listens(port):
     return any(row[1] == f"0100007F:{port:04X}" and row[3] == "0A" for row in rows)
 
 
-def nbd(program, folder, write, m, n, block):
-    """Seconds of nbdcopy for so many bytes to the disk, or from it, once they are there."""
-    layout, stores, port = make(program, folder, m, n, block, COPIED // (m * block))
+def nbd(program, folder, write, m, n, block, size):
+    """Seconds of nbdcopy for so many bytes to a new disk of as many, or from it, once they are there."""
+    layout, stores, port = make(program, folder, m, n, block, size // (m * block))
     there, back = os.path.join(folder, "there"), os.path.join(folder, "back")
     with open(there, "wb") as file:
-        file.write(os.urandom(COPIED))
+        file.write(os.urandom(size))
 
     def copy(*words):
         served = subprocess.Popen([program, "nbd", layout, stores, str(port), str(10**15)], stdout=subprocess.PIPE, text=True)
@@ -119,15 +124,44 @@ def nbd(program, folder, write, m, n, block):
 
 def local(program, folder, write, m, n, block):
     """Seconds and processor seconds for the operations by `brick local`, the start of the program left out."""
-    layout, stores, _ = make(program, folder, m, n, block, 64)
+    run = commander(program, folder, m, n, block, 64)
+    whole, start = run(write, OPERATIONS), run(write, 1)
+    return whole[0] - start[0], whole[1] - start[1]
+
+
+def local_once(program, folder, write, m, n, block, size):
+    """Seconds of `brick local` for a write of each stripe but one of a new disk of so many bytes, or for a read, once they are there."""
+    stripes = size // (m * block)
+    run = commander(program, folder, m, n, block, stripes)
+    if not write:
+        run(True, stripes)
+    start, whole = run(write, 1), run(write, stripes)
+    return whole[0] - start[0]
+
+
+def copied(program, place, write, m, n, block):
+    """Bytes a second of a copy by nbdcopy; of all but its first request; and of `local` over such a disk."""
+
+    def seconds(measure, size):
+        with tempfile.TemporaryDirectory(dir=place) as folder:
+            return measure(program, folder, write, m, n, block, size)
+
+    whole, first, once = seconds(nbd, COPIED), seconds(nbd, REQUEST), seconds(local_once, COPIED)
+    return COPIED / whole, (COPIED - REQUEST) / (whole - first), (COPIED - m * block) / once
+
+
+def commander(program, folder, m, n, block, stripes):
+    """What runs so many commands over a new disk of so many stripes, one stripe after another, and answers the seconds and processor seconds that it took."""
+    layout, stores, _ = make(program, folder, m, n, block, stripes)
     data = m * block
 
     commands, answers = os.path.join(folder, "commands"), os.path.join(folder, "answers")
 
-    def run(operations):
+    def run(write, operations):
         with open(commands, "w") as text:
             for k in range(operations):
-                text.write(f"write {k % n} v {k % 64 * data} {'5a' * data}\n" if write else f"read {k % n} v {k % 64 * data} {data}\n")
+                at = k % stripes * data
+                text.write(f"write {k % n} v {at} {'5a' * data}\n" if write else f"read {k % n} v {at} {data}\n")
         with open(commands) as given, open(answers, "w") as taken:
             ended, seconds, processor = run_timed([program, "local", layout, stores, str(10**12)], stdin=given, stdout=taken)
         with open(answers) as text:
@@ -136,14 +170,15 @@ def local(program, folder, write, m, n, block):
             raise SystemExit(f"local ended with {ended.returncode}: {good} of {operations} answered")
         return seconds, processor
 
-    whole, start = run(OPERATIONS), run(1)
-    return whole[0] - start[0], whole[1] - start[1]
+    return run
 
 
 def main(words):
     if not 1 <= len(words) <= 2:
         print(__doc__, file=sys.stderr)
         return 2
+    with contextlib.suppress(PermissionError):
+        os.sched_setscheduler(0, os.SCHED_FIFO, os.sched_param(1))
     here = os.path.dirname(os.path.abspath(__file__))
     with tempfile.TemporaryDirectory() as built:
         echo = os.path.join(built, "echo")
@@ -155,24 +190,24 @@ def main(words):
             for block in (1024, 4096):
                 for write in (True, False):
                     datagrams = [str(size) for size in sizes(write, m, n, block)]
-                    ours, bare, copied = [], [], []
+                    ours, bare, rates = [], [], []
                     place = words[1] if len(words) == 2 else "/dev/shm"
                     for _ in range(ROUNDS):
                         with tempfile.TemporaryDirectory(dir=place) as folder:
                             ours.append(local(words[0], folder, write, m, n, block))
                         if (m, n, block) == copies:
-                            with tempfile.TemporaryDirectory(dir=place) as folder:
-                                copied.append(nbd(words[0], folder, write, m, n, block))
+                            rates.append(copied(words[0], place, write, m, n, block))
                         told, _, processor = run_timed([echo, str(OPERATIONS), *datagrams], text=True, stdout=subprocess.PIPE, check=True)
                         bare.append((float(told.stdout), processor))
                     (wall, busy), (bare_wall, bare_busy) = (map(statistics.median, zip(*them)) for them in (ours, bare))
-                    print(f"{'write' if write else 'read'} {m} {n} {block} | {OPERATIONS / wall:.0f} | {OPERATIONS / bare_wall:.0f} | {bare_wall / wall:.2f}"
-                          f" | {bare_busy / busy:.2f}")
-                    if copied:
-                        mine, theirs = COPIED / statistics.median(copied) / 1e6, OPERATIONS * m * block / wall / 1e6
-                        rows.append(f"{'write' if write else 'read'} {m} {n} {block} | {mine:.0f} | {theirs:.0f} | {mine / theirs:.2f}")
+                    name = f"{'write' if write else 'read'} {m} {n} {block}"
+                    print(f"{name} | {OPERATIONS / wall:.0f} | {OPERATIONS / bare_wall:.0f} | {bare_wall / wall:.2f} | {bare_busy / busy:.2f}")
+                    if rates:
+                        whole, rest, once = (statistics.median(them) / 1e6 for them in zip(*rates))
+                        above = OPERATIONS * m * block / wall / 1e6
+                        rows.append(f"{name} | {whole:.0f} | {above:.0f} | {whole / above:.2f} | {rest:.0f} | {once:.0f} | {rest / once:.2f}")
         if rows:
-            print("operation m n block | MB/s of nbd | MB/s of local | ratio")
+            print("operation m n block | MB/s of nbd | of local above | ratio | of nbd behind the first request | of local once | ratio")
             print(*rows, sep="\n")
     return 0
 

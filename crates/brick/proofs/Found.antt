@@ -1,5 +1,5 @@
 -- What was found of a layout.
-use Rattle.std.proofs.Common.{◌≡◌, ◌<◌, ℕ, arith, List, Option, Some, None, Result, Ok, Err, inl, inr, subst}
+use Rattle.std.proofs.Common.{◌≡◌, ◌<◌, ℕ, eqb, true, arith, List, [], Option, Some, None, Result, Ok, Err, inl, inr, subst}
 use Rattle.std.specs.Prelude.{nat_lt}
 use Rattle.std.proofs.lemmas.Bool.{cases_Bool, ltb-true}
 use Rattle.std.proofs.lemmas.Option.{same_Some}
@@ -9,10 +9,11 @@ use Rattle.brick.specs.declared.endings.Ending.{Ending}
 use Rattle.brick.specs.declared.endings.Ending.TheVariants.{Formatted, Ended, Commanded, Served, Usage, BadLayout, LongLayout, Source, Sink, Memory, Disk, Host, NotAStore, Worn}
 use Rattle.brick.specs.Endings.{status_of}
 use Rattle.brick.specs.Hosts.{HostSeen}
-use Rattle.frame_store.specs.Layouts.{shape_of}
+use Rattle.frame_store.specs.Images.{OpensAs}
+use Rattle.frame_store.specs.Layouts.{shape_of, formed}
 use Rattle.brick_state.specs.States.{empty}
 use Rattle.brick_store.specs.Images.{StandsFor, LeavesState}
-use Rattle.brick.specs.Formats.{IsFresh}
+use Rattle.brick.specs.Formats.{IsFresh, made_form}
 use Rattle.brick.specs.Layouts.{ReadsSource, FindsLayout, brick_of}
 
 -- a source that was read is one way to find a layout, or none
@@ -35,14 +36,18 @@ found told failed before after name (Err NotAStore) r = r
 found told failed before after name (Err Worn) r = r
 
 -- a store that was made of these blocks and records is that of the layout
-pub fresh : {D : Type 0} (seen : D → List ℕ) (may_leave : D → List ℕ → Type 0) (layout : Layout) (me : BrickId) (disk : D) (block records : ℕ)
-    → block ≡ layout.block → records ≡ layout.records → StandsFor (shape_of me.0 block records) empty (seen disk)
-    → LeavesState (shape_of me.0 block records) empty (may_leave disk) → IsFresh seen may_leave layout me disk
-fresh seen may_leave layout me disk block records blocks are stands leaves = record {
+pub fresh : {D : Type 0} (seen : D → List ℕ) (may_leave : D → List ℕ → Type 0) (layout : Layout) (me : BrickId) (disk : D) (block records store : ℕ)
+    → block ≡ layout.block → records ≡ layout.records → store ≡ layout.store → StandsFor (shape_of me.0 block records) empty (seen disk)
+    → LeavesState (shape_of me.0 block records) empty (may_leave disk)
+    → OpensAs (formed (made_form (eqb store 1)) (shape_of me.0 block records)) [] true (seen disk) → IsFresh seen may_leave layout me disk
+fresh seen may_leave layout me disk block records store blocks are stored stands leaves opens = record {
   now = subst (λ (b : ℕ). StandsFor (shape_of me.0 b layout.records) empty (seen disk)) blocks
       (subst (λ (r : ℕ). StandsFor (shape_of me.0 block r) empty (seen disk)) are stands);
   durable = subst (λ (b : ℕ). LeavesState (shape_of me.0 b layout.records) empty (may_leave disk)) blocks
       (subst (λ (r : ℕ). LeavesState (shape_of me.0 block r) empty (may_leave disk)) are leaves);
+  format = subst (λ (s : ℕ). OpensAs (formed (made_form (eqb s 1)) (shape_of me.0 layout.block layout.records)) [] true (seen disk)) stored
+      (subst (λ (b : ℕ). OpensAs (formed (made_form (eqb store 1)) (shape_of me.0 b layout.records)) [] true (seen disk)) blocks
+      (subst (λ (r : ℕ). OpensAs (formed (made_form (eqb store 1)) (shape_of me.0 block r)) [] true (seen disk)) are opens));
 }
 
 -- a layout that was not found is no fault of the sink

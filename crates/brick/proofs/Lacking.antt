@@ -1,5 +1,5 @@
 -- A program that finds no memory for its words has done nothing.
-use Rattle.std.proofs.Common.{◌≡◌, ℕ, arith, List, [], Option, Some, None, Err, inl, inr, refl, sym, append-nil}
+use Rattle.std.proofs.Common.{◌≡◌, ℕ, arith, List, Option, Some, None, Err, inl, inr, refl, sym, append-nil}
 use Rattle.std.proofs.KnownBytes.{Keeps-refl}
 use Rattle.brick.specs.declared.endings.Ending.TheVariants.{Memory}
 use Rattle.brick.specs.Bricks.{OutFailed, Runs}

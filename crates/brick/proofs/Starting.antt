@@ -1,11 +1,13 @@
 -- A store that may be started is neither refused as none nor as worn.
 use Rattle.std.proofs.Common.{◌≡◌, ◌⊎◌, ◌-◌, ◌^◌, ◌<◌, ℕ, arith, List, inl, inr, sym, ap, ◌∙◌, subst}
 use Rattle.frame_store.specs.declared.frames.Frame.{Frame}
+use Rattle.frame_store.specs.declared.shapes.Form.{Form}
 use Rattle.frame_store.specs.declared.shapes.Shape.{Shape}
 use Rattle.frame_store.specs.declared.shapes.Half.{Half}
 use Rattle.frame_store.specs.declared.shapes.Half.TheVariants.{A, B}
-use Rattle.frame_store.specs.Images.{InForce, IsNoStore}
-use Rattle.frame_store.proofs.Openings.{opens_once}
+use Rattle.frame_store.specs.Images.{InForce, IsNoStore, OpensAs}
+use Rattle.frame_store.specs.Layouts.{formed}
+use Rattle.frame_store.proofs.Openings.{opens_once, opens_in_one_form}
 use Rattle.version_log.specs.Versions.{Version}
 use Rattle.brick_state.specs.States.{StateOf}
 use Rattle.brick_store.specs.Images.{IsFound, state_in}
@@ -22,13 +24,20 @@ use Rattle.brick.specs.Views.{Views}
 -- an image is found as one state
 found_once : (shape : Shape) (st other : StateOf Version) (image : List ℕ) → IsFound shape st image → IsFound shape other image → st ≡ other
 found_once shape st other image found again =
-    let once = opens_once shape image found.frames again.frames found.closed again.closed found.opens again.opens in
-    sym found.state ∙ ap (λ (frames : List Frame). state_in shape frames image) once.0 ∙ again.state
+    let same : found.form ≡ again.form =
+    opens_in_one_form shape found.form again.form image found.frames again.frames found.closed again.closed found.opens again.opens
+    in
+    let there : OpensAs (formed again.form shape) found.frames found.closed image =
+    subst (λ (form : Form). OpensAs (formed form shape) found.frames found.closed image) same found.opens
+    in
+    let once = opens_once (formed again.form shape) image found.frames again.frames found.closed again.closed there again.opens in
+    sym found.state ∙ ap (λ (form : Form). state_in (formed form shape) found.frames image) same
+    ∙ ap (λ (frames : List Frame). state_in (formed again.form shape) frames image) once.0 ∙ again.state
 
 -- an image that is read by one half has an open header
-in_force_open : (shape : Shape) (half : Half) (image : List ℕ) → InForce shape half image → IsNoStore shape image → ⊥
-in_force_open shape A image force none = none.first force.0
-in_force_open shape B image force none = none.second force.0
+in_force_open : (shape : Shape) (form : Form) (half : Half) (image : List ℕ) → InForce (formed form shape) half image → IsNoStore shape image → ⊥
+in_force_open shape form A image force none = none.first form force.0
+in_force_open shape form B image force none = none.second form force.0
 
 pub is_a_store : {D : Type 0} (tells : Type 0) (seen : D → List ℕ) (layout : Layout) (me : BrickId) (disk : D) (U : Type 0)
     → MayStart tells seen layout me disk
@@ -36,7 +45,7 @@ pub is_a_store : {D : Type 0} (tells : Type 0) (seen : D → List ℕ) (layout :
     ⊎ ((st : StateOf Version) × IsFound (shape_at layout me) st (seen disk) × (ListsStand layout st → ⊥))) → ⊥
 is_a_store tells seen layout me disk U may refused =
     elim (refused may.told) [
-      | inl none ↦ in_force_open (shape_at layout me) may.found.opens.half (seen disk) may.found.opens.in_force none.0
+      | inl none ↦ in_force_open (shape_at layout me) may.found.form may.found.opens.half (seen disk) may.found.opens.in_force none.0
       | inr other ↦ other.2 (subst (ListsStand layout) (found_once (shape_at layout me) may.st other.0 (seen disk) may.found other.1) may.lists)
     ]
 

@@ -1,11 +1,14 @@
 -- What `brick format` does to its host, once the layout was found, and how it ends.
-use Rattle.std.specs.Prelude.{◌≡◌, ◌⊎◌, ◌<◌, ℕ, true, List, Option, Some, None}
+use Rattle.std.specs.Prelude.{◌≡◌, ◌⊎◌, ◌<◌, ◌==◌, ℕ, Bool, true, false, List, [], Option, Some, None}
 use Rattle.fab_base.specs.declared.identities.BrickId.{BrickId}
 use Rattle.fab_base.specs.Layouts.{Layout}
 use Rattle.fab_base.specs.Faults.{Rose}
 use Rattle.fab_host.specs.declared.hosts.Asked.TheVariants as calls
 use Rattle.fab_host.specs.Holdings.{Holdings, IsFree}
-use Rattle.frame_store.specs.Layouts.{shape_of}
+use Rattle.frame_store.specs.declared.shapes.Form.{Form}
+use Rattle.frame_store.specs.declared.shapes.Form.TheVariants.{Old, New}
+use Rattle.frame_store.specs.Images.{OpensAs}
+use Rattle.frame_store.specs.Layouts.{shape_of, formed}
 use Rattle.brick_state.specs.States.{empty}
 use Rattle.brick_store.specs.Images.{StandsFor, LeavesState}
 use Rattle.brick.specs.declared.endings.Ending.{Ending}
@@ -13,10 +16,16 @@ use Rattle.brick.specs.declared.endings.Ending.TheVariants.{Formatted, Usage, Me
 use Rattle.brick.specs.Hosts.{HostSeen, IsUnasked, AsksOnly, AsksInVain, ReturnsFresh}
 use Rattle.brick.specs.Layouts.{HoldsLayout}
 
--- the disk opens, now and after a crash, as the empty store of this layout and brick
+-- the form in which a store is made, of the old format or of the new one
+abbrev pub made_form : Bool → Form
+made_form true = Old
+made_form false = New
+
+-- the disk opens, now and after a crash, as the empty store of this layout and brick, and in the format that the layout names
 pub record IsFresh {D : Type 0} (seen : D → List ℕ) (may_leave : D → List ℕ → Type 0) (layout : Layout) (me : BrickId) (disk : D) : Type 0 where
   pub now : StandsFor (shape_of me.0 layout.block layout.records) empty (seen disk)
   pub durable : LeavesState (shape_of me.0 layout.block layout.records) empty (may_leave disk)
+  pub format : OpensAs (formed (made_form (layout.store == 1)) (shape_of me.0 layout.block layout.records)) [] true (seen disk)
 
 -- the fresh disk of this name was asked for, and given back as this one
 abbrev pub AsksFresh : {S D L N C : Type 0} → HostSeen S D L N C → HostSeen S D L N C → List ℕ → D → Type 0

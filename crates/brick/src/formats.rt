@@ -1,16 +1,23 @@
 //! `brick format`.
 
-ghost use Rattle.std.specs.Prelude.{◌≡◌, ◌≢◌};
+ghost use Rattle.std.specs.Prelude.{◌≡◌, ◌≢◌, ◌≤◌, [], true, OnOk};
+ghost use Rattle.fab_disk.specs.Changing.{IsAny, Run};
+ghost use Rattle.frame_store.specs.Images.{OpensAs};
+ghost use Rattle.frame_store.specs.Layouts.{shape_of, formed};
+ghost use Rattle.brick_state.specs.States.{empty};
+ghost use Rattle.brick_store.specs.Images.{StandsFor};
+ghost use Rattle.brick_store.specs.Openings.{making_end};
 ghost use Rattle.fab_host.specs.Holdings.{IsFree};
 ghost use Rattle.fab_host.specs.Opening.{WhereTold};
 ghost use Rattle.brick.specs.Endings.{status_of};
-ghost use Rattle.brick.specs.Formats.{MakesStore, FormatsBrick};
+ghost use Rattle.brick.specs.Formats.{MakesStore, FormatsBrick, made_form};
 ghost use Rattle.brick.specs.Hosts.{host_seen};
 ghost use Rattle.brick.specs.Layouts.{brick_of};
 
 use crate::endings::Ending;
 use crate::layout_texts::brick_of;
 use fab_base::BrickId;
+use fab_disk::Disk;
 use fab_host::Host;
 use fab_io::IoFault;
 use layout::Layout;
@@ -59,11 +66,40 @@ fn make_store<H: Host>(
         Err(IoFault::Failed) => return Ending::Host,
         Err(IoFault::NoMemory) => return Ending::Memory,
     };
-    let made = brick_store::format(alloc, &mut disk, me, layout.block(), layout.records());
+    let is_old = layout.store() == 1;
+    let made = make_on(
+        alloc,
+        &mut disk,
+        me,
+        layout.block(),
+        layout.records(),
+        is_old,
+    );
     host.keep_disk(name, disk);
     match made {
         Ok(()) => Ending::Formatted(me),
         Err(IoFault::Failed) => Ending::Disk,
         Err(IoFault::NoMemory) => Ending::Memory,
+    }
+}
+
+/// Makes an empty store on a disk, of the old format or of the new one.
+fn make_on<D: Disk>(
+    alloc: Global,
+    disk: &mut D,
+    me: BrickId,
+    block: u16,
+    records: u32,
+    is_old: bool,
+) -> Result<(), IoFault>
+    requires block_range { (1 ≤ block) × (block ≤ 4096) }
+    requires records_range { (1 ≤ records) × (records ≤ 1048576) }
+    ensures change { Run D.Disk 5 IsAny IsAny (StandsFor (shape_of me.0 block records) empty) disk.old disk.new (making_end result) }
+    ensures form { D.tells → OnOk result (OpensAs (formed (made_form is_old) (shape_of me.0 block records)) [] true (D.seen disk.new)) }
+{
+    if is_old {
+        brick_store::format_one(alloc, disk, me, block, records)
+    } else {
+        brick_store::format(alloc, disk, me, block, records)
     }
 }

@@ -8,7 +8,9 @@ use Rattle.std.proofs.lemmas.Bool.Decides.{nat_tests}
 use Rattle.fab_disk.specs.declared.disk.Disk as on_disk
 use Rattle.fab_disk.proofs.Changing.{same as at_once}
 use Rattle.frame_store.specs.declared.shapes.Shape.{Shape}
+use Rattle.frame_store.specs.declared.shapes.Form.TheVariants.{New}
 use Rattle.frame_store.specs.Images.{StandsIn, KeepsSlots}
+use Rattle.frame_store.specs.Layouts.{formed}
 use Rattle.frame_store.specs.Listed.{size_of}
 use Rattle.frame_store.specs.Stores.{Held}
 use Rattle.version_log.specs.Versions.{Version}
@@ -53,7 +55,7 @@ stripes_both : (P Q : ℕ → Type 0) (stripes : List (Place × StripeOf Entry))
 stripes_both P Q [] all also = tt
 stripes_both P Q (e ∷ stripes) all also = (entries_both P Q e.1.added all.0 also.0, stripes_both P Q stripes all.1 also.1)
 
-slots_both : (P Q : ℕ → Type 0) (st : StateOf Entry) → AllSlots P st → AllSlots Q st → AllSlots (λ slot. P slot × Q slot) st
+pub slots_both : (P Q : ℕ → Type 0) (st : StateOf Entry) → AllSlots P st → AllSlots Q st → AllSlots (λ slot. P slot × Q slot) st
 slots_both P Q st all also = stripes_both P Q st.stripes all also
 
 -- memory holds the same under a slot as other memory does
@@ -86,7 +88,7 @@ same_settled blocks now slot st st_now (Err e) added others same unnamed =
     subst (λ (s : StateOf Entry). AllSlots (SameUnder blocks now) s) (sym same)
     (slots_imply (λ other. other ≢ slot) (SameUnder blocks now) others st unnamed)
 
-cached_same : (size : ℕ) (blocks now : SlotBlocks) (slot : ℕ) → SameUnder blocks now slot → cached size now slot ≡ cached size blocks slot
+pub cached_same : (size : ℕ) (blocks now : SlotBlocks) (slot : ℕ) → SameUnder blocks now slot → cached size now slot ≡ cached size blocks slot
 cached_same size blocks now slot same = ap (λ (o : Option (List ℕ)). cond (eqb slot 4294967295) (replicate size 0) (unwrap_or o [])) same
 
 -- the block in a slot that is held
@@ -105,7 +107,7 @@ brick_same {D} blocks now frames st same =
     (cached_same frames.shape.block blocks now) st same))
   where
     with_state : StateOf Version → Brick D
-    with_state s = record { disk = frames.disk; shape = frames.shape; state = s; listed = size_of frames.frames; halted = frames.halted }
+    with_state s = record { disk = frames.disk; shape = formed New frames.shape; state = s; listed = size_of frames.frames; halted = frames.halted }
 
 module _ {D : Type 0} (d : on_disk.Ghosts D) where
   -- and the store stands with it
@@ -114,6 +116,7 @@ module _ {D : Type 0} (d : on_disk.Ghosts D) where
       → Standing d.tells d.seen d.may_leave frames index blocks zero_block → Standing d.tells d.seen d.may_leave frames index now zero_block
   standing_same blocks now zero_block frames index same standing = record {
     limits = standing.limits;
+    slotted = standing.slotted;
     indexed = standing.indexed;
     cached_all = slots_imply (λ slot. IsCached frames.shape.block blocks slot × SameUnder blocks now slot)
         (IsCached frames.shape.block now) cached_now (state_of index)
@@ -214,7 +217,8 @@ module _ {D : Type 0} (d : on_disk.Ghosts D) where
       → Told d (brick_of blocks old (state_of index))
       (brick_of blocks old (state_of index)) after body true calls (Err NoMemory)
   changes_stopped only_now blocks zero_block old index after body calls standing running free = (
-    at_once d only_now calls (StandsFor old.shape (resolved (cached old.shape.block blocks) (state_of index))) _ (StandsFor old.shape after)
+    at_once d only_now calls (StandsFor (formed New old.shape) (resolved (cached old.shape.block blocks) (state_of index))) _
+        (StandsFor (formed New old.shape) after)
         (λ image at. inl at) old.disk,
     record {
       ok = tt;

@@ -12,7 +12,9 @@ use Rattle.fab_disk.proofs.Changing.{widen, same as at_once}
 use Rattle.fab_base.specs.declared.member_lists.View.{View}
 use Rattle.frame_store.specs.declared.frames.Frame.{Frame}
 use Rattle.frame_store.specs.declared.shapes.Shape.{Shape}
-use Rattle.frame_store.specs.Layouts.{IsShape}
+use Rattle.frame_store.specs.declared.shapes.Form.{Form}
+use Rattle.frame_store.specs.declared.shapes.Form.TheVariants.{Old, New, Moved}
+use Rattle.frame_store.specs.Layouts.{IsShape, formed, is_old, is_old_form}
 use Rattle.frame_store.specs.Listed.{size_of}
 use Rattle.frame_store.specs.Images.{OpensAs, block_in, StandsIn, IsOther, KeepsSlots}
 use Rattle.frame_store.specs.Stores.{Held}
@@ -30,7 +32,7 @@ use Rattle.brick_store.specs.declared.faults.StoreFault.{StoreFault}
 use Rattle.brick_store.specs.declared.faults.StoreFault.TheVariants.{Disk, Full, Halted, NoMemory}
 use Rattle.brick_store.specs.Blocks.{resolved, cached}
 use Rattle.brick_store.specs.Bricks.{Brick, Keeps, IsAnswer, halted_after}
-use Rattle.brick_store.specs.Images.{records_of, limits_of, block_at, StandsFor}
+use Rattle.brick_store.specs.Images.{records_of, limits_of, block_at, state_by, slot_state_in, StandsFor}
 use Rattle.brick_store.specs.Standing.{Leads, AllSlots, IsCached, IsStored, GroupHasMembers, IsIndexed, IsOnDisk, Standing}
 use Rattle.brick_store.specs.Steps.{changed, LeadsTo, IsUnchanged, IsChanged, Step, CanChange, IsRefused}
 use Rattle.brick_store.specs.Ends.{end_of, StateChange, BrickChange}
@@ -64,15 +66,24 @@ stored_same shape blocks image slot (inr there) = by (eqb slot 4294967295) refl
     by true at = refl
     by false at = there.1 ∙ ap (λ (c : Bool). cond c (replicate shape.block 0) (unwrap_or (block_under blocks slot) [])) at
 
+-- in a store of the new format the blocks lie in slots
+pub slot_state : (form : Form) (shape : Shape) (frames : List Frame) (image : List ℕ) → is_old_form form ≡ false
+    → state_by form shape frames image ≡ slot_state_in shape frames image
+slot_state Old shape frames image slotted = absurd cc
+slot_state New shape frames image slotted = refl
+slot_state Moved shape frames image slotted = refl
+
 -- an image whose slots hold the blocks stands for the state
-pub stands_for : (shape : Shape) (blocks : SlotBlocks) (st : StateOf Entry) (image : List ℕ) → LeadsTo shape st image
+pub stands_for : (shape : Shape) (blocks : SlotBlocks) (st : StateOf Entry) (image : List ℕ) → is_old shape ≡ false → LeadsTo shape st image
     → AllSlots (IsStored shape blocks image) st
-    → StandsFor shape (resolved (cached shape.block blocks) st) image
-stands_for shape blocks st image leads stored = record {
+    → StandsFor (formed New shape) (resolved (cached shape.block blocks) st) image
+stands_for shape blocks st image slotted leads stored = record {
+  form = shape.form;
   frames = leads.frames;
   opens = leads.opens;
   state =
-      ap (resolved (block_at shape image)) (leads_folded (limits_of shape) leads.frames empty st leads.leads)
+      slot_state shape.form shape leads.frames image slotted
+      ∙ ap (resolved (block_at shape image)) (leads_folded (limits_of shape) leads.frames empty st leads.leads)
       ∙ resolved_same (block_at shape image) (cached shape.block blocks) st
       (slots_imply (IsStored shape blocks image) (λ slot. block_at shape image slot ≡ cached shape.block blocks slot)
       (stored_same shape blocks image) st stored);
@@ -92,7 +103,7 @@ stored_still shape put blocks content image kept slot free (inr there) =
 abbrev pub brick_of : {D : Type 0} → SlotBlocks → Held D → StateOf Entry → Brick D
 brick_of blocks frames st = record {
   disk = frames.disk;
-  shape = frames.shape;
+  shape = formed New frames.shape;
   state = resolved
       (cached frames.shape.block blocks) st;
   listed = size_of frames.frames;
@@ -193,6 +204,7 @@ module _ {D : Type 0} (d : on_disk.Ghosts D) where
       → Standing d.tells d.seen d.may_leave old index blocks zero_block → old.halted ≡ false → CanChange d (state_of index) old
   may_of blocks zero_block old index standing runs = record {
     runs = runs;
+    slotted = standing.slotted;
     leads = standing.indexed.leads;
     settled = λ told. let was = standing.on_disk told runs in
         record { only = was.only; shows = was.shows; closed = was.closed };
@@ -210,7 +222,8 @@ module _ {D : Type 0} (d : on_disk.Ghosts D) where
       → Told d (brick_of blocks old st) (brick_of blocks new st_now) (resolved (cached old.shape.block blocks) next) body adds calls result
   changes_tried put blocks st next old new st_now body adds calls result may free before after step made not_made change = (
     widen d calls (IsUnchanged old.shape put st (d.seen old.disk)) _ (IsChanged old.shape put next (d.seen old.disk))
-        (StandsFor old.shape (resolved (cached old.shape.block blocks) st)) _ (StandsFor old.shape (resolved (cached old.shape.block blocks) next))
+        (StandsFor (formed New old.shape) (resolved (cached old.shape.block blocks) st)) _
+        (StandsFor (formed New old.shape) (resolved (cached old.shape.block blocks) next))
         old.disk new.disk (end_of result)
         (λ told here. record {
           opens = record {
@@ -220,10 +233,10 @@ module _ {D : Type 0} (d : on_disk.Ghosts D) where
           };
           slots = slots_same old.shape put (d.seen old.disk) (d.seen old.disk) refl;
         })
-        (λ told here image at. stands_for old.shape blocks st image at.opens (before told image at.slots))
-        (λ told here image. ⊎_elim (λ at. inl (stands_for old.shape blocks st image at.opens (before told image at.slots)))
-        (λ at. inr (stands_for old.shape blocks next image at.opens (after told image at.slots at.stands))))
-        (λ told image at. stands_for old.shape blocks next image at.opens (after told image at.slots at.stands))
+        (λ told here image at. stands_for old.shape blocks st image may.slotted at.opens (before told image at.slots))
+        (λ told here image. ⊎_elim (λ at. inl (stands_for old.shape blocks st image may.slotted at.opens (before told image at.slots)))
+        (λ at. inr (stands_for old.shape blocks next image may.slotted at.opens (after told image at.slots at.stands))))
+        (λ told image at. stands_for old.shape blocks next image may.slotted at.opens (after told image at.slots at.stands))
         change,
     record {
       ok = keeps_ok result made;
@@ -243,13 +256,13 @@ module _ {D : Type 0} (d : on_disk.Ghosts D) where
 
       keeps_ok : (r : Result (Unit {0}) StoreFault) → OnOk r (st_now ≡ next)
           → OnOk r (Keeps (resolved (cached old.shape.block blocks) next) (brick_of blocks old st) (brick_of blocks new st_now))
-      keeps_ok (Ok u) h = record { shape = step.shape; state = now_is next h }
+      keeps_ok (Ok u) h = record { shape = ap (formed New) step.shape; state = now_is next h }
       keeps_ok (Err e) h = tt
 
       keeps_err : (r : Result (Unit {0}) StoreFault) → OnErr r (st_now ≡ st)
           → OnErr r (Keeps (resolved (cached old.shape.block blocks) st) (brick_of blocks old st) (brick_of blocks new st_now))
       keeps_err (Ok u) h = tt
-      keeps_err (Err e) h = record { shape = step.shape; state = now_is st h }
+      keeps_err (Err e) h = record { shape = ap (formed New) step.shape; state = now_is st h }
 
   -- the store stands after the call
   pub standing_after : {calls : ℕ} {Listed : ℕ → Type 0} (put : Option (ℕ × List ℕ)) (blocks : SlotBlocks) (zero_block : List ℕ) (next : StateOf Entry)
@@ -280,6 +293,7 @@ module _ {D : Type 0} (d : on_disk.Ghosts D) where
           let back = sym is in
           record {
             limits = subst IsShape (sym step.shape) standing.limits;
+            slotted = subst (λ (h : Shape). is_old h ≡ false) (sym step.shape) standing.slotted;
             indexed = subst (λ (s : StateOf Entry). IsIndexed new.shape new.frames (indexes.limits_of index_now) s) back
                 (subst (λ (h : Shape). IsIndexed h new.frames (indexes.limits_of index_now) st) (sym step.shape) indexed);
             cached_all = subst (λ (s : StateOf Entry). AllSlots (IsCached new.shape.block blocks) s) back
@@ -332,7 +346,8 @@ module _ {D : Type 0} (d : on_disk.Ghosts D) where
   changes_refused only_now blocks zero_block old index after body adds calls fault standing is = (
     subst (λ (end : End). BrickChange d calls (brick_of blocks old (state_of index)) after old.disk end)
         (refused_ends old.halted adds (indexes.limits_of index).records (live (state_of index)) fault is)
-        (at_once d only_now calls (StandsFor old.shape (resolved (cached old.shape.block blocks) (state_of index))) _ (StandsFor old.shape after)
+        (at_once d only_now calls (StandsFor (formed New old.shape) (resolved (cached old.shape.block blocks) (state_of index))) _
+        (StandsFor (formed New old.shape) after)
         (λ image at. inl at) old.disk),
     record {
       ok = tt;

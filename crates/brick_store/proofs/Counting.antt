@@ -10,7 +10,7 @@ use Rattle.frame_store.specs.declared.shapes.Shape.{Shape}
 use Rattle.frame_store.specs.declared.faults.FrameFault.{FrameFault}
 use Rattle.frame_store.specs.declared.faults.FrameFault.TheVariants as frames
 use Rattle.frame_store.specs.declared.frames.Frame.{Frame}
-use Rattle.frame_store.specs.Layouts.{half_size}
+use Rattle.frame_store.specs.Layouts.{index_half_size}
 use Rattle.frame_store.specs.Listed.{size_of}
 use Rattle.frame_store.specs.Stores.{Held}
 use Rattle.brick_store.specs.Calls.{calls_with, version_calls, has_room_for, is_appendable, opening_calls}
@@ -25,16 +25,16 @@ most_few (forms.Kept (Order group view stripe stamp)) = omega arith
 most_few (forms.Logged logged) = omega arith
 
 -- a list that has no room is rewritten first
-pub no_room : (shape : Shape) (listed body calls : ℕ) → (listed + 6 + body + 1 ≤ half_size shape → ⊥) → 7 + calls ≡ calls_with shape listed body calls
-no_room shape listed body calls full = elim (cases_lt (half_size shape) (listed + 6 + body + 1)) [
+pub no_room : (shape : Shape) (listed body calls : ℕ) → (listed + 6 + body + 1 ≤ index_half_size shape → ⊥) → 7 + calls ≡ calls_with shape listed body calls
+no_room shape listed body calls full = elim (cases_lt (index_half_size shape) (listed + 6 + body + 1)) [
   | inl more ↦ grind (arith, nat_tests)
   | inr fits ↦ absurd (full fits)
 ]
 
 -- one that has room is not
-pub has_room : (shape : Shape) (listed body calls : ℕ) → listed + 6 + body + 1 ≤ half_size shape → calls ≡ calls_with shape listed body calls
+pub has_room : (shape : Shape) (listed body calls : ℕ) → listed + 6 + body + 1 ≤ index_half_size shape → calls ≡ calls_with shape listed body calls
 has_room shape listed body calls fits =
-    sym (ap (λ (b : Bool). if b then calls else (7 + calls)) (le-leb (listed + 6 + body + 1) (half_size shape) fits))
+    sym (ap (λ (b : Bool). if b then calls else (7 + calls)) (le-leb (listed + 6 + body + 1) (index_half_size shape) fits))
 
 -- room was made by no call or by seven, and then the frame was appended
 pub room_then : (shape : Shape) (listed body calls : ℕ) → calls_with shape listed body calls ≡ calls_with shape listed body 0 + calls

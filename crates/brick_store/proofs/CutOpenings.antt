@@ -1,5 +1,5 @@
 -- An opening that was cut short.
-use Rattle.std.proofs.Common.{◌≡◌, inl, inr, ⊎_elim, ℕ, ◌+◌, ◌≤◌, ◌<◌, true, None, List, sym, subst, ◌∙◌, arith}
+use Rattle.std.proofs.Common.{◌≡◌, inl, inr, ⊎_elim, ℕ, ◌+◌, ◌≤◌, ◌<◌, true, false, None, List, sym, subst, ◌∙◌, arith}
 use Rattle.std.proofs.lemmas.Bool.{cases_lt}
 use Rattle.fab_disk.specs.declared.disk.Plan.{Plan}
 use Rattle.fab_disk.specs.declared.disk.Plan.TheVariants.{Never, Stop, Fail}
@@ -7,6 +7,8 @@ use Rattle.fab_disk.specs.Disk.{IsUntouched, StopsEarly}
 use Rattle.fab_disk.specs.Plan.{IsRun, IsWithin, calls_made}
 use Rattle.frame_store.specs.declared.frames.Frame.{Frame}
 use Rattle.frame_store.specs.declared.shapes.Shape.{Shape}
+use Rattle.frame_store.specs.declared.shapes.Form.TheVariants.{New}
+use Rattle.frame_store.specs.Layouts.{formed, is_old}
 use Rattle.frame_store.specs.Images.{OpensAs, KeepsSlots, Lists, ListsWith}
 use Rattle.frame_store.specs.Stores.{Held, Shows}
 use Rattle.version_log.specs.Versions.{Version}
@@ -125,19 +127,20 @@ module _ {D : Type 0} (seen certain : D → List ℕ) (may_leave : D → List �
   }
 
   -- in the words of what the disk stood for
-  pub opening_cut : (calls : ℕ) (disk new : D) (held : Held D) → Shows seen held → IsUntouched seen may_leave moment left_since disk held.disk
+  pub opening_cut : (calls : ℕ) (disk new : D) (held : Held D) → Shows seen held → is_old held.shape ≡ false → IsUntouched seen may_leave moment left_since disk held.disk
       → certain held.disk ≡ certain disk
       → (held.closed ≡ true → StopsOpening seen certain moment calls held.disk new
       (IsKeptIn held.shape (found_in held.shape held.frames) (seen held.disk))
       (IsKeptIn held.shape (booted ((found_in held.shape held.frames).boot + 1) (found_in held.shape held.frames)) (seen held.disk)))
-      → (st : StateOf Version) → StandsFor held.shape st (seen disk)
-      → StopsOpening seen certain moment calls disk new (StandsFor held.shape st) (StandsFor held.shape (booted (st.boot + 1) st))
-  opening_cut calls disk new held shows untouched same run st stands =
-      let here : StandsFor held.shape st (seen held.disk) = subst (λ (x : List ℕ). StandsFor held.shape st x) (sym untouched.content) stands in
-      let stops = run (closed_there seen held shows st here) in
+      → (st : StateOf Version) → StandsFor (formed New held.shape) st (seen disk)
+      → StopsOpening seen certain moment calls disk new (StandsFor (formed New held.shape) st) (StandsFor (formed New held.shape) (booted (st.boot + 1) st))
+  opening_cut calls disk new held shows slotted untouched same run st stands =
+      let here : StandsFor (formed New held.shape) st (seen held.disk) =
+      subst (λ (x : List ℕ). StandsFor (formed New held.shape) st x) (sym untouched.content) stands in
+      let stops = run (closed_there seen held shows slotted st here) in
       record {
         clock = omega (arith, stops.clock, untouched.clock);
-        settled = ⊎_elim (λ had. inl (had ∙ same)) (λ now. inr (before_stands seen held shows st here (certain new) now)) stops.settled;
-        early = λ at. before_stands seen held shows st here (seen new) (stops.early (omega (arith, at, untouched.clock)));
-        late = λ at. after_stands seen held shows st here (seen new) (stops.late (omega (arith, at, untouched.clock)));
+        settled = ⊎_elim (λ had. inl (had ∙ same)) (λ now. inr (before_stands seen held shows slotted st here (certain new) now)) stops.settled;
+        early = λ at. before_stands seen held shows slotted st here (seen new) (stops.early (omega (arith, at, untouched.clock)));
+        late = λ at. after_stands seen held shows slotted st here (seen new) (stops.late (omega (arith, at, untouched.clock)));
       }

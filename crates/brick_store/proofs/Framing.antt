@@ -1,8 +1,9 @@
 -- The frames of records: what is read back from them, and how long they are.
-use Rattle.std.proofs.Common.{◌≡◌, ℕ, ◌+◌, ◌*◌, ◌≤◌, Bool, true, false, Option, Some, None, List, [], ◌∷◌, ◌++◌, length, refl, ap, ◌∙◌, arith}
+use Rattle.std.proofs.Common.{◌≡◌, ℕ, suc, ◌+◌, ◌*◌, ◌<◌, ◌≤◌, Bool, true, false, Option, Some, None, List, [], ◌∷◌, ◌++◌, length, get_or, drop, refl, sym, ap, subst, ◌∙◌, arith}
 use Rattle.std.specs.Option.{option_map}
 use Rattle.std.specs.Int.{w16, w32, w64}
 use Rattle.std.specs.List.{flat_map}
+use Rattle.std.proofs.Math.Seq.{drop-cons}
 use Rattle.std.proofs.lemmas.List.{length-append}
 use Rattle.fab_base.specs.declared.identities.BrickId.{BrickId}
 use Rattle.fab_base.specs.declared.stamps.Stamp.{Stamp}
@@ -19,6 +20,7 @@ use Rattle.stamp_store.specs.LogSpelling.{logged_kind, change_bytes, logged_body
 use Rattle.stamp_store.proofs.Records.{spells_read}
 use Rattle.stamp_store.proofs.LogRecords.{spells_logged}
 use Rattle.frame_store.specs.Listed.{frame_of}
+use Rattle.brick_state.specs.declared.records.Record.{Record}
 use Rattle.brick_state.specs.declared.records.Record.TheVariants as forms
 use Rattle.brick_store.specs.Images.{or_logged, record_of}
 use Rattle.brick_store.specs.Sizes.{accepted_size, change_size, body_size, most}
@@ -143,3 +145,11 @@ kept_most (Order group view stripe stamp) fit = omega arith
 
 pub logged_most : (r : Logged) → 6 + body_size (forms.Logged r) ≤ most (forms.Logged r)
 logged_most r = omega (arith, change_few r.change)
+
+-- ---- one after the other
+
+-- of records that are gone through, these are left
+pub left_is : (rs : List Record) (k : ℕ) (r : Record) → k < length rs → r ≡ get_or rs k r → drop k rs ≡ r ∷ drop (k + 1) rs
+left_is rs k r within is =
+    let next : k + 1 ≡ suc k = omega arith in
+    subst (λ (n : ℕ). drop k rs ≡ r ∷ drop n rs) (sym next) (drop-cons rs k r within ∙ ap (λ x. x ∷ drop (suc k) rs) (sym is))

@@ -12,8 +12,13 @@ use Rattle.fab_base.specs.Stamps.{stamp_below, first_stamp}
 use Rattle.fab_base.proofs.StampOrder.{stamp_below_trans}
 use Rattle.fab_disk.specs.declared.disk.Disk as on_disk
 use Rattle.fab_disk.specs.Changing.{Stands}
+use Rattle.frame_store.specs.declared.shapes.Form.{Form}
+use Rattle.frame_store.specs.declared.shapes.Form.TheVariants.{New}
 use Rattle.frame_store.specs.Images.{OpensAs}
+use Rattle.frame_store.specs.declared.frames.Frame.{Frame}
+use Rattle.frame_store.specs.Layouts.{formed, is_old_form}
 use Rattle.frame_store.specs.Stores.{Held}
+use Rattle.frame_store.proofs.Openings.{opens_in_one_form}
 use Rattle.version_log.specs.Versions.{Version, version, IsRising}
 use Rattle.brick_state.specs.Entries.{Entry}
 use Rattle.brick_state.specs.declared.indexes.Index.{Index}
@@ -26,7 +31,7 @@ use Rattle.brick_state.proofs.SoundStripes.{sound_at}
 use Rattle.brick_store.specs.BlockTables.{SlotBlocks}
 use Rattle.brick_store.specs.Blocks.{resolved, resolved_stripe, cached, log_of}
 use Rattle.brick_store.specs.Bricks.{IsOrdered}
-use Rattle.brick_store.specs.Images.{StandsFor}
+use Rattle.brick_store.specs.Images.{IsSlotted, StandsFor}
 use Rattle.brick_store.specs.Standing.{Standing}
 use Rattle.brick_store.proofs.Changing.{stands_for}
 use Rattle.brick_store.proofs.Resolving.{version_of, stripe_at-resolved}
@@ -82,13 +87,22 @@ kept_ordered size block limits st kept = record {
 -- what an open store keeps stands on its disk
 pub standing_stands : {D : Type 0} (d : on_disk.Ghosts D) (blocks : SlotBlocks) (zero_block : List ℕ) (store : Held D) (index : Index)
     → Standing d.tells d.seen d.may_leave store index blocks zero_block → d.tells → store.halted ≡ false
-    → Stands d (StandsFor store.shape (resolved (cached store.shape.block blocks) (state_of index))) store.disk
+    → Stands d (StandsFor (formed New store.shape) (resolved (cached store.shape.block blocks) (state_of index))) store.disk
 standing_stands d blocks zero_block store index standing told runs =
     let was = standing.on_disk told runs in
     let opens : OpensAs store.shape store.frames true (d.seen store.disk) = subst
     (λ (b : Bool). OpensAs store.shape store.frames b (d.seen store.disk)) was.closed was.shows.opens in
     record {
       only = was.only;
-      has = stands_for store.shape blocks (state_of index) (d.seen store.disk)
+      has = stands_for store.shape blocks (state_of index) (d.seen store.disk) standing.slotted
           (record { frames = store.frames; opens = opens; leads = standing.indexed.leads }) was.stored;
     }
+
+-- and its disk opens in the new format alone
+pub standing_slotted : {D : Type 0} (d : on_disk.Ghosts D) (blocks : SlotBlocks) (zero_block : List ℕ) (store : Held D) (index : Index)
+    → Standing d.tells d.seen d.may_leave store index blocks zero_block → d.tells → store.halted ≡ false
+    → IsSlotted (formed New store.shape) (d.seen store.disk)
+standing_slotted d blocks zero_block store index standing told runs form frames closed there =
+    let shows = (standing.on_disk told runs).shows in
+    subst (λ (f : Form). is_old_form f ≡ false)
+    (opens_in_one_form store.shape store.shape.form form (d.seen store.disk) store.frames frames store.closed closed shows.opens there) standing.slotted

@@ -1,5 +1,5 @@
 -- How long the list of frames is.
-use Rattle.std.proofs.Common.{◌≡◌, ◌⊎◌, inl, inr, ℕ, ◌+◌, ◌≤◌, Bool, true, false, List, Result, Ok, Err, refl, sym, ap, subst, ◌∙◌, arith}
+use Rattle.std.proofs.Common.{◌≡◌, ◌⊎◌, inl, inr, ℕ, ◌+◌, ◌≤◌, Bool, true, false, not, ◌&&◌, List, Result, Ok, Err, refl, sym, ap, subst, ◌∙◌, arith}
 use Rattle.std.specs.Result.{OnOk, OnErr}
 use Rattle.std.proofs.lemmas.Bool.{le-leb}
 use Rattle.std.proofs.lemmas.Bool.Decides.{nat_tests}
@@ -7,10 +7,12 @@ use Rattle.fab_disk.specs.Changing.{Cut, NotBegun}
 use Rattle.frame_store.specs.declared.frames.Frame.{Frame}
 use Rattle.frame_store.specs.declared.shapes.Shape.{Shape}
 use Rattle.frame_store.specs.Images.{OpensAs}
-use Rattle.frame_store.specs.Layouts.{half_size}
+use Rattle.frame_store.specs.declared.shapes.Form.{Form}
+use Rattle.frame_store.specs.declared.shapes.Form.TheVariants.{New}
+use Rattle.frame_store.specs.Layouts.{formed, is_old, index_half_size}
 use Rattle.frame_store.specs.Listed.{size_of}
 use Rattle.frame_store.specs.Stores.{Held, IsSame}
-use Rattle.frame_store.proofs.Openings.{opens_once}
+use Rattle.frame_store.proofs.Openings.{opens_once, opens_in_one_form}
 use Rattle.brick_state.specs.Entries.{Entry}
 use Rattle.brick_state.specs.States.{StateOf, empty, live}
 use Rattle.brick_store.specs.declared.faults.StoreFault.{StoreFault}
@@ -44,10 +46,10 @@ pub room_made : {room : Bool} {live before after : ℕ} → room ≡ false → a
 room_made none few = record { kept = λ is. differ (sym is ∙ none); rewritten = λ is. few }
 
 -- the half has room for a frame that fits, and for no other
-pub fits_there : (shape : Shape) (listed body : ℕ) → listed + 6 + body + 1 ≤ half_size shape → has_room_for shape listed body ≡ true
-fits_there shape listed body fits = le-leb (listed + 6 + body + 1) (half_size shape) fits
+pub fits_there : (shape : Shape) (listed body : ℕ) → listed + 6 + body + 1 ≤ index_half_size shape → has_room_for shape listed body ≡ true
+fits_there shape listed body fits = le-leb (listed + 6 + body + 1) (index_half_size shape) fits
 
-pub fits_not : (shape : Shape) (listed body : ℕ) → (listed + 6 + body + 1 ≤ half_size shape → ⊥) → has_room_for shape listed body ≡ false
+pub fits_not : (shape : Shape) (listed body : ℕ) → (listed + 6 + body + 1 ≤ index_half_size shape → ⊥) → has_room_for shape listed body ≡ false
 fits_not shape listed body full = by (has_room_for shape listed body) refl
   where
     by : (b : Bool) → has_room_for shape listed body ≡ b → b ≡ false
@@ -98,14 +100,22 @@ module _ {D : Type 0} (old : Held D) (after : ℕ) where
       (subst (λ (fs : List Frame). IsAppended (is_appendable whole mid 4) (live st) (size_of fs) 4 after) same.frames listed))
 
   -- in the words of what the image held
-  pub counted_there : (image : List ℕ) (shape : Shape) (records : ℕ) → OpensAs old.shape old.frames old.closed image → shape ≡ old.shape
-      → records ≡ live (found_in old.shape old.frames)
+  pub counted_there : (image : List ℕ) (shape : Shape) (records : ℕ) → is_old old.shape ≡ false → OpensAs old.shape old.frames old.closed image
+      → shape ≡ old.shape → records ≡ live (found_in old.shape old.frames)
       → IsAppended (is_appendable (is_whole (limits_of old.shape) old.frames empty) old 4) (live (found_in old.shape old.frames)) (size_of old.frames) 4 after
-      → IsListedOnOpening shape image records after
-  counted_there image shape records opens same lives listed frames closed there =
-      let once = opens_once old.shape image old.frames frames old.closed closed opens (subst (λ (s : Shape). OpensAs s frames closed image) same there) in
-      let found : ℕ = live (found_in old.shape old.frames) in
-      subst (λ (n : ℕ). IsAppended (opens_appendable shape frames closed) n (size_of frames) 4 after) (sym lives)
-      (subst (λ (s : Shape). IsAppended (opens_appendable s frames closed) found (size_of frames) 4 after) (sym same)
-      (subst (λ (b : Bool). IsAppended (opens_appendable old.shape frames b) found (size_of frames) 4 after) once.1
-      (subst (λ (fs : List Frame). IsAppended (opens_appendable old.shape fs old.closed) found (size_of fs) 4 after) once.0 listed)))
+      → IsListedOnOpening (formed New shape) image records after
+  counted_there image shape records slotted opens same lives listed =
+      subst (λ (s : Shape). IsListedOnOpening (formed New s) image records after) (sym same) here
+    where
+      here : IsListedOnOpening (formed New old.shape) image records after
+      here form frames closed there =
+          let form_is : old.shape.form ≡ form = opens_in_one_form old.shape old.shape.form form image old.frames frames old.closed closed opens there in
+          let once = opens_once old.shape image old.frames frames old.closed closed opens
+          (subst (λ (f : Form). OpensAs (formed f old.shape) frames closed image) (sym form_is) there) in
+          let found : ℕ = live (found_in old.shape old.frames) in
+          let whole = λ (fs : List Frame) (b : Bool). (is_whole (limits_of old.shape) fs empty && b) && has_room_for old.shape (size_of fs) 4 in
+          subst (λ (f : Form). IsAppended (opens_appendable (formed f old.shape) frames closed) records (size_of frames) 4 after) form_is
+          (subst (λ (b : Bool). IsAppended (not b && whole frames closed) records (size_of frames) 4 after) (sym slotted)
+          (subst (λ (n : ℕ). IsAppended (whole frames closed) n (size_of frames) 4 after) (sym lives)
+          (subst (λ (b : Bool). IsAppended (whole frames b) found (size_of frames) 4 after) once.1
+          (subst (λ (fs : List Frame). IsAppended (whole fs old.closed) found (size_of fs) 4 after) once.0 listed))))

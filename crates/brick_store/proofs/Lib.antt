@@ -2,6 +2,8 @@ pub mod BlockTables
 pub mod EmptyStores
 pub mod Resolving
 pub mod Reading
+pub mod OldReading
+pub mod OldTaking
 pub mod Taking
 pub mod Members
 pub mod Framing
@@ -23,8 +25,18 @@ pub mod Adding
 pub mod Opened
 pub mod CutOpenings
 pub mod OpeningLaws
+pub mod OldOpenings
+pub mod OldStarts
+pub mod OldTaken
+pub mod OldTakes
+pub mod Numbers
+pub mod Renumbered
+pub mod CutBlocks
 pub mod HeldLogs
 pub mod Counting
 pub mod KeptLogs
 pub mod Words
 pub mod PlainChanges
+pub mod Bringing
+pub mod MovingBlocks
+pub mod OldVersions

@@ -10,11 +10,11 @@ use Rattle.frame_store.specs.declared.frames.Frame.{Frame}
 use Rattle.frame_store.specs.declared.shapes.Shape.{Shape}
 use Rattle.frame_store.specs.declared.shapes.Half.{Half}
 use Rattle.frame_store.specs.declared.shapes.Half.TheVariants.{A, B}
-use Rattle.frame_store.specs.Layouts.{half_at, half_size, slot_at}
+use Rattle.frame_store.specs.Layouts.{is_old, half_at, half_size, slot_at}
 use Rattle.frame_store.specs.Listed.{frames_of, frames_in}
 use Rattle.frame_store.specs.Images.{OpensAs, HasSlot, half_bytes}
 use Rattle.frame_store.specs.Stores.{Held, Shows}
-use Rattle.frame_store.proofs.Slots.{slot_before_half}
+use Rattle.frame_store.proofs.Slots.{first_is, slot_before_half}
 use Rattle.brick_state.specs.Entries.{Entry}
 use Rattle.brick_state.specs.States.{StateOf, empty}
 use Rattle.brick_state.specs.Folds.{Limits, is_slot, folded}
@@ -39,9 +39,9 @@ no_frames : (bytes : List ℕ) → bytes ≡ [] → frames_of bytes ≡ []
 unfolding frames_in
 no_frames bytes none = ap frames_of none
 
-pub past_half : (shape : Shape) (frame : Frame) (frames : List Frame) (closed : Bool) (image : List ℕ) → OpensAs shape (frame ∷ frames) closed image
-    → slot_at shape shape.records < length image
-past_half shape frame frames closed image opens = by opens.half (cases_lt (half_at shape opens.half) (length image))
+pub past_half : (shape : Shape) (frame : Frame) (frames : List Frame) (closed : Bool) (image : List ℕ) → is_old shape ≡ false
+    → OpensAs shape (frame ∷ frames) closed image → slot_at shape shape.records < length image
+past_half shape frame frames closed image slotted opens = by opens.half (cases_lt (half_at shape opens.half) (length image))
   where
     none_some : [] ≡ frame ∷ frames → ⊥
     none_some h = cc
@@ -51,17 +51,17 @@ past_half shape frame frames closed image opens = by opens.half (cases_lt (half_
     by half (inl long) = at opens.half long
       where
         at : (h : Half) → half_at shape h < length image → slot_at shape shape.records < length image
-        at A lt = lt
-        at B lt = omega arith
+        at A lt = omega (arith, first_is shape slotted)
+        at B lt = omega (arith, first_is shape slotted)
     by half (inr short) = absurd (none_some (sym (no_frames (half_bytes shape opens.half image) (no_bytes shape opens.half image short))
         ∙ opens.listed))
 
-pub all_inside : (shape : Shape) (size : ℕ) (slots : List ℕ) → slot_at shape shape.records < size
+pub all_inside : (shape : Shape) (size : ℕ) (slots : List ℕ) → is_old shape ≡ false → slot_at shape shape.records < size
     → AllByRecursion (λ slot. is_slot (limits_of shape) slot ≡ true) slots → AllByRecursion (IsInside shape size) slots
-all_inside shape size [] long all = tt
-all_inside shape size (slot ∷ slots) long all = (
+all_inside shape size [] slotted long all = tt
+all_inside shape size (slot ∷ slots) slotted long all = (
   one (or_cases (eqb slot 4294967295) (ltb slot shape.records) all.0),
-  all_inside shape size slots long all.1,
+  all_inside shape size slots slotted long all.1,
 )
   where
     one : ((eqb slot 4294967295 ≡ true) ⊎ (ltb slot shape.records ≡ true)) → IsInside shape size slot
@@ -69,14 +69,14 @@ all_inside shape size (slot ∷ slots) long all = (
     one (inr there) = inr (has (ltb-true slot shape.records there))
       where
         has : slot < shape.records → HasSlot shape size slot
-        has lt = record { is_slot = lt; inside = omega (arith, slot_before_half shape A slot lt, long) }
+        has lt = record { is_slot = lt; inside = omega (arith, slot_before_half shape A slot slotted lt, long, first_is shape slotted) }
 
 -- so no slot that a version names is past the end of the file
-pub none_outside : {D : Type 0} (seen : D → List ℕ) (held : Held D) (st : StateOf Entry) → Shows seen held → IsKeptState (limits_of held.shape) st
+pub none_outside : {D : Type 0} (seen : D → List ℕ) (held : Held D) (st : StateOf Entry) → is_old held.shape ≡ false → Shows seen held → IsKeptState (limits_of held.shape) st
     → folded (limits_of held.shape) (records_of held.frames) empty ≡ st
     → AllByRecursion (IsInside held.shape held.size) (slots_of st)
 unfolding slots_in records_of folded
-none_outside seen held st shows kept found = by held.frames refl
+none_outside seen held st slotted shows kept found = by held.frames refl
   where
     by : (frames : List Frame) → held.frames ≡ frames → AllByRecursion (IsInside held.shape held.size) (slots_of st)
     by [] none =
@@ -86,8 +86,8 @@ none_outside seen held st shows kept found = by held.frames refl
         let opens : OpensAs held.shape (frame ∷ frames) held.closed (seen held.disk) = subst
         (λ (fs : List Frame). OpensAs held.shape fs held.closed (seen held.disk)) some shows.opens in
         let long : slot_at held.shape held.shape.records < held.size = omega
-        (arith, past_half held.shape frame frames held.closed (seen held.disk) opens, shows.size) in
-        all_inside held.shape held.size (slots_of st) long (kept_slots (limits_of held.shape) st kept)
+        (arith, past_half held.shape frame frames held.closed (seen held.disk) slotted opens, shows.size) in
+        all_inside held.shape held.size (slots_of st) slotted long (kept_slots (limits_of held.shape) st kept)
 
 -- ---- what is held is cached
 
@@ -160,5 +160,5 @@ module _ {D : Type 0} (tells : Type 0) (seen : D → List ℕ) (held : Held D) (
   loaded_if limits (Err fault) limits_are all read shows boots = tt
 
   -- no slot is past the end of the file
-  pub inside_from : Shows seen held → AllByRecursion (IsInside held.shape held.size) (slots_of st)
-  inside_from shows = none_outside seen held st shows kept_in_shape fold.found
+  pub inside_from : is_old held.shape ≡ false → Shows seen held → AllByRecursion (IsInside held.shape held.size) (slots_of st)
+  inside_from slotted shows = none_outside seen held st slotted shows kept_in_shape fold.found

@@ -1,5 +1,5 @@
 -- The laws of openings.
-use Rattle.std.proofs.Common.{◌≡◌, ◌⊎◌, inl, inr, ⊎_elim, ℕ, ◌+◌, ◌≤◌, Bool, true, List, Result, Ok, Err, OnErr, refl, sym, ap, subst, ◌∙◌, arith}
+use Rattle.std.proofs.Common.{◌≡◌, ◌⊎◌, inl, inr, ⊎_elim, ℕ, ◌+◌, ◌≤◌, Bool, true, false, not, ◌&&◌, if◌then◌else◌, List, Result, Ok, Err, OnErr, refl, sym, ap, subst, ◌∙◌, arith}
 use Rattle.fab_disk.specs.declared.disk.Disk as on_disk
 use Rattle.fab_disk.specs.Disk.{IsUntouched, Kept, LeavesOnly}
 use Rattle.fab_disk.specs.Changing.{End, Whole, Cut, NotBegun, Still}
@@ -13,7 +13,10 @@ use Rattle.frame_store.specs.declared.frames.Frame.{Frame}
 use Rattle.frame_store.specs.declared.shapes.Shape.{Shape}
 use Rattle.frame_store.specs.Images.{OpensAs}
 use Rattle.frame_store.specs.Stores.{Held, IsSame, Shows}
-use Rattle.frame_store.proofs.Openings.{opens_once, untouched_both}
+use Rattle.frame_store.specs.declared.shapes.Form.{Form}
+use Rattle.frame_store.specs.declared.shapes.Form.TheVariants.{Old, New, Moved}
+use Rattle.frame_store.specs.Layouts.{formed, is_old, is_old_form}
+use Rattle.frame_store.proofs.Openings.{opens_once, opens_in_one_form, untouched_both}
 use Rattle.version_log.specs.Versions.{Version}
 use Rattle.brick_state.specs.Entries.{Entry}
 use Rattle.brick_state.specs.States.{StateOf, booted, empty}
@@ -25,7 +28,7 @@ use Rattle.brick_store.specs.Bricks.{open_fault_of, start_fault_of}
 use Rattle.brick_store.specs.Ends.{end_of}
 use Rattle.brick_store.specs.Calls.{is_appendable, opening_calls}
 use Rattle.brick_store.specs.Images.{limits_of, StandsFor, StandsForEither}
-use Rattle.brick_store.specs.Openings.{IsAllowedOr, IsCounted, IsKeptIn, IsKeptInEither, Opens, Readies, Starts, StopsOpening, StopsReadying, found_in, is_whole, opens_appendable, stopped_by}
+use Rattle.brick_store.specs.Openings.{IsAllowedOr, IsCounted, IsKeptIn, IsKeptInEither, Opens, Readies, Starts, StopsOpening, StopsReadying, found_in, is_whole, calls_on_opening, stopped_by}
 use Rattle.brick_store.proofs.Stepping.{refused}
 use Rattle.brick_store.proofs.Counting.{opening_is}
 use Rattle.brick_store.proofs.CutOpenings.{opening_cut, read_first}
@@ -146,7 +149,7 @@ module _ {D : Type 0} (d : on_disk.Ghosts D) (only_now : (disk : D) (image : Lis
   refused_opens shape old new fault F still failed = record {
     moments = λ told st stands. still_allowed d.seen d.may_leave d.moment d.left_since only_now old new
         (StandsForEither shape st (booted (st.boot + 1) st)) still.untouched;
-    run = λ told frames closed opens. run_not_begun d.tells d.moment d.plan d.unlisted _ old new _ _ (never_whole fault)
+    run = λ told form frames closed opens. run_not_begun d.tells d.moment d.plan d.unlisted _ old new _ _ (never_whole fault)
         (record { same = still.plan.same; stays = still.plan.stays; never = λ free is. still.plan.never free (failed (cut_by fault is)) });
     not_worn = λ is told free. absurd (still.plan.never free (failed (cut_by fault is)));
     cut = λ is told free. absurd (still.plan.never free (failed (cut_by fault is)));
@@ -205,21 +208,23 @@ module _ {D : Type 0} (d : on_disk.Ghosts D) (only_now : (disk : D) (image : Lis
 
   -- in the words of what the disk stands for
   pub started_opens : (counts : (disk : D) (t : ℕ) (image : List ℕ) → t ≤ d.moment disk → d.may_leave disk image → d.left_since disk t image)
-      → (disk new : D) (held : Held D) (end : End) (F : Type 0) → (d.tells → Shows d.seen held) → Still d disk held.disk F
+      → (disk new : D) (held : Held D) (end : End) (F : Type 0) → (d.tells → Shows d.seen held) → is_old held.shape ≡ false → Still d disk held.disk F
       → d.certain held.disk ≡ d.certain disk
-      → Starts d (is_whole (limits_of held.shape) held.frames empty) (found_in held.shape held.frames) held new end → Opens d held.shape disk new end
-  started_opens counts disk new held end F shows still certain run = record {
-    moments = λ told. opening_moments d.seen d.may_leave d.moment d.left_since only_now disk new held (shows told) untouched (run.moments told);
-    run = λ told frames closed opens. run_after d.tells d.moment d.plan d.unlisted _ disk held.disk new F _ _ still.plan untouched.clock
-        (run_calls d.tells d.moment d.plan d.unlisted _ _ held.disk new _ _ (calls told frames closed opens) run.run);
+      → Starts d (is_whole (limits_of held.shape) held.frames empty) (found_in held.shape held.frames) held new end
+      → Opens d (formed New held.shape) disk new end
+  started_opens counts disk new held end F shows slotted still certain run = record {
+    moments = λ told. opening_moments d.seen d.may_leave d.moment d.left_since only_now disk new held (shows told) slotted untouched (run.moments told);
+    run = λ told form frames closed opens. run_after d.tells d.moment d.plan d.unlisted _ disk held.disk new F _ _ still.plan untouched.clock
+        (run_calls d.tells d.moment d.plan d.unlisted _ _ held.disk new _ _ (calls told form frames closed opens) run.run);
     not_worn = λ is told free st stands. omega (
       arith,
       run.not_worn is (still.plan.stays free),
-      boot_there d.seen held (shows told) (d.seen disk) untouched.content st stands,
+      boot_there d.seen held (shows told) slotted (d.seen disk) untouched.content st stands,
     );
-    cut = λ is told free frames closed opens. opening_cut d.seen d.certain d.may_leave d.moment d.left_since _ disk new held (shows told) untouched certain
+    cut = λ is told free form frames closed opens. opening_cut d.seen d.certain d.may_leave d.moment d.left_since _ disk new held (shows told) slotted
+        untouched certain
         (λ at. subst (λ (n : ℕ). StopsOpening d.seen d.certain d.moment n held.disk new (IsKeptIn held.shape found (d.seen held.disk))
-        (IsKeptIn held.shape (booted (found.boot + 1) found) (d.seen held.disk))) (calls told frames closed opens)
+        (IsKeptIn held.shape (booted (found.boot + 1) found) (d.seen held.disk))) (calls told form frames closed opens)
         (run.cut is told (still.plan.stays free) at));
     not_begun = λ is. untouched_both d.seen d.may_leave d.moment d.left_since counts disk held.disk new untouched (run.not_begun is);
     cause = kept_both (d.faults disk) (d.faults held.disk) (d.faults new) _ _ _ _ _ still.cause run.cause;
@@ -231,10 +236,20 @@ module _ {D : Type 0} (d : on_disk.Ghosts D) (only_now : (disk : D) (image : Lis
       found : StateOf Entry
       found = found_in held.shape held.frames
 
-      calls : d.tells → (frames : List Frame) (closed : Bool) → OpensAs held.shape frames closed (d.seen disk)
+      calls : d.tells → (form : Form) (frames : List Frame) (closed : Bool) → OpensAs (formed form held.shape) frames closed (d.seen disk)
           → opening_calls (is_appendable (is_whole (limits_of held.shape) held.frames empty) held 4)
-          ≡ opening_calls (opens_appendable held.shape frames closed)
-      calls told frames closed opens =
-          let once = opens_once held.shape (d.seen disk) held.frames frames held.closed closed
-          (subst (OpensAs held.shape held.frames held.closed) untouched.content (shows told).opens) opens in
-          opening_is held _ _ held.shape frames closed (ap (λ (fs : List Frame). is_whole (limits_of held.shape) fs empty) once.0) refl once.0 once.1
+          ≡ calls_on_opening (formed form held.shape) frames closed
+      calls told form frames closed opens =
+          let shown = subst (OpensAs held.shape held.frames held.closed) untouched.content (shows told).opens in
+          let same = opens_in_one_form held.shape held.shape.form form (d.seen disk) held.frames frames held.closed closed shown opens in
+          let once = opens_once held.shape (d.seen disk) held.frames frames held.closed closed shown
+          (subst (λ (f : Form). OpensAs (formed f held.shape) frames closed (d.seen disk)) (sym same) opens) in
+          subst (λ (f : Form). opening_calls (is_appendable (is_whole (limits_of held.shape) held.frames empty) held 4)
+          ≡ calls_on_opening (formed f held.shape) frames closed) same
+          (new_calls held.shape.form _ _ (opening_is held _ _ held.shape frames closed (ap (λ (fs : List Frame). is_whole (limits_of held.shape) fs empty) once.0) refl once.0 once.1) slotted)
+        where
+          new_calls : (f : Form) (n : ℕ) (b : Bool) → n ≡ opening_calls b → is_old_form f ≡ false
+              → n ≡ (if is_old_form f then 13 else opening_calls (not (is_old_form f) && b))
+          new_calls Old n b is slotted = absurd cc
+          new_calls New n b is slotted = is
+          new_calls Moved n b is slotted = is

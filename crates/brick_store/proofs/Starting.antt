@@ -1,5 +1,5 @@
 -- A store that goes on once it was read.
-use Rattle.std.proofs.Common.{◌≡◌, ◌⊎◌, inl, inr, ℕ, ◌+◌, Bool, None, List, refl, sym, ap, subst, ◌∙◌, IsSome}
+use Rattle.std.proofs.Common.{◌≡◌, ◌⊎◌, inl, inr, ℕ, ◌+◌, Bool, false, None, List, refl, sym, ap, subst, ◌∙◌, IsSome}
 use Rattle.std.specs.Prelude.{replicate}
 use Rattle.std.specs.List.{AllByRecursion}
 use Rattle.fab_disk.specs.declared.disk.Disk as on_disk
@@ -8,7 +8,7 @@ use Rattle.fab_disk.proofs.Moments.{started, goes_on, widened, joined}
 use Rattle.stamp_store.specs.declared.kept_records.Kept.TheVariants.{Boot}
 use Rattle.frame_store.specs.declared.frames.Frame.{Frame}
 use Rattle.frame_store.specs.declared.shapes.Shape.{Shape}
-use Rattle.frame_store.specs.Layouts.{IsShape}
+use Rattle.frame_store.specs.Layouts.{IsShape, is_old}
 use Rattle.frame_store.specs.Stores.{Held}
 use Rattle.frame_store.specs.Images.{KeepsSlots}
 use Rattle.brick_state.specs.declared.records.Record.TheVariants as forms
@@ -109,16 +109,17 @@ module _ {D : Type 0} (d : on_disk.Ghosts D) where
   -- so stands a store that was read, and then counted
   pub standing_from : (new : Held D) (index : Index) (blocks : SlotBlocks) (zero_block : List ℕ) (shape : Shape) (frames : List Frame)
       (content : List ℕ) (limits : Limits) (st : StateOf Entry) (whole : Bool)
-      → new.shape ≡ shape → IsShape shape → IsLoaded d.tells shape frames content limits st whole blocks → zero_block ≡ replicate shape.block 0
+      → new.shape ≡ shape → IsShape shape → is_old shape ≡ false → IsLoaded d.tells shape frames content limits st whole blocks → zero_block ≡ replicate shape.block 0
       → indexes.limits_of index ≡ limits → state_of index ≡ booted (st.boot + 1) st
       → Leads (limits_of shape) new.frames empty (state_of index) → (d.tells → IsSettled d new)
       → (d.tells → KeepsSlots shape None content (d.seen new.disk))
       → Standing d.tells d.seen d.may_leave new index blocks zero_block
-  standing_from new index blocks zero_block shape frames content limits st whole is shape_ok loaded zero_is index_limits now leads settled slots =
+  standing_from new index blocks zero_block shape frames content limits st whole is shape_ok slotted loaded zero_is index_limits now leads settled slots =
       let to : shape ≡ new.shape = sym is in
       let back : booted (st.boot + 1) st ≡ state_of index = sym now in
       record {
         limits = subst IsShape to shape_ok;
+        slotted = subst (λ (s : Shape). is_old s ≡ false) to slotted;
         indexed = record {
           limits_are = index_limits ∙ loaded.limits_are ∙ ap limits_of to;
           leads = subst (λ (s : Shape). Leads (limits_of s) new.frames empty (state_of index)) to leads;

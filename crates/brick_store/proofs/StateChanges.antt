@@ -1,5 +1,5 @@
 -- A change of what a list of frames leads to, as one change of the disk.
-use Rattle.std.proofs.Common.{◌≡◌, ◌≢◌, ◌⊎◌, inl, inr, ⊎_elim, ℕ, ◌+◌, ◌≤◌, Bool, Option, Some, None, List, [], ◌∷◌, ◌++◌, Result, Ok, Err, refl, sym, subst}
+use Rattle.std.proofs.Common.{◌≡◌, ◌≢◌, ◌⊎◌, inl, inr, ⊎_elim, ℕ, ◌+◌, ◌≤◌, Bool, false, Option, Some, None, List, [], ◌∷◌, ◌++◌, Result, Ok, Err, refl, sym, subst}
 use Rattle.std.specs.Option.{IsSome}
 use Rattle.std.specs.Result.{OnOk}
 use Rattle.fab_disk.specs.declared.disk.Disk as on_disk
@@ -7,6 +7,7 @@ use Rattle.fab_disk.specs.Changing.{End, Whole, Cut, NotBegun, Stands, Still, Ru
 use Rattle.fab_disk.proofs.Changing.{widen, then, cut_first, idle, behind, same, none, refused_any}
 use Rattle.frame_store.specs.declared.frames.Frame.{Frame}
 use Rattle.frame_store.specs.declared.shapes.Shape.{Shape}
+use Rattle.frame_store.specs.Layouts.{is_old}
 use Rattle.frame_store.specs.declared.faults.FrameFault.{FrameFault}
 use Rattle.frame_store.specs.declared.faults.FrameFault.TheVariants as frames
 use Rattle.frame_store.specs.Images.{OpensAs, KeepsSlots, Lists, ListsWith}
@@ -142,6 +143,7 @@ module _ {D : Type 0} (d : on_disk.Ghosts D) where
       → CanChange d before old → Step d before after Listed old new (Ok tt) → StateChange d calls old put before after new.disk Whole → CanChange d after new
   may_go_on calls put before after old new may step change = record {
     runs = step.halts;
+    slotted = subst (λ (s : Shape). is_old s ≡ false) (sym step.shape) may.slotted;
     leads = subst (λ (s : Shape). Leads (limits_of s) new.frames empty after) (sym step.shape) step.made;
     settled = λ told. record {
       only = (change.whole refl told).only;

@@ -1,5 +1,5 @@
 -- How one change of a store's list of frames is put together.
-use Rattle.std.proofs.Common.{◌≡◌, ◌⊎◌, inl, inr, ℕ, ◌≤◌, Bool, true, false, Option, Some, None, List, [], ◌∷◌, ◌++◌, map, Result, Ok, Err, refl, sym, ap, subst, ◌∙◌, arith}
+use Rattle.std.proofs.Common.{◌≡◌, ◌⊎◌, inl, inr, ℕ, ◌+◌, ◌*◌, ◌≤◌, min, max, length, if◌then◌else◌, Bool, true, false, Option, Some, None, List, [], ◌∷◌, ◌++◌, map, Result, Ok, Err, refl, sym, ap, subst, ◌∙◌, arith}
 use Rattle.std.specs.Option.{IsSome, unwrap_or}
 use Rattle.std.specs.Result.{OnOk, OnErr}
 use Rattle.fab_disk.specs.declared.disk.Disk as on_disk
@@ -9,9 +9,9 @@ use Rattle.frame_store.specs.declared.shapes.Shape.{Shape}
 use Rattle.frame_store.specs.declared.faults.FrameFault.{FrameFault}
 use Rattle.frame_store.specs.declared.faults.FrameFault.TheVariants as frames
 use Rattle.frame_store.specs.Images.{KeepsSlots}
-use Rattle.frame_store.specs.Layouts.{store_end}
+use Rattle.frame_store.specs.Layouts.{is_old, store_end}
 use Rattle.frame_store.specs.Listed.{size_of}
-use Rattle.frame_store.specs.Stores.{Held, IsRead, IsSame, HasNow, HasRoom}
+use Rattle.frame_store.specs.Stores.{Held, IsRead, IsSame, HasNow, HasRoom, HasRoomAhead}
 use Rattle.frame_store.specs.Stores as held
 use Rattle.brick_state.specs.declared.records.Record.{Record}
 use Rattle.brick_state.specs.Entries.{Entry}
@@ -107,6 +107,21 @@ memory_refused frames.Disk is = absurd cc
 memory_refused frames.NoMemory is = refl
 memory_refused frames.Halted is = absurd cc
 
+-- a store that has the same shape is of the new format too
+pub reserved_new : {D : Type 0} (old new : Held D) → is_old old.shape ≡ false → IsSame old new → is_old new.shape ≡ false
+reserved_new old new slotted same = subst (λ (s : Shape). is_old s ≡ false) (sym same.shape) slotted
+
+-- the room that was made in a store of the new format, for a sync, a rewrite and an append
+pub ahead_new : {D : Type 0} (has_room : D → ℕ → ℕ → ℕ → Type 0) (s : Held D) (frames : List Frame) (body : ℕ) → is_old s.shape ≡ false
+    → HasRoomAhead has_room s frames body
+    → HasRoom has_room s 13 (size_of frames + 34 + (s.shape.block + body + 7)) (max (size_of frames + 1) (body + 6))
+ahead_new has_room s frames body slotted room =
+    let none : 0 + (size_of frames + 34) + (s.shape.block + body + 7) ≡ size_of frames + 34 + (s.shape.block + body + 7) = omega arith in
+    subst (λ (bytes : ℕ). HasRoom has_room s 13 bytes (max (size_of frames + 1) (body + 6))) none
+    (subst (λ (b : Bool). HasRoom has_room s (if b then 14 else 13)
+    ((if b then (min (length frames) s.shape.records * s.shape.block) else 0) + (size_of frames + 34) + (s.shape.block + body + 7))
+    (max (size_of frames + 1) (body + 6))) slotted room)
+
 -- room for more is room for less
 pub room_less : {D : Type 0} (has_room : D → ℕ → ℕ → ℕ → Type 0) (for_less : (disk : D) (calls bytes end fewer less nearer : ℕ) → fewer ≤ calls
     → less ≤ bytes → nearer ≤ end → has_room disk calls bytes end → has_room disk fewer less nearer)
@@ -178,6 +193,7 @@ module _ {D : Type 0} (d : on_disk.Ghosts D) where
       let runs : new.halted ≡ false = halts ∙ may.runs in
       record {
         runs = runs;
+        slotted = subst (λ (s : Shape). is_old s ≡ false) (sym same.shape) may.slotted;
         leads = subst (λ (s : Shape). Leads (limits_of s) new.frames empty before) (sym same.shape)
             (subst (λ (fs : List Frame). Leads (limits_of old.shape) fs empty before) (sym same.frames) may.leads);
         settled = λ told. record {

@@ -1,5 +1,10 @@
 pub mod BlockTables
 pub mod Blocks
+pub mod Records
+pub mod OldLists
+pub mod Renumbering
+pub mod BringingOver
+pub mod MovingBlocks
 pub mod Images
 pub mod Bricks
 pub mod Standing

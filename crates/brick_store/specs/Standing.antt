@@ -8,7 +8,7 @@ use Rattle.fab_base.specs.declared.stamps.Ballot.{Ballot}
 use Rattle.stamp_store.specs.Spelling.{AcceptedHasMembers}
 use Rattle.frame_store.specs.declared.frames.Frame.{Frame}
 use Rattle.frame_store.specs.declared.shapes.Shape.{Shape}
-use Rattle.frame_store.specs.Layouts.{IsShape}
+use Rattle.frame_store.specs.Layouts.{IsShape, is_old}
 use Rattle.frame_store.specs.Images.{HasSlot, block_in}
 use Rattle.frame_store.specs.Stores.{Held, Shows}
 use Rattle.brick_state.specs.declared.groups.Group.{Group}
@@ -71,10 +71,11 @@ pub record IsOnDisk {D : Type 0} (tells : Type 0) (seen : D → List ℕ) (may_l
   pub closed : frames.closed ≡ true
   pub stored : AllSlots (IsStored frames.shape blocks (seen frames.disk)) st
 
--- A store between two calls: its frames, its index, and in memory the blocks of at least all versions.
+-- A store between two calls, which is of the new format: its frames, its index, and in memory the blocks of at least all versions.
 pub record Standing {D : Type 0} (tells : Type 0) (seen : D → List ℕ) (may_leave : D → List ℕ → Type 0) (frames : Held D) (index : Index)
     (blocks : SlotBlocks) (zero_block : List ℕ) : Type 0 where
   pub limits : IsShape frames.shape
+  pub slotted : is_old frames.shape ≡ false
   pub indexed : IsIndexed frames.shape frames.frames (indexes.limits_of index) (state_of index)
   pub cached_all : AllSlots (IsCached frames.shape.block blocks) (state_of index)
   pub zero_is : zero_block ≡ replicate frames.shape.block 0

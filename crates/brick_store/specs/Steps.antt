@@ -8,7 +8,7 @@ use Rattle.frame_store.specs.Images.{OpensAs, StandsIn, KeepsSlots}
 use Rattle.frame_store.specs.Stores.{Held, IsRead, IsSame, HasNow, IsAnswer, Shows, HasRoom}
 use Rattle.frame_store.specs.Ends.{end_of, ListChange}
 use Rattle.frame_store.specs.declared.faults.FrameFault.{FrameFault}
-use Rattle.frame_store.specs.Layouts.{IsShape}
+use Rattle.frame_store.specs.Layouts.{IsShape, is_old}
 use Rattle.frame_store.specs.Listed.{size_of}
 use Rattle.brick_state.specs.declared.records.Record.{Record}
 use Rattle.brick_state.specs.declared.records.Record.TheVariants as forms
@@ -75,9 +75,10 @@ module _ {D : Type 0} (d : on_disk.Ghosts D) where
     pub shows : Shows d.seen frames
     pub closed : frames.closed ≡ true
 
-  -- A store can be changed: it is not halted, its frames lead to this state, and its disk holds them.
+  -- A store can be changed: it is not halted and of the new format, its frames lead to this state, and its disk holds them.
   pub record CanChange (before : StateOf Entry) (old : Held D) : Type 0 where
     pub runs : old.halted ≡ false
+    pub slotted : is_old old.shape ≡ false
     pub leads : Leads (limits_of old.shape) old.frames empty before
     pub settled : d.tells → IsSettled old
 
@@ -87,9 +88,10 @@ module _ {D : Type 0} (d : on_disk.Ghosts D) where
     pub shape : IsShape frames.shape
     pub indexed : IsIndexed frames.shape frames.frames limits st
 
-  -- A store that was read: it is not halted, its frames make what the index keeps, and that is sound.
+  -- A store of the new format that was read: it is not halted, its frames make what the index keeps, and that is sound.
   pub record IsReadAs (limits : Limits) (st : StateOf Entry) (frames : Held D) : Type 0 where
     pub shape : IsShape frames.shape
+    pub slotted : is_old frames.shape ≡ false
     pub runs : frames.halted ≡ false
     pub read : IsRead d.tells d.seen frames
     pub limits_are : limits ≡ limits_of frames.shape

@@ -1,6 +1,7 @@
 //! The append of a frame, with a block in its slot where one is given.
 
-ghost use Rattle.std.specs.Prelude.{◌≢◌, ◌++◌, ◌∷◌, [], Err, length, option_map};
+ghost use Rattle.std.specs.Prelude.{◌≡◌, false, ◌≢◌, ◌++◌, ◌∷◌, [], Err, length, option_map};
+ghost use Rattle.frame_store.specs.Layouts.{is_old};
 ghost use Rattle.frame_store.specs.Listed.{Fits};
 ghost use Rattle.brick_store.specs.Calls.{version_calls};
 ghost use Rattle.brick_store.specs.Steps.{FitsSlot, HasAppendRoom, ListAnswer, put_in};
@@ -17,6 +18,7 @@ pub fn append_frame<D: Disk>(
     frame: Frame,
     slot_block: Option<(u32, &[u8])>,
 ) -> Result<(), FrameFault>
+    requires new { is_old frames.old.shape ≡ false }
     requires fits { Fits frames.old.shape frames.old.frames (length frame.body) }
     requires slot { FitsSlot frames.old.shape (option_map (λ b. put_in b.0 b.1.now) slot_block) }
     ensures answer { let put = option_map (λ b. put_in b.0 b.1.now) slot_block.entry in

@@ -53,6 +53,18 @@ impl BlockTable {
         Ok(())
     }
 
+    /// Takes away what is held under a slot.
+    pub fn take(&mut self, slot: u32) -> Option<Bytes>
+        ensures taken { result ≡ block_under self.old slot }
+        ensures gone { block_under self.new slot ≡ None }
+        ensures others { (other : ℕ) → other ≢ slot → block_under self.new other ≡ block_under self.old other }
+    {
+        match self.blocks.get_mut(slot as usize) {
+            Some(held) => held.take(),
+            None => None,
+        }
+    }
+
     /// Forgets what is held under a slot.
     pub fn forget(&mut self, slot: u32)
         ensures gone { block_under self.new slot ≡ None }

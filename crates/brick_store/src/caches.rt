@@ -4,6 +4,7 @@ ghost use Rattle.std.specs.Prelude.{◌≡◌, ◌≢◌, ◌<◌, ℕ, false, E
 ghost use Rattle.std.specs.List.{AllByRecursion, Contains};
 ghost use Rattle.fab_disk.specs.Disk.{IsUntouched, Kept};
 ghost use Rattle.fab_disk.specs.Plan.{KeepsPlan};
+ghost use Rattle.frame_store.specs.Layouts.{is_old};
 ghost use Rattle.frame_store.specs.Images.{HasSlot, block_in};
 ghost use Rattle.frame_store.specs.Stores.{IsRead, IsSame};
 ghost use Rattle.brick_state.specs.Indexes.{state_of, limits_of};
@@ -27,6 +28,7 @@ fn read_block<D: Disk>(
     slot: u32,
 ) -> Result<Bytes, OpenFault>
     requires block { block ≡ frames.old.shape.block }
+    requires new { is_old frames.old.shape ≡ false }
     requires runs { frames.old.halted ≡ false }
     ensures has { IfOk result (λ bytes. HasSlot frames.old.shape frames.old.size slot) }
     ensures len { IfOk result (λ bytes. length bytes ≡ frames.old.shape.block) }
@@ -59,6 +61,7 @@ fn hold_block<D: Disk>(
     slot: u32,
 ) -> Result<(), OpenFault>
     requires block { block ≡ frames.old.shape.block }
+    requires new { is_old frames.old.shape ≡ false }
     requires runs { frames.old.halted ≡ false }
     requires slot { (slot < (limits_of index.now).slots) × (slot < 4294967295) }
     ensures held { OnOk result (Contains (slots_of (state_of index.now)) slot → IsHeld blocks.new slot) }
@@ -91,6 +94,7 @@ pub(crate) fn read_blocks<D: Disk>(
     block: u16,
 ) -> Result<BlockTable, OpenFault>
     requires block { block ≡ frames.old.shape.block }
+    requires new { is_old frames.old.shape ≡ false }
     requires runs { frames.old.halted ≡ false }
     requires kept { IsKeptState (limits_of index.now) (state_of index.now) }
     ensures held { IfOk result (λ blocks. AllByRecursion (IsHeld blocks) (slots_of (state_of index.now))) }

@@ -1,7 +1,8 @@
 //! A store that was read is made ready for the count of its opening: a list of frames that ended early, or that has no room for
 //! one more, is written anew before anything is appended to it.
 
-ghost use Rattle.std.specs.Prelude.{◌≡◌, ◌≤◌, if◌then◌else◌, true, None, IsTrue, OnOk};
+ghost use Rattle.std.specs.Prelude.{◌≡◌, ◌≤◌, if◌then◌else◌, true, None, IsTrue, OnOk, false};
+ghost use Rattle.frame_store.specs.Layouts.{is_old};
 ghost use Rattle.frame_store.specs.Images.{KeepsSlots};
 ghost use Rattle.frame_store.specs.Listed.{Fits, size_of};
 ghost use Rattle.brick_state.specs.States.{empty, live};
@@ -51,6 +52,7 @@ fn renew<D: Disk>(
 
 // Whether a list that was read can be appended to.
 fn is_appendable<D: Disk>(frames: &FrameStore<D>, whole: bool, body: usize) -> bool
+    requires new { is_old frames.now.shape ≡ false }
     ensures is { result ≡ is_appendable whole frames.now body }
     ensures whole { IsTrue result → whole ≡ true }
     ensures closed { IsTrue result → frames.now.closed ≡ true }

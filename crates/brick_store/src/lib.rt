@@ -7,6 +7,7 @@
 mod additions;
 mod appends;
 mod block_tables;
+mod bringing_over;
 mod caches;
 mod commits;
 pub mod faults;
@@ -15,16 +16,18 @@ mod fresh_lists;
 mod index_steps;
 mod loading;
 pub mod lookups;
+mod old_readings;
 pub mod openings;
 mod readings;
 mod rewrites;
 mod starts;
+mod starts_over;
 pub mod states;
 pub mod stores;
 mod taking_up;
 
 pub use faults::{OpenFault, StoreFault};
-pub use formats::format;
+pub use formats::{format, format_one};
 pub use openings::open_store;
 pub use states::State;
 pub use stores::BrickStore;

@@ -4,7 +4,7 @@ ghost use Rattle.std.specs.Prelude.{◌≡◌, ◌≢◌, ◌-◌, ◌^◌, fals
 ghost use Rattle.fab_disk.specs.Disk.{IsUntouched, Kept};
 ghost use Rattle.fab_disk.specs.Plan.{KeepsPlan};
 ghost use Rattle.frame_store.specs.Stores.{IsRead, IsSame};
-ghost use Rattle.frame_store.specs.Layouts.{IsShape};
+ghost use Rattle.frame_store.specs.Layouts.{IsShape, is_old};
 ghost use Rattle.brick_state.specs.Indexes.{state_of};
 ghost use Rattle.brick_state.specs.Indexes as indexes;
 ghost use Rattle.brick_store.specs.Images.{limits_of};
@@ -27,6 +27,7 @@ pub(crate) fn load<D: Disk>(
     block: u16,
 ) -> Result<BlockTable, OpenFault>
     requires shape { IsShape frames.old.shape }
+    requires new { is_old frames.old.shape ≡ false }
     requires block { block ≡ frames.old.shape.block }
     requires limits { indexes.limits_of folded.now.index ≡ limits_of frames.old.shape }
     requires fold { IsFold (limits_of frames.old.shape) frames.old.frames (state_of folded.now.index) folded.now.whole }

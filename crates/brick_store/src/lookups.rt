@@ -8,7 +8,7 @@ ghost use Rattle.brick_state.specs.Times.{top_time};
 ghost use Rattle.brick_store.specs.Blocks.{accepted_of, version_stamp, first_kept, learnt_of, IsServed};
 ghost use Rattle.brick_store.specs.Bricks.{Keeps, IsOrdered};
 ghost use Rattle.fab_disk.specs.Changing.{Stands};
-ghost use Rattle.brick_store.specs.Images.{StandsFor, IsListed};
+ghost use Rattle.brick_store.specs.Images.{StandsFor, IsListed, IsSlotted};
 
 use crate::index_steps::accepted_of;
 use crate::stores::BrickStore;
@@ -96,6 +96,8 @@ impl<D: Disk> BrickStore<D> {
         ensures ordered { IsOrdered self.now.shape.block self.now.state }
         // Whether there is room for a frame is told by what the disk holds.
         ensures listed { D.tells → self.now.halted ≡ false → IsListed self.now.shape self.now.listed (D.seen self.now.disk) }
+        // An open store is of the new format, whatever it was opened from.
+        ensures slotted { D.tells → self.now.halted ≡ false → IsSlotted self.now.shape (D.seen self.now.disk) }
     {
         let _ = &self.index;
         self.frames.is_halted()

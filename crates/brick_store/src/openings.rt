@@ -1,23 +1,33 @@
 //! Opening a store.
 
-ghost use Rattle.std.specs.Prelude.{◌≡◌, ◌≤◌, false, IfOk, IfErr};
+ghost use Rattle.std.specs.Prelude.{◌≡◌, ◌≢◌, ◌+◌, ◌-◌, ◌<◌, ◌≤◌, ◌^◌, true, false, IfOk, IfErr};
 ghost use Rattle.fab_disk.specs.Changing.{Stands};
-ghost use Rattle.frame_store.specs.Layouts.{shape_of};
+ghost use Rattle.frame_store.specs.declared.shapes.Form.TheVariants.{New};
+ghost use Rattle.frame_store.specs.Layouts.{IsShape, shape_of, formed, is_old};
+ghost use Rattle.frame_store.specs.Listed.{size_of};
+ghost use Rattle.frame_store.specs.Stores.{IsRead};
 ghost use Rattle.frame_store.specs.Images.{IsNoStore};
-ghost use Rattle.brick_state.specs.States.{live};
+ghost use Rattle.brick_state.specs.States.{booted, live};
+ghost use Rattle.brick_state.specs.Indexes.{state_of, limits_of};
+ghost use Rattle.brick_store.specs.Lengths.{IsAppended};
+ghost use Rattle.brick_store.specs.OldLists.{old_state_in};
+ghost use Rattle.brick_store.specs.Sizes.{boot_size};
 ghost use Rattle.brick_store.specs.Images.{StandsFor};
-ghost use Rattle.brick_store.specs.Openings.{disk_in, end_in, IsCounted, IsListedOnOpening, IsWornOut, Opens};
+ghost use Rattle.brick_store.specs.Openings.{disk_in, end_in, IsCounted, IsListedOnOpening, IsWornOut, Makes, Opens, StartsOver};
 
 use crate::faults::OpenFault;
 use crate::readings::Folded;
+use crate::starts_over::take_over;
 use crate::stores::BrickStore;
 use crate::taking_up::take_up;
 use fab_base::BrickId;
 use fab_disk::Disk;
+use frame_store::FrameStore;
 use std::alloc::Global;
 
 /// Opens the store that a disk holds for a brick: its count of openings is one greater, and nothing else is changed.
-/// It makes five calls of `write_at` and `sync`, and seven more where the list of frames ended early or is full.
+/// It makes five calls of `write_at` and `sync`, and seven more where the list of frames ended early or is full. A store of the old
+/// format is brought over to the new one: then it makes thirteen.
 ///
 /// # Errors
 /// Each hands the disk back. [`OpenFault::NotAStore`]: neither header is open. [`OpenFault::Worn`]: the store was opened
@@ -44,7 +54,7 @@ pub fn open_store<D: Disk>(
     ensures not_a_store { IfErr result (λ e. e.0 ≡ OpenFault.NotAStore → D.tells → IsNoStore (shape_of me.0 block records) (D.seen disk)) }
     ensures worn { IfErr result (λ e. e.0 ≡ OpenFault.Worn → D.tells → IsWornOut (shape_of me.0 block records) (D.seen disk)) }
 {
-    let mut folded = match Folded::new(alloc, records) {
+    let mut folded = match Folded::new(alloc, block, records) {
         Ok(folded) => folded,
         Err(refused) => return Err((OpenFault::from(refused), disk)),
     };
@@ -53,7 +63,46 @@ pub fn open_store<D: Disk>(
         Ok(frames) => frames,
         Err((fault, disk)) => return Err((OpenFault::from(fault), disk)),
     };
+    if frames.is_old() {
+        return open_over(alloc, frames, folded);
+    }
     match take_up(alloc, &mut frames, folded, block) {
+        Ok(taken) => Ok(BrickStore {
+            alloc,
+            frames,
+            index: taken.index,
+            blocks: taken.blocks,
+            zero: taken.zero,
+        }),
+        Err(fault) => Err((fault, frames.into_disk())),
+    }
+}
+
+/// Brings the store over that a list of the old format made, and counts the opening.
+fn open_over<D: Disk>(
+    alloc: Global,
+    frames: FrameStore<D>,
+    folded: Folded,
+) -> Result<BrickStore<D>, (OpenFault, D)>
+    requires shape { IsShape frames.shape }
+    requires old { is_old frames.shape ≡ true }
+    requires block { folded.sizes.block ≡ frames.shape.block }
+    requires records { folded.sizes.records ≡ frames.shape.records }
+    requires fold { Makes frames.shape.block frames.shape.records true frames.frames (limits_of folded.index) (state_of folded.index) folded.blocks folded.whole }
+    requires runs { frames.halted ≡ false }
+    requires read { IsRead D.tells D.seen frames }
+    ensures shape { IfOk result (λ store. store.shape ≡ formed New frames.shape) }
+    ensures runs { IfOk result (λ store. store.halted ≡ false) }
+    ensures state { let st = old_state_in frames.shape.block frames.shape.records frames.frames in IfOk result (λ store. store.state ≡ booted (st.boot + 1) st) }
+    ensures boots { IfOk result (λ store. (old_state_in frames.shape.block frames.shape.records frames.frames).boot < 2 ^ 32 - 1) }
+    ensures stands { IfOk result (λ store. D.tells → Stands D.Disk (StandsFor store.shape store.state) store.disk) }
+    ensures listed { IfOk result (λ store. IsAppended false (live (old_state_in frames.shape.block frames.shape.records frames.frames)) (size_of frames.frames) boot_size store.listed) }
+    ensures starts { StartsOver D.Disk (old_state_in frames.shape.block frames.shape.records frames.frames) frames (disk_in result) (end_in result) }
+    ensures worn { IfErr result (λ e. e.0 ≡ OpenFault.Worn → (old_state_in frames.shape.block frames.shape.records frames.frames).boot ≡ 2 ^ 32 - 1) }
+    ensures a_store { IfErr result (λ e. e.0 ≢ OpenFault.NotAStore) }
+{
+    let mut frames = frames;
+    match take_over(alloc, &mut frames, folded) {
         Ok(taken) => Ok(BrickStore {
             alloc,
             frames,

@@ -28,7 +28,7 @@ use stamp_store::Kept;
 use std::alloc::Global;
 
 // Appends the frame of a record that can be, for which there is room in the half and in memory, and makes its change.
-fn append_count<D: Disk>(
+pub(crate) fn append_count<D: Disk>(
     frames: &mut FrameStore<D>,
     index: &mut Index,
     item: &Record,

@@ -48,12 +48,14 @@ impl<D: Disk> Model for BrickStore<D> {
     ghost use Rattle.brick_store.specs.Blocks.{resolved, cached};
     ghost use Rattle.brick_state.specs.Indexes.{state_of};
     ghost use Rattle.frame_store.specs.Listed.{size_of};
+    ghost use Rattle.frame_store.specs.Layouts.{formed};
+    ghost use Rattle.frame_store.specs.declared.shapes.Form.TheVariants.{New};
 
     ghost Value = { Brick D };
 
     ghost view = { λ s. record {
       disk = s.frames.disk;
-      shape = s.frames.shape;
+      shape = formed New s.frames.shape;
       state = resolved (cached s.frames.shape.block s.blocks)
           (state_of s.index);
       listed = size_of s.frames.frames;

@@ -1,7 +1,7 @@
 //! Taking up the store that a list of frames makes.
 
 ghost use Rattle.std.specs.Prelude.{◌≡◌, ◌≢◌, ◌+◌, ◌-◌, ◌<◌, ◌^◌, false, Err, IfOk, IsOk};
-ghost use Rattle.frame_store.specs.Layouts.{IsShape};
+ghost use Rattle.frame_store.specs.Layouts.{IsShape, is_old};
 ghost use Rattle.frame_store.specs.Listed.{size_of};
 ghost use Rattle.frame_store.specs.Stores.{IsRead};
 ghost use Rattle.brick_state.specs.States.{booted, empty, live};
@@ -35,7 +35,7 @@ pub(crate) struct TakenUp {
 }
 
 // The fault of an opening whose start was refused: the disk failed, or memory was refused.
-fn refusal_of(fault: StoreFault) -> OpenFault
+pub(crate) fn refusal_of(fault: StoreFault) -> OpenFault
     ensures { result ≡ start_fault_of fault }
 {
     match fault {
@@ -53,6 +53,7 @@ pub(crate) fn take_up<D: Disk>(
     block: u16,
 ) -> Result<TakenUp, OpenFault>
     requires shape { IsShape frames.old.shape }
+    requires new { is_old frames.old.shape ≡ false }
     requires block { block ≡ frames.old.shape.block }
     requires limits { indexes.limits_of folded.index ≡ limits_of frames.old.shape }
     requires fold { IsFold (limits_of frames.old.shape) frames.old.frames (state_of folded.index) folded.whole }
@@ -75,7 +76,11 @@ pub(crate) fn take_up<D: Disk>(
 {
     let zero = Bytes::from_vec(vec![in alloc; 0u8; block as usize]?);
     let blocks = load(alloc, frames, &folded, block)?;
-    let Folded { mut index, whole } = folded;
+    let Folded {
+        mut index,
+        whole,
+        ..
+    } = folded;
     match start(alloc, frames, &mut index, whole) {
         Ok(()) => Ok(TakenUp {
             index,

@@ -67,6 +67,11 @@ all_keep stage c Inv keeps [] parts i holds = holds
 all_keep stage c Inv keeps (y ∷ ys) parts i holds =
     all_keep stage c Inv keeps ys (put parts y.brick.0 (part_after stage c (parts y.brick.0) y)) i (one_keeps stage c Inv keeps y parts i holds)
 
+-- what is so of all is so of each of a list
+pub each_so : {A : Type 0} (P : A → Type 0) → ((x : A) → P x) → (xs : List A) → Each P xs
+each_so P all [] = tt
+each_so P all (x ∷ xs) = (all x, each_so P all xs)
+
 -- what follows of each
 pub each_then : {A : Type 0} (P Q : A → Type 0) (xs : List A) → ((x : A) → P x → Q x) → Each P xs → Each Q xs
 each_then P Q [] then each = tt

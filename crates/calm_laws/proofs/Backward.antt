@@ -1,10 +1,10 @@
 -- A recovery that looks back, alone: the first quorum of the members of the view before tells what each keeps there, below ever lower bounds, until enough blocks of
 -- a version are found.
-use Rattle.std.proofs.Common.{Bool, List, None, Option, Some, [], ap, ap₂, arith, cond, false, length, map, refl, subst, suc, sym, true, zero, zero-add, ℕ, ◌++◌, ◌+◌, ◌<◌, ◌∙◌, ◌∷◌, ◌≡◌, ◌≤◌}
+use Rattle.std.proofs.Common.{Bool, List, None, Option, Some, [], ap, ap₂, arith, cond, false, length, map, refl, subst, suc, sym, true, zero, zero-add, ℕ, ◌++◌, ◌+◌, ◌<◌, ◌∙◌, ◌∷◌, ◌≡◌, ◌≤◌, inl}
 use Rattle.std.proofs.lemmas.Bool.{cond_both, ltb-true}
 use Rattle.std.proofs.lemmas.List.{append-nil, append_assoc}
 use Rattle.std.specs.Prelude.{filter, nat_lt, slice_get, ◌-◌, ◌^◌}
-use Rattle.calm_laws.proofs.Asking.{Holds, IsReply, each_then, told_all, told_replies}
+use Rattle.calm_laws.proofs.Asking.{Holds, IsReply, each_then, told_all, told_replies, each_so}
 use Rattle.calm_laws.proofs.BlockWrites.{below_whole}
 use Rattle.calm_laws.proofs.Counts.{Carries, counted_of, fresh_at, new_from, replies_pass, told, AreNew, decides}
 use Rattle.calm_laws.proofs.Decided.{back_decides, none_stops}
@@ -13,8 +13,8 @@ use Rattle.calm_laws.proofs.Finds.{finding, total_below}
 use Rattle.calm_laws.proofs.Hearing.{IsStale, known_through, stale_pass}
 use Rattle.calm_laws.proofs.Ordering.{TameWith, told_below}
 use Rattle.calm_laws.proofs.PhaseRuns.{Cast, known_then, next_open_from, none_new, stale_then}
-use Rattle.calm_laws.proofs.Scenes.{AreApart, AsksBack, Closes, Each, IsBack, IsSeatedBack, Scene, Seated, Stage, asking, asks_before, found_back, made, of_same, replying, sends, sent, with_queue}
-use Rattle.calm_laws.proofs.StorePhases.{each_so, store_phase}
+use Rattle.calm_laws.proofs.Scenes.{AreApart, AsksBack, Closes, Each, IsBack, IsSeatedBack, Scene, Seated, Stage, asking, asks_before, found_back, made, of_same, replying, sends, sent, with_queue, back_counts, quorum_needed}
+use Rattle.calm_laws.proofs.StorePhases.{store_phase}
 use Rattle.fab_base.specs.Layouts.{seat_in, Group}
 use Rattle.fab_base.specs.Stamps.{first_stamp, stamp_below, stamp_same}
 use Rattle.fab_base.specs.declared.identities.ViewNo.{ViewNo}
@@ -24,7 +24,7 @@ use Rattle.messages.specs.declared.replies.Reply.{Reply}
 use Rattle.messages.specs.declared.replies.Reply.TheVariants.{Old}
 use Rattle.messages.specs.declared.requests.Version.{Version}
 use Rattle.messages.specs.declared.requests.Want.{Want}
-use Rattle.protocol.specs.Coordinators.{Coordinator, Makes, Next, Sends, answers_phase, finds, greater_stamp, greatest_found, in_phase, may_be_found, old_bound, pieces_at, pieces_of, read_back, restoring, told_stamp, lower_phase}
+use Rattle.protocol.specs.Coordinators.{Coordinator, Makes, Next, Sends, answers_phase, finds, greater_stamp, greatest_found, in_phase, may_be_found, old_bound, pieces_at, pieces_of, read_back, restoring, told_stamp, lower_phase, may_count, asks_each}
 use Rattle.protocol.specs.Replicas.{below, is_held, newest_of, told_version}
 use Rattle.protocol.specs.Settings.{Piece}
 use Rattle.protocol.specs.Views.{floor_of, view_told}
@@ -190,11 +190,14 @@ module _ (stage : Stage) (cast : Cast stage) (logs : ℕ → List Version) (asce
         (told stage s.c.call f back.xs) refl back.rest_seated open_is.is_back lore.may lore.later
         (replies_pass stage stage.prior f back.xs
         (record s { known = known; queue = told stage s.c.call f back.xs ++ left })
-        left refl (omega (arith, early)) (asks_before stage s.c bound open_is.is_back)
+        left refl (omega (arith, early))
+        (each_so (λ (x : Seated). may_count s.c x.brick.0 ≡ true) (λ x. back_counts s.c bound open_is.is_back.phase x.brick.0) back.xs)
+        (asks_before stage s.c bound open_is.is_back)
         (each_then (IsSeatedBack stage) (λ (x : Seated). seat_in stage.prior.members x.brick.0 ≡ Some x.seat) back.xs (λ x seated. seated.0) back.seated)
         answers (each_so (λ (x : Seated). view_told (f x) ≡ None) (λ x. refl) back.xs)
         (subst (λ (l : List Counted). AreNewAll l) (sym open_is.counted) (new_from f [] back.xs back.apart (none_new back.xs)))
-        back.some (ap (λ (l : List Counted). length l + length back.xs) open_is.counted ∙ zero-add (length back.xs) ∙ back.quorum)
+        back.some (ap (λ (l : List Counted). length l + length back.xs) open_is.counted ∙ zero-add (length back.xs) ∙ back.quorum
+        ∙ ap (λ (g : Group). quorum_of g) (sym (asks_before stage s.c bound open_is.is_back)) ∙ sym (quorum_needed s.c (inl (ap (λ (p : Phase). asks_each p) open_is.is_back.phase))))
         (subst (λ (l : List Counted). Carries stage later_scene
         (decided_of (l ++ all))) (sym open_is.counted)
         (subst (λ (z : Next). Carries stage later_scene z)
@@ -242,14 +245,14 @@ module _ (stage : Stage) (cast : Cast stage) (logs : ℕ → List Version) (asce
             = ap (λ (l : List Piece). length l) (sym (pieces_same v g (told_below stage.old limit Want.All) back.xs same)) in
             let m_same : s.c.group.m ≡ stage.group.m = ap (λ (y : Group). y.m) open_is.is_back.of.group in
             let less : length (pieces_at v all) < s.c.group.m = ltb-true (length (pieces_at v all)) s.c.group.m few in (
-              record { group = refl; prior = refl; boot = refl; seq = refl; of_group = refl; view = refl; stripe = refl },
+              record { group = refl; prior = refl; only = refl; boot = refl; seq = refl; of_group = refl; view = refl; stripe = refl },
               lower (sent stage later_scene (next v)) v
                   (record {
                     is_back = next_back v;
                     counted = refl;
                     stale = left;
                     old = stale_then stage s.c (next v)
-                        (record { group = refl; prior = refl; boot = refl; seq = refl; of_group = refl; view = refl; stripe = refl }) refl left
+                        (record { group = refl; prior = refl; only = refl; boot = refl; seq = refl; of_group = refl; view = refl; stripe = refl }) refl left
                         (old_replies stage s.c g back.rest);
                     waiting = ap (λ (q : List Packet). left ++ q) (back.sends (next v) (Some v) (next_back v));
                     tame = open_is.tame;
@@ -260,11 +263,11 @@ module _ (stage : Stage) (cast : Cast stage) (logs : ℕ → List Version) (asce
                   (found_fewer stage.old back.xs limit Want.All v found) refl,
             ))
             (λ enough. (
-              record { group = refl; prior = refl; boot = refl; seq = refl; of_group = refl; view = refl; stripe = refl },
+              record { group = refl; prior = refl; only = refl; boot = refl; seq = refl; of_group = refl; view = refl; stripe = refl },
               store_phase stage cast (made stage later_scene (stores v))
                   (next_open_from stage cast s.c (stores v) left (made stage later_scene (stores v)) open_is.is_back.of
                   (record {
-                    same = record { group = refl; prior = refl; boot = refl; seq = refl; of_group = refl; view = refl; stripe = refl };
+                    same = record { group = refl; prior = refl; only = refl; boot = refl; seq = refl; of_group = refl; view = refl; stripe = refl };
                     ahead = refl;
                     own = refl;
                     later = refl;
@@ -279,7 +282,7 @@ module _ (stage : Stage) (cast : Cast stage) (logs : ℕ → List Version) (asce
             next_back : (u : Stamp) → IsBack stage (next u) (Some u)
             next_back u = record {
               of = of_same stage s.c (next u)
-                  (record { group = refl; prior = refl; boot = refl; seq = refl; of_group = refl; view = refl; stripe = refl }) open_is.is_back.of;
+                  (record { group = refl; prior = refl; only = refl; boot = refl; seq = refl; of_group = refl; view = refl; stripe = refl }) open_is.is_back.of;
               phase = refl;
               own = refl;
             }
@@ -300,7 +303,7 @@ module _ (stage : Stage) (cast : Cast stage) (logs : ℕ → List Version) (asce
     closes = λ s others before parts known counted in_view tame later early.
         let d : Coordinator = in_phase (having s.c counted) (LooksBack None) in
         let is_back : IsBack stage d None = record {
-          of = of_same stage s.c d (record { group = refl; prior = refl; boot = refl; seq = refl; of_group = refl; view = refl; stripe = refl }) in_view.of;
+          of = of_same stage s.c d (record { group = refl; prior = refl; only = refl; boot = refl; seq = refl; of_group = refl; view = refl; stripe = refl }) in_view.of;
           phase = refl;
           own = refl;
         } in
@@ -310,7 +313,7 @@ module _ (stage : Stage) (cast : Cast stage) (logs : ℕ → List Version) (asce
           is_back = is_back;
           counted = refl;
           stale = told_all stage s.c others before;
-          old = stale_then stage s.c d (record { group = refl; prior = refl; boot = refl; seq = refl; of_group = refl; view = refl; stripe = refl }) refl
+          old = stale_then stage s.c d (record { group = refl; prior = refl; only = refl; boot = refl; seq = refl; of_group = refl; view = refl; stripe = refl }) refl
               (told_all stage s.c others before) (told_replies stage s.c others before);
           waiting = ap (λ (q : List Packet). told_all stage s.c others before ++ q) (back.sends d None is_back);
           tame = tame;

@@ -1,5 +1,5 @@
 -- A block write whose quorum finds one version: it is the newest at each member, so the write modifies it.
-use Rattle.std.proofs.Common.{Bool, List, None, Option, Some, [], ap, arith, cond, false, length, map, refl, subst, sym, true, ℕ, ⊎_elim, ◌+◌, ◌<◌, ◌||◌, ◌∙◌, ◌∷◌, ◌≡◌, ◌≤◌}
+use Rattle.std.proofs.Common.{Bool, List, None, Option, Some, [], ap, arith, cond, false, length, map, refl, subst, sym, true, ℕ, ⊎_elim, ◌+◌, ◌<◌, ◌||◌, ◌∙◌, ◌∷◌, ◌≡◌, ◌≤◌, inr}
 use Rattle.std.proofs.lemmas.Bool.{and_parts, cases_Bool, cond_both, eq-eqb, eqb-true, false≢true, or_left, or_right}
 use Rattle.std.proofs.lemmas.Option.{same_Some}
 use Rattle.std.specs.Prelude.{nat_eq, slice_get, ◌-◌, ◌^◌}
@@ -131,9 +131,10 @@ module _ (stage : Stage) (cast : Cast stage) (logs : ℕ → List Version) (lore
   abbrev pub block_goes : List Counted → Next
   block_goes counted = modified_if stage.setting.code (having s.c counted) j (common_version_at j counted)
 
-  pub block_ordering : s.c.phase ≡ OrdersAt j
+  pub block_ordering : stage.only ≡ None → s.c.phase ≡ OrdersAt j
       → IsOrdering stage cast logs s (looking (Below s.c.stamp) (Want.Seat j)) block_goes
-  block_ordering phase = record {
+  block_ordering every phase = record {
+    all = inr every;
     so = reads_whole stage s.c (Below s.c.stamp) (Want.Seat j) (orders_at_ask stage s.c j phase);
     fits = λ x seated. read_fits stage s.c s.c.stamp (Below s.c.stamp) (Want.Seat j) x (orders_at_ask stage s.c j phase x);
     answers = each_then (λ (x : Seated). may_be_found (cond (nat_eq j x.seat) stage.setting.layout.block 0) s.c.stamp (look x) ≡ true)
@@ -149,31 +150,31 @@ module _ (stage : Stage) (cast : Cast stage) (logs : ℕ → List Version) (lore
         order_at_decides stage.setting.layout.block stage.setting.code fresh (having s.c counted) roomy j phase;
   }
 
-  pub block_accepted : IsInView stage s.c → stamp_same s.c.stamp first_stamp ≡ false
+  pub block_accepted : stage.only ≡ None → IsInView stage s.c → stamp_same s.c.stamp first_stamp ≡ false
       → s.c.call.phase + total_below logs s.c.stamp cast.xs + lore.phases + 4 ≤ 2 ^ 32 - 1 → IsAbove stage cast logs lore.phases lore.ground s.c.stamp
       → IsUnheld logs s.c.stamp cast.xs → j < stage.group.m → length (block_written s.c.ask.op) ≡ stage.setting.layout.block
       → ((old new : List ℕ) → length old ≡ stage.setting.layout.block → length new ≡ stage.setting.layout.block
       → length (stage.setting.code.delta old new) ≡ stage.setting.layout.block)
       → (others : List Seated) (before parts : ℕ → Part) (known : ℕ) → Holds (TameWith stage s.c.stamp logs) parts cast.xs
       → Carries stage (after_replies stage s known parts others before) (block_goes looked)
-  block_accepted in_view later early above unheld below_m written deltas others before parts known tame =
+  block_accepted every in_view later early above unheld below_m written deltas others before parts known tame =
       go (common_version_at j looked) refl
     where
       go : (z : Option Stamp) → common_version_at j looked ≡ z
           → Carries stage (after_replies stage s known parts others before) (modified_if stage.setting.code (having s.c looked) j z)
       go None is = (
-        record { group = refl; prior = refl; boot = refl; seq = refl; of_group = refl; view = refl; stripe = refl },
+        record { group = refl; prior = refl; only = refl; boot = refl; seq = refl; of_group = refl; view = refl; stripe = refl },
         lower_closes stage cast logs lore s in_view later early others before parts known looked s.c.stamp tame above (omega arith),
       )
       go (Some v) is =
           let common = common_parts j looked v is in
           let found = each_finds look v cast.xs (common_found looked v common.1) in (
-            record { group = refl; prior = refl; boot = refl; seq = refl; of_group = refl; view = refl; stripe = refl },
-            modify_phase stage cast (made stage (after_replies stage s known parts others before) (modifying stage.setting.code (having s.c looked) v j)) v j
+            record { group = refl; prior = refl; only = refl; boot = refl; seq = refl; of_group = refl; view = refl; stripe = refl },
+            modify_phase stage cast (made stage (after_replies stage s known parts others before) (modifying stage.setting.code (having s.c looked) v j)) v j every
                 (next_open stage cast s.c (modifying stage.setting.code (having s.c looked) v j) others before
                 (made stage (after_replies stage s known parts others before) (modifying stage.setting.code (having s.c looked) v j)) in_view
                 (record {
-                  same = record { group = refl; prior = refl; boot = refl; seq = refl; of_group = refl; view = refl; stripe = refl };
+                  same = record { group = refl; prior = refl; only = refl; boot = refl; seq = refl; of_group = refl; view = refl; stripe = refl };
                   ahead = refl;
                   own = refl;
                   later = refl;

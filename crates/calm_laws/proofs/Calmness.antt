@@ -7,12 +7,12 @@ use Rattle.calm_laws.proofs.Backward.{BackCast, OldLore, may_look_back}
 use Rattle.fab_base.specs.declared.identities.ViewNo.{ViewNo}
 use Rattle.protocol.specs.declared.phases.Phase.{Phase}
 use Rattle.calm_laws.proofs.Plays.{Finishes}
-use Rattle.std.proofs.Common.{cond, List, None, Option, Some, [], ap, ap₂, arith, drop, false, inl, le_of_lt, le_trans, length, map, refl, subst, suc, sym, take, true, zero-add, ℕ, ⊎_elim, ◌++◌, ◌+◌, ◌<◌, ◌∙◌, ◌∷◌, ◌≡◌, ◌≤◌, is_some, take_all, zero, inr, Bool}
-use Rattle.std.proofs.lemmas.Bool.{and_from, and_parts, cond_both, eqb-true, false≢true, ltb-true, ne_eqb, or_parts, not-true}
+use Rattle.std.proofs.Common.{cond, List, None, Option, Some, [], ap, ap₂, arith, drop, false, inl, le_of_lt, le_trans, length, map, refl, subst, suc, sym, take, true, zero-add, ℕ, ⊎_elim, ◌++◌, ◌+◌, ◌<◌, ◌∙◌, ◌∷◌, ◌≡◌, ◌≤◌, is_some, zero, inr, Bool, length-append}
+use Rattle.std.proofs.lemmas.Bool.{and_from, and_parts, cond_both, eqb-true, false≢true, ltb-true, ne_eqb, or_parts, not-true, or_right}
 use Rattle.std.proofs.lemmas.Bool.Decides.{nat_tests}
 use Rattle.std.proofs.lemmas.List.{append_assoc, length-take-le, take-append-drop}
 use Rattle.std.specs.Prelude.{filter, nat_eq, nat_lt, slice_get, ◌*◌, ◌-◌, not}
-use Rattle.calm_laws.proofs.Asking.{each_append, each_then}
+use Rattle.calm_laws.proofs.Asking.{each_append, each_then, each_so}
 use Rattle.calm_laws.proofs.Beginnings.{OpenFacts, each_repeated, map_append, one_stands, open_facts, repeated_sends, waiting_untouched}
 use Rattle.calm_laws.proofs.Casting.{apart_chosen, apart_take, chosen, chosen_many, each_chosen, each_drop, each_take, sends_chosen, chosen_few, has_chosen}
 use Rattle.calm_laws.proofs.Descending.{Lore, IsFloor, Ground, MayLookBack}
@@ -27,11 +27,10 @@ use Rattle.calm_laws.proofs.OrderRuns.{IsUnheld}
 use Rattle.calm_laws.proofs.PhaseRuns.{Cast, IsOpen}
 use Rattle.calm_laws.proofs.Queues.{waiting}
 use Rattle.calm_laws.proofs.Rooms.{Room}
-use Rattle.calm_laws.proofs.Scenes.{Closes, Each, IsSeated, Part, Scene, Seated, Stage, asking, sends, IsInView, asks_own, first_ahead, IsOf, IsSeatedBack, asks_before, AreApart}
+use Rattle.calm_laws.proofs.Scenes.{Closes, Each, IsSeated, Part, Scene, Seated, Stage, asking, sends, IsInView, asks_own, first_ahead, IsOf, IsSeatedBack, asks_before, AreApart, quorum_needed, IsForAll}
 use Rattle.calm_laws.proofs.Shows.{IsMember, Shows}
 use Rattle.calm_laws.proofs.Starts.{AreFew, block_first, write_first}
-use Rattle.calm_laws.proofs.StorePhases.{each_so}
-use Rattle.calm_laws.specs.Laws.{EncodesBlocks, EndsAlone, IsOver, most_records}
+use Rattle.calm_laws.specs.Laws.{EncodesBlocks, EndsAlone, IsOver, most_records, CountsThese}
 use Rattle.fab_base.proofs.Seats.{brick_at_seat, seat_of_member, seat_within}
 use Rattle.fab_base.specs.Layouts.{Group, brick_at, seat_in}
 use Rattle.fab_base.specs.Stamps.{stamp_below}
@@ -43,13 +42,14 @@ use Rattle.fab_base.specs.declared.stamps.Stamp.{Stamp}
 use Rattle.messages.specs.declared.packets.Packet.{Packet}
 use Rattle.messages.specs.declared.requests.Version.{Version}
 use Rattle.messages.specs.declared.requests.Want.{Want}
-use Rattle.protocol.specs.Calms.{IsCalm, IsReady, early, goes_among, is_one_of, may_ask_prior, knows_synced}
-use Rattle.protocol.specs.Coordinators.{Coordinator, block_written, asked_group, looks_back}
+use Rattle.protocol.specs.Calms.{IsCalm, IsReady, early, goes_among, is_one_of, may_ask_prior, knows_synced, members_among}
+use Rattle.protocol.specs.Coordinators.{Coordinator, block_written, asked_group, looks_back, may_count_in, needed, asks_each}
 use Rattle.protocol.specs.Nodes.{first_phase, has_block, has_length, phase_packets, replica_at, view_at}
 use Rattle.protocol.specs.Replicas.{Replica, below, is_held, newest_of, top_of}
 use Rattle.protocol.specs.Settings.{IsSound, Setting, are_bytes}
 use Rattle.protocol.specs.Worlds.{Operation, World}
 use Rattle.quorum.specs.Quorums.{IsWithinLimits, quorum_of}
+use Rattle.calm_laws.proofs.Members.{counts_of, rest_of, more_of, counts_rest, first_more, counts_each, rest_each, counts_apart, counts_all, as_many, few_chosen, has_place, each_needed}
 
 -- a part whose times are early has come to an early one
 top_early : (b : ℕ) (replica : Replica) → replica.order.time ≤ b
@@ -111,7 +111,8 @@ module _ (setting : Setting) (sound : IsSound setting) (lengths : EncodesBlocks 
     now = w.clocks o.brick.0;
     call = c.call;
     group = c.group;
-    quorum = take (quorum_of c.group) (chosen bricks 0 c.group.members);
+    quorum = counts_of c.only (quorum_of c.group) (chosen bricks 0 c.group.members);
+    only = c.only;
     prior = kept_by c.prior c.group;
     may_ask = may_ask_prior w c bricks;
     old = λ i. ((w.nodes i).replicas c.call.group.0 (c.call.view.0 - 1) c.call.stripe.0).log;
@@ -125,7 +126,7 @@ module _ (setting : Setting) (sound : IsSound setting) (lengths : EncodesBlocks 
   ahead = ap (λ (p : Phase). looks_back p) known.call.phase ∙ first_ahead c.ask.op
 
   of : IsOf stage c
-  of = record { group = refl; prior = refl; boot = refl; seq = refl; of_group = refl; view = sym known.call.view; stripe = refl }
+  of = record { group = refl; prior = refl; only = refl; boot = refl; seq = refl; of_group = refl; view = sym known.call.view; stripe = refl }
 
   in_view : IsInView stage c
   in_view = record { of = of; ahead = ahead; own = known.call.view }
@@ -157,20 +158,78 @@ module _ (setting : Setting) (sound : IsSound setting) (lengths : EncodesBlocks 
       sends_chosen stage d 0 (asked_group d).members
       ∙ ap (λ (g : Group). map (asking stage d) (chosen bricks 0 g.members)) (asks_own stage d own)
 
+  -- those that a phase for each counts, and the others
+  abbrev who : List Seated
+  who = counts_of c.only (quorum_of c.group) (chosen bricks 0 c.group.members)
+
+  abbrev others : List Seated
+  others = rest_of c.only (quorum_of c.group) (chosen bricks 0 c.group.members)
+
+  who_seated : Each (IsSeated stage) who
+  who_seated = counts_each (IsSeated stage) c.only q all all_seated
+
+  -- they are as many as such a phase needs
+  who_needed : (d : Coordinator) → IsInView stage d → IsForAll stage d.phase → length who ≡ needed d
+  who_needed d own for_all = by known.counts
+    where
+      by : CountsThese c bricks → length who ≡ needed d
+      by (inl every) =
+          ap (λ (z : Option (List BrickId)). length (counts_of z q all)) every ∙ length-take-le q all all_many
+          ∙ ap (λ (g : Group). quorum_of g) (sym (asks_own stage d own)) ∙ sym (quorum_needed d (inr (own.of.only ∙ every)))
+      by (inr these) = ⊎_elim
+          (λ (each : asks_each d.phase ≡ true).
+          ap (λ (z : Option (List BrickId)). length (counts_of z q all)) these.0
+          ∙ as_many bricks c.group.members calm.distinct known.logs.distinct these.1
+          ∙ sym (each_needed (asked_group d) d.phase d.only bricks (own.of.only ∙ these.0) each))
+          (λ (none : stage.only ≡ None). absurd (let never : Some bricks ≡ None = sym these.0 ∙ none in cc))
+          for_all
+
+  -- they may count
+  who_may : (phase : Phase) → Each (λ x. may_count_in phase c.only x.brick.0 ≡ true) who
+  who_may phase = by known.counts
+    where
+      by : CountsThese c bricks → Each (λ x. may_count_in phase c.only x.brick.0 ≡ true) who
+      by (inl every) =
+          each_so (λ (x : Seated). may_count_in phase c.only x.brick.0 ≡ true)
+          (λ x. ap (λ (z : Option (List BrickId)). may_count_in phase z x.brick.0) every) who
+      by (inr these) =
+          each_then (IsSeated stage) (λ (x : Seated). may_count_in phase c.only x.brick.0 ≡ true) who
+          (λ x seated.
+          ap (λ (z : Option (List BrickId)). may_count_in phase z x.brick.0) these.0
+          ∙ or_right (looks_back phase) (is_some (seat_in bricks x.brick.0)) (has_place bricks x.brick seated.1)) who_seated
+
+  -- another operation than a read of a whole stripe counts every member
+  every_counts : (op : Op) → c.ask.op ≡ op → (op ≡ ReadStripe → ⊥) → c.only ≡ None
+  every_counts op is other = ⊎_elim
+      (λ (every : c.only ≡ None). every)
+      (λ (these : (c.only ≡ Some bricks) × (members_among c.group.members bricks ≡ length bricks) × (c.ask.op ≡ ReadStripe)).
+      absurd (other (sym is ∙ these.2)))
+      known.counts
+
   abbrev cast : Cast stage
   cast = record {
-    xs = take q all;
-    rest = drop q all;
+    xs = who;
+    rest = others;
     counts = refl;
-    seated = each_take (IsSeated stage) q all all_seated;
-    rest_seated = each_drop (IsSeated stage) q all all_seated;
-    apart = apart_take q all (apart_chosen bricks 0 c.group.members);
+    seated = who_seated;
+    rest_seated = rest_each (IsSeated stage) c.only q all all_seated;
+    apart = counts_apart c.only q all (apart_chosen bricks 0 c.group.members);
     some = let long : length (take q all) ≡ q = length-take-le q all all_many in
+        let whole : length who ≡ length (take q all) + length (more_of c.only q all)
+        = ap (λ (l : List Seated). length l) (sym (first_more c.only q all)) ∙ length-append (take q all) (more_of c.only q all) in
+        let low = limits.some_block in let enough = limits.enough_seats in omega (arith, long, whole, low, enough);
+    needs = who_needed;
+    may = who_may;
+    first = take q all;
+    more = more_of c.only q all;
+    split = first_more c.only q all;
+    first_apart = apart_take q all (apart_chosen bricks 0 c.group.members);
+    first_some = let long : length (take q all) ≡ q = length-take-le q all all_many in
         let low = limits.some_block in let enough = limits.enough_seats in omega (arith, long, low, enough);
-    quorum = length-take-le q all all_many;
+    first_quorum = length-take-le q all all_many;
     sends = λ d own.
-        sends_all d own ∙ ap (map (asking stage d)) (sym (take-append-drop q all))
-        ∙ map_append (asking stage d) (take q all) (drop q all);
+        sends_all d own ∙ ap (map (asking stage d)) (sym (counts_rest c.only q all))
+        ∙ map_append (asking stage d) who others;
   }
 
   -- parts and logs of the stripe
@@ -191,16 +250,16 @@ module _ (setting : Setting) (sound : IsSound setting) (lengths : EncodesBlocks 
   opened = open_facts w n o c calm.is calm.open_is
 
   -- what waits are the requests of the first phase
-  queue_is : waiting w n bricks ≡ map (asking stage c) (take q all) ++ map (asking stage c) (drop q all ++ repeated known.messages.copies all)
+  queue_is : waiting w n bricks ≡ map (asking stage c) who ++ map (asking stage c) (others ++ repeated known.messages.copies all)
   queue_is =
       waiting_untouched w n bricks 1 w.packets (λ k packet at own.
       let next : suc k ≡ 1 + k = omega arith in
       subst (λ (j : ℕ). w.reached j ≡ false) next (calm.untouched (suc k) packet at own))
       ∙ ap (λ (l : List Packet). filter (goes_among bricks) l) known.messages.sent
       ∙ repeated_sends stage c (suc known.messages.copies) (phase_packets setting o.brick c) all (sends_all c in_view)
-      ∙ ap (λ (l : List Seated). map (asking stage c) (l ++ repeated known.messages.copies all)) (sym (take-append-drop q all))
-      ∙ ap (map (asking stage c)) (append_assoc (take q all) (drop q all) (repeated known.messages.copies all))
-      ∙ map_append (asking stage c) (take q all) (drop q all ++ repeated known.messages.copies all)
+      ∙ ap (λ (l : List Seated). map (asking stage c) (l ++ repeated known.messages.copies all)) (sym (counts_rest c.only q all))
+      ∙ ap (map (asking stage c)) (append_assoc who others (repeated known.messages.copies all))
+      ∙ map_append (asking stage c) who (others ++ repeated known.messages.copies all)
 
   -- so the first phase is open
   abbrev begins_open : IsOpen stage cast scene
@@ -209,9 +268,9 @@ module _ (setting : Setting) (sound : IsSound setting) (lengths : EncodesBlocks 
     counted = known.call.counted;
     stale = [];
     old = tt;
-    others = drop q all ++ repeated known.messages.copies all;
-    others_seated = each_append (IsSeated stage) (drop q all) (repeated known.messages.copies all)
-        (each_drop (IsSeated stage) q all all_seated) (each_repeated (IsSeated stage) known.messages.copies all all_seated);
+    others = others ++ repeated known.messages.copies all;
+    others_seated = each_append (IsSeated stage) others (repeated known.messages.copies all)
+        (rest_each (IsSeated stage) c.only q all all_seated) (each_repeated (IsSeated stage) known.messages.copies all all_seated);
     waiting = queue_is;
   }
 
@@ -366,7 +425,7 @@ module _ (setting : Setting) (sound : IsSound setting) (lengths : EncodesBlocks 
 
     looks_back_well : MayLookBack stage cast logs (total_below stage.old (floor_of c.call.view.0) (take q_back all_back))
     looks_back_well =
-        may_look_back stage cast logs (each_so (λ (x : Seated). LogAscends (logs x.brick.0)) (λ x. known.logs.ascends x.brick.0) (take q all)) lengths
+        may_look_back stage cast logs (each_so (λ (x : Seated). LogAscends (logs x.brick.0)) (λ x. known.logs.ascends x.brick.0) who) lengths
         back_cast old_lore
 
     -- phases enough
@@ -382,7 +441,8 @@ module _ (setting : Setting) (sound : IsSound setting) (lengths : EncodesBlocks 
   ground_of = ⊎_elim
       (λ (at : KnownFloor w c.call.group.0 c.call.stripe.0 c.call.view.0 c.group). (
         0,
-        inl (floor_is c.call.view.0 c.group known.logs at (take q all) cast.apart cast.quorum cast.seated keeps_own),
+        inl (floor_is c.call.view.0 c.group known.logs at (take q all) cast.first_apart cast.first_quorum
+            (each_take (IsSeated stage) q all all_seated) keeps_own),
         omega arith,
       ))
       (λ (back : KnownBack setting w c bricks). (
@@ -395,11 +455,11 @@ module _ (setting : Setting) (sound : IsSound setting) (lengths : EncodesBlocks 
   -- what is known of the quorum's logs
   abbrev lore : Lore stage cast logs
   lore = record {
-    ascends = each_so (λ (x : Seated). LogAscends (logs x.brick.0)) (λ x. known.logs.ascends x.brick.0) (take q all);
+    ascends = each_so (λ (x : Seated). LogAscends (logs x.brick.0)) (λ x. known.logs.ascends x.brick.0) who;
     some_block = limits.some_block;
     blocks = each_then (IsSeated stage) (λ (x : Seated). (k : ℕ) (version : Version) → slice_get (logs x.brick.0) k ≡ Some version
-        → length version.block ≡ setting.layout.block) (take q all)
-        (λ x seated k version at. known.logs.blocks x.brick.0 x.seat k version seated.0 at) (each_take (IsSeated stage) q all all_seated);
+        → length version.block ≡ setting.layout.block) who
+        (λ x seated k version at. known.logs.blocks x.brick.0 x.seat k version seated.0 at) who_seated;
     encodes = lengths;
     phases = ground_of.0;
     ground = ground_of.1;
@@ -408,11 +468,13 @@ module _ (setting : Setting) (sound : IsSound setting) (lengths : EncodesBlocks 
   -- phases enough
   few : AreFew stage cast logs lore
   few bound =
-      let total = total_short logs bound (take q all) known.logs.short in
-      let long : length (take q all) ≡ q = length-take-le q all all_many in
+      let total = total_short logs bound who known.logs.short in
+      let long : length all ≡ length who + length others
+      = ap (λ (l : List Seated). length l) (sym (counts_rest c.only q all)) ∙ length-append who others in
+      let within = few_chosen bricks 0 c.group.members in
       let seats = limits.few_seats in
       let more = ground_of.2 in
-      omega (arith, total, long, seats, more)
+      omega (arith, total, long, within, seats, more)
 
   -- the first round finds room, and early times
   abbrev begins_first : IsFirst stage cast logs scene
@@ -424,10 +486,9 @@ module _ (setting : Setting) (sound : IsSound setting) (lengths : EncodesBlocks 
     stamp_known = known.call.stamp_known;
     known_early = let low = calm.times.known in omega (arith, low);
     starts = each_then (IsSeated stage) (λ (x : Seated). ((parts x.brick.0).replica.log ≡ logs x.brick.0) × Room stage (parts x.brick.0)
-        × IsLow c.stamp.view.0 early (top_of (parts x.brick.0).replica)) (take q all)
-        (λ x seated. (refl, inl (ready x.brick seated.1).room, low x seated))
-        (each_take (IsSeated stage) q all all_seated);
-    ascends = each_so (λ (x : Seated). LogAscends (logs x.brick.0)) (λ x. known.logs.ascends x.brick.0) (take q all);
+        × IsLow c.stamp.view.0 early (top_of (parts x.brick.0).replica)) who
+        (λ x seated. (refl, inl (ready x.brick seated.1).room, low x seated)) who_seated;
+    ascends = each_so (λ (x : Seated). LogAscends (logs x.brick.0)) (λ x. known.logs.ascends x.brick.0) who;
   }
     where
       low : (x : Seated) → IsSeated stage x → IsLow c.stamp.view.0 early (top_of (parts x.brick.0).replica)
@@ -441,8 +502,8 @@ module _ (setting : Setting) (sound : IsSound setting) (lengths : EncodesBlocks 
           }
 
   -- the operation's own stamp is in none of these logs
-  unheld : IsUnheld logs c.stamp (take q all)
-  unheld = each_so (λ (x : Seated). is_held c.stamp (logs x.brick.0) ≡ false) (λ x. known.unheld x.brick.0) (take q all)
+  unheld : IsUnheld logs c.stamp who
+  unheld = each_so (λ (x : Seated). is_held c.stamp (logs x.brick.0) ≡ false) (λ x. known.unheld x.brick.0) who
 
   -- so it closes
   closes : Closes stage scene
@@ -451,19 +512,21 @@ module _ (setting : Setting) (sound : IsSound setting) (lengths : EncodesBlocks 
       go : (op : Op) → c.ask.op ≡ op → Closes stage scene
       go (ReadBlock j) is =
           look_first stage cast logs lore few scene begins_first (Want.Seat j)
-          (looks_at_looking stage scene j (known.call.phase ∙ ap (λ (z : Op). first_phase z) is)) (let one = known.call.number_of_phase in omega (arith, one)) unheld
+          (looks_at_looking stage scene j (every_counts c.ask.op refl (λ bad. let never : ReadBlock j ≡ ReadStripe = sym is ∙ bad in cc)) (known.call.phase ∙ ap (λ (z : Op). first_phase z) is)) (let one = known.call.number_of_phase in omega (arith, one)) unheld
       go (WriteBlock j bytes) is =
           let fits : nat_lt j c.group.m ≡ true = sym (ap (λ (z : Op). has_block c.group.m z) is) ∙ known.call.block_fits in
           let long = and_parts (are_bytes bytes) (nat_eq (length bytes) setting.layout.block)
           (sym (ap (λ (z : Op). has_length c.group.m setting.layout.block z) is) ∙ known.call.length_fits) in
-          block_first stage cast logs lore few sound.deltas scene j begins_first (known.call.phase ∙ ap (λ (z : Op). first_phase z) is)
+          block_first stage cast logs lore few sound.deltas
+          (every_counts c.ask.op refl (λ bad. let never : WriteBlock j bytes ≡ ReadStripe = sym is ∙ bad in cc)) scene j begins_first (known.call.phase ∙ ap (λ (z : Op). first_phase z) is)
           (let one = known.call.number_of_phase in omega (arith, one)) unheld (ltb-true j c.group.m fits)
           (ap (λ (z : Op). length (block_written z)) is ∙ eqb-true (length bytes) setting.layout.block long.1)
       go ReadStripe is =
           look_first stage cast logs lore few scene begins_first Want.All
           (looks_looking stage scene (known.call.phase ∙ ap (λ (z : Op). first_phase z) is)) (let one = known.call.number_of_phase in omega (arith, one)) unheld
       go (WriteStripe bytes) is =
-          write_first stage cast logs lore few scene begins_first (known.call.phase ∙ ap (λ (z : Op). first_phase z) is)
+          write_first stage cast logs lore few
+          (every_counts c.ask.op refl (λ bad. let never : WriteStripe bytes ≡ ReadStripe = sym is ∙ bad in cc)) scene begins_first (known.call.phase ∙ ap (λ (z : Op). first_phase z) is)
           (let one = known.call.number_of_phase in omega (arith, one))
 
   -- each brick serves the call
@@ -512,11 +575,11 @@ module _ (setting : Setting) (sound : IsSound setting) (lengths : EncodesBlocks 
 
   -- where no more than a quorum of its members hear one another, what holds of those whose replies count holds of all these
   pub each_counts : length (filter (λ brick. is_some (seat_in c.group.members brick.0)) bricks) ≡ quorum_of c.group → (P : BrickId → Type 0)
-      → Each (λ x. P x.brick) (take q all) → (brick : BrickId) → is_one_of bricks brick ≡ true → is_some (seat_in c.group.members brick.0) ≡ true
+      → Each (λ x. P x.brick) who → (brick : BrickId) → is_one_of bricks brick ≡ true → is_some (seat_in c.group.members brick.0) ≡ true
       → P brick
   each_counts exactly P each =
       has_chosen P bricks 0 c.group.members
-      (subst (λ (l : List Seated). Each (λ x. P x.brick) l) (take_all q all most) each)
+      (counts_all (λ x. P x.brick) c.only q all most each)
     where
       most : length all ≤ q
       most =

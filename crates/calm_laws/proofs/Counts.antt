@@ -12,14 +12,13 @@ use Rattle.messages.specs.declared.calls.Call.{Call}
 use Rattle.messages.specs.declared.packets.Packet.{Packet}
 use Rattle.messages.specs.declared.replies.Reply.{Reply}
 use Rattle.protocol.specs.Calms.{early}
-use Rattle.protocol.specs.Coordinators.{Coordinator, Ends, Ignores, Makes, Next, Sends, Waits, answering_seat, answers_phase, call_same, counted_at, counts_at, decided, has_seat, new_seat, on_reply, once_full, asked_group}
+use Rattle.protocol.specs.Coordinators.{Coordinator, Ends, Ignores, Makes, Next, Sends, Waits, answering_seat, answers_phase, call_same, counted_at, counts_at, decided, has_seat, new_seat, on_reply, once_full, asked_group, needed, may_count, counting_seat}
 use Rattle.protocol.specs.Views.{view_told}
 use Rattle.protocol.specs.Nodes.{fresh_stamp, known_after}
 use Rattle.protocol.specs.Replicas.{stored}
 use Rattle.protocol.specs.Settings.{Code}
 use Rattle.protocol.specs.Worlds.{is_answer}
 use Rattle.protocol.specs.declared.phases.Counted.{Counted}
-use Rattle.quorum.specs.Quorums.{quorum_of}
 
 -- the reply of a member, as it counts
 abbrev pub counted_of : (Seated → Reply) → Seated → Counted
@@ -61,7 +60,7 @@ Carries stage s (Ends answer seen stored) = (is_answer answer ≡ true) × EndsA
 
 same_counted : (c d : Coordinator) (counted : List Counted) → SameCall c d → SameCall (record c { counted = counted }) d
 same_counted c d counted same =
-    record { group = same.group; prior = same.prior; boot = same.boot; seq = same.seq; of_group = same.of_group; view = same.view; stripe = same.stripe }
+    record { group = same.group; prior = same.prior; only = same.only; boot = same.boot; seq = same.seq; of_group = same.of_group; view = same.view; stripe = same.stripe }
 
 -- it is the same for a coordinator that counted other replies
 carries_counted : (stage : Stage) (s : Scene) (counted : List Counted) (next : Next) → Carries stage s next
@@ -93,43 +92,44 @@ call_itself : (a : Call) → call_same a a ≡ true
 unfolding call_same
 call_itself a = grind (arith, nat_tests)
 
--- a reply that answers the phase counts
-counts : (block : ℕ) (c : Coordinator) (from seat : ℕ) (reply : Reply) → c.call.phase < 2 ^ 32 - 1 → seat_in (asked_group c).members from ≡ Some seat
-    → answers_phase block c.stamp seat c.phase reply ≡ true → has_seat seat c.counted ≡ false → counts_at block c from c.call reply ≡ Some seat
+-- a reply that may count, and answers the phase, counts
+counts : (block : ℕ) (c : Coordinator) (from seat : ℕ) (reply : Reply) → c.call.phase < 2 ^ 32 - 1 → may_count c from ≡ true
+    → seat_in (asked_group c).members from ≡ Some seat → answers_phase block c.stamp seat c.phase reply ≡ true → has_seat seat c.counted ≡ false → counts_at block c from c.call reply ≡ Some seat
 unfolding counts_at
-counts block c from seat reply early seated answers new =
+counts block c from seat reply early may seated answers new =
     let low : nat_lt c.call.phase (2 ^ 32 - 1) ≡ true = grind (arith, nat_tests) in
     ap (λ (b : Bool). cond (b && nat_lt c.call.phase (2 ^ 32 - 1))
-    (new_seat c.counted (answering_seat block c reply (seat_in (asked_group c).members from))) None) (call_itself c.call)
-    ∙ ap (λ (b : Bool). cond b (new_seat c.counted (answering_seat block c reply (seat_in (asked_group c).members from))) None) low
+    (new_seat c.counted (answering_seat block c reply (counting_seat c from))) None) (call_itself c.call)
+    ∙ ap (λ (b : Bool). cond b (new_seat c.counted (answering_seat block c reply (counting_seat c from))) None) low
+    ∙ ap (λ (b : Bool). new_seat c.counted (answering_seat block c reply (cond b (seat_in (asked_group c).members from) None))) may
     ∙ ap (λ (z : Option ℕ). new_seat c.counted (answering_seat block c reply z)) seated
     ∙ ap (λ (b : Bool). new_seat c.counted (cond b (Some seat) None)) answers
     ∙ ap (λ (b : Bool). cond b None (Some seat)) new
 
 -- what the reply of this member decides, as it counts
-counts_so : (stage : Stage) (group : Group) (s : Scene) (f : Seated → Reply) (x : Seated) → s.c.call.phase < 2 ^ 32 - 1 → asked_group s.c ≡ group
-    → seat_in group.members x.brick.0 ≡ Some x.seat → answers_phase stage.setting.layout.block s.c.stamp x.seat s.c.phase (f x) ≡ true → has_seat x.seat s.c.counted ≡ false
+counts_so : (stage : Stage) (group : Group) (s : Scene) (f : Seated → Reply) (x : Seated) → s.c.call.phase < 2 ^ 32 - 1
+    → may_count s.c x.brick.0 ≡ true → asked_group s.c ≡ group → seat_in group.members x.brick.0 ≡ Some x.seat → answers_phase stage.setting.layout.block s.c.stamp x.seat s.c.phase (f x) ≡ true → has_seat x.seat s.c.counted ≡ false
     → decision stage s x.brick s.c.call (f x)
     ≡ once_full stage.setting.layout.block stage.setting.code (fresh_at stage s.c (known_after s.known (f x)))
     (record s.c { counted = s.c.counted ++ (counted_of f x ∷ []) })
 unfolding on_reply
-counts_so stage group s f x early is seated answers new =
+counts_so stage group s f x early may is seated answers new =
     ap (λ (z : Option ℕ). counted_at stage.setting.layout.block stage.setting.code
     (fresh_at stage s.c (known_after s.known (f x))) s.c x.brick (f x) z)
-    (counts stage.setting.layout.block s.c x.brick.0 x.seat (f x) early
+    (counts stage.setting.layout.block s.c x.brick.0 x.seat (f x) early may
     (subst (λ (g : Group). seat_in g.members x.brick.0 ≡ Some x.seat) (sym is) seated) answers new)
 
--- with fewer than a quorum it waits, and with a quorum it decides
-waits_for : (block : ℕ) (code : Code) (fresh : Option Stamp) (c : Coordinator) → length c.counted < quorum_of (asked_group c)
+-- with fewer than are needed it waits, and with as many it decides
+waits_for : (block : ℕ) (code : Code) (fresh : Option Stamp) (c : Coordinator) → length c.counted < needed c
     → once_full block code fresh c ≡ Waits c
 waits_for block code fresh c few =
-    let low : nat_lt (length c.counted) (quorum_of (asked_group c)) ≡ true = grind (arith, nat_tests) in
+    let low : nat_lt (length c.counted) (needed c) ≡ true = grind (arith, nat_tests) in
     ap (λ (b : Bool). cond b (Waits c) (decided block code fresh c)) low
 
-decides_at : (block : ℕ) (code : Code) (fresh : Option Stamp) (c : Coordinator) → length c.counted ≡ quorum_of (asked_group c)
+decides_at : (block : ℕ) (code : Code) (fresh : Option Stamp) (c : Coordinator) → length c.counted ≡ needed c
     → once_full block code fresh c ≡ decided block code fresh c
 decides_at block code fresh c many =
-    let low : nat_lt (length c.counted) (quorum_of (asked_group c)) ≡ false = grind (arith, nat_tests) in
+    let low : nat_lt (length c.counted) (needed c) ≡ false = grind (arith, nat_tests) in
     ap (λ (b : Bool). cond b (Waits c) (decided block code fresh c)) low
 
 -- one more in the list
@@ -140,36 +140,35 @@ length_more counted x = length-append counted (x ∷ [])
 abbrev pub told : Stage → Call → (Seated → Reply) → List Seated → List Packet
 told stage call f xs = map (λ x. replying stage x.brick call (f x)) xs
 
--- the replies of a quorum's members are heard in order, and decide
+-- the replies of as many members as are needed, which may count, are heard in order, and decide
 pub replies_pass : (stage : Stage) (group : Group) (f : Seated → Reply) (xs : List Seated) (s : Scene) (rest : List Packet)
-    → s.queue ≡ told stage s.c.call f xs ++ rest → s.c.call.phase < 2 ^ 32 - 1 → asked_group s.c ≡ group → Each (λ x. seat_in group.members x.brick.0 ≡ Some x.seat) xs
+    → s.queue ≡ told stage s.c.call f xs ++ rest → s.c.call.phase < 2 ^ 32 - 1 → Each (λ x. may_count s.c x.brick.0 ≡ true) xs → asked_group s.c ≡ group
+    → Each (λ x. seat_in group.members x.brick.0 ≡ Some x.seat) xs
     → Each (λ x. answers_phase stage.setting.layout.block s.c.stamp x.seat s.c.phase (f x) ≡ true) xs → Each (λ x. view_told (f x) ≡ None) xs
     → AreNew f s.c.counted xs
-    → 1 ≤ length xs → length s.c.counted + length xs ≡ quorum_of group
+    → 1 ≤ length xs → length s.c.counted + length xs ≡ needed s.c
     → Carries stage (record s { known = known_through (told stage s.c.call f xs) s.known; queue = rest })
     (decides stage s.c (known_through (told stage s.c.call f xs) s.known) (s.c.counted ++ map (counted_of f) xs))
     → Closes stage s
-replies_pass stage group f [] s rest is early asks seated answers plain new some many then = absurd (omega arith)
-replies_pass stage group f (x ∷ []) s rest is early asks seated answers plain new some many then =
-    let quorum : length (s.c.counted ++ (counted_of f x ∷ [])) ≡ quorum_of (asked_group s.c)
-    = length_more s.c.counted (counted_of f x) ∙ many ∙ ap (λ (g : Group). quorum_of g) (sym asks) in
+replies_pass stage group f [] s rest is early may asks seated answers plain new some many then = absurd (omega arith)
+replies_pass stage group f (x ∷ []) s rest is early may asks seated answers plain new some many then =
+    let full : length (s.c.counted ++ (counted_of f x ∷ [])) ≡ needed s.c = length_more s.c.counted (counted_of f x) ∙ many in
     hears stage s x.brick s.c.call (f x) rest (record { queue = is; seq = (refl, refl); plain = plain.0 })
     (carries_outcome stage (heard s (f x) rest) (decision stage s x.brick s.c.call (f x))
     (subst (λ (z : Next). Carries stage (heard s (f x) rest) z)
-    (sym (counts_so stage group s f x early asks seated.0 answers.0 new.0
+    (sym (counts_so stage group s f x early may.0 asks seated.0 answers.0 new.0
     ∙ decides_at stage.setting.layout.block stage.setting.code (fresh_at stage s.c (known_after s.known (f x)))
-    (record s.c { counted = s.c.counted ++ (counted_of f x ∷ []) }) quorum)) then))
-replies_pass stage group f (x ∷ (y ∷ ys)) s rest is early asks seated answers plain new some many then =
+    (record s.c { counted = s.c.counted ++ (counted_of f x ∷ []) }) full)) then))
+replies_pass stage group f (x ∷ (y ∷ ys)) s rest is early may asks seated answers plain new some many then =
     let now : Coordinator = record s.c { counted = s.c.counted ++ (counted_of f x ∷ []) } in
     let long : length (s.c.counted ++ (counted_of f x ∷ [])) ≡ length s.c.counted + 1 = length_more s.c.counted (counted_of f x) in
-    let same : quorum_of (asked_group s.c) ≡ quorum_of group = ap (λ (g : Group). quorum_of g) asks in
-    let few : length now.counted < quorum_of (asked_group now) = omega (arith, long, many, same) in
+    let few : length now.counted < needed s.c = omega (arith, long, many) in
     hears stage s x.brick s.c.call (f x) (told stage s.c.call f (y ∷ ys) ++ rest) (record { queue = is; seq = (refl, refl); plain = plain.0 })
     (subst (λ (z : Next). Outcome stage (heard s (f x) (told stage s.c.call f (y ∷ ys) ++ rest)) z)
-    (sym (counts_so stage group s f x early asks seated.0 answers.0 new.0
+    (sym (counts_so stage group s f x early may.0 asks seated.0 answers.0 new.0
     ∙ waits_for stage.setting.layout.block stage.setting.code (fresh_at stage s.c (known_after s.known (f x))) now few)) (
-      record { group = refl; prior = refl; boot = refl; seq = refl; of_group = refl; view = refl; stripe = refl },
-      replies_pass stage group f (y ∷ ys) (waits (heard s (f x) (told stage s.c.call f (y ∷ ys) ++ rest)) now) rest refl early asks seated.1 answers.1 plain.1 new.1
+      record { group = refl; prior = refl; only = refl; boot = refl; seq = refl; of_group = refl; view = refl; stripe = refl },
+      replies_pass stage group f (y ∷ ys) (waits (heard s (f x) (told stage s.c.call f (y ∷ ys) ++ rest)) now) rest refl early may.1 asks seated.1 answers.1 plain.1 new.1
           (omega arith) (omega (arith, long, many))
           (carries_counted stage
           (record s { known = known_through (told stage s.c.call f (x ∷ (y ∷ ys))) s.known; queue = rest })

@@ -1,6 +1,6 @@
 -- A recovery alone: it finds a version of which it has enough blocks, below ever lower bounds, and stores it.
 use Rattle.fab_base.specs.declared.identities.ViewNo.{ViewNo}
-use Rattle.std.proofs.Common.{Bool, List, None, Option, Some, [], ap, arith, cond, false, inl, inr, length, map, refl, set, subst, suc, sym, true, zero, ℕ, ⊎_elim, ◌+◌, ◌<◌, ◌∙◌, ◌∷◌, ◌≡◌, ◌≤◌, ◌⊎◌}
+use Rattle.std.proofs.Common.{Bool, List, None, Option, Some, [], ap, arith, cond, false, inl, inr, length, map, refl, set, subst, suc, sym, true, zero, ℕ, ⊎_elim, ◌+◌, ◌<◌, ◌∙◌, ◌∷◌, ◌≡◌, ◌≤◌, ◌⊎◌, length-append, ◌++◌}
 use Rattle.std.proofs.lemmas.Bool.{and_from, cases_Bool, cond_both, eq-eqb, ltb-true, false≢true}
 use Rattle.std.specs.Prelude.{filter, nat_eq, nat_lt, slice_get, ◌-◌, ◌^◌, not, ◌&&◌}
 use Rattle.calm_laws.proofs.Asking.{Holds, each_then, told_all}
@@ -9,7 +9,7 @@ use Rattle.calm_laws.proofs.Decided.{descend_decides, none_stops, none_refuses}
 use Rattle.calm_laws.proofs.Finds.{Has, IsMost, filter_more, finding, greatest_has, greatest_most, has_each, pieces_length, some_of, total_below, total_falls}
 use Rattle.protocol_laws.proofs.Logs.{IsWithin, LogAscends, newest_among}
 use Rattle.calm_laws.proofs.Ordering.{TameWith, descends_ask, looking, orders_keep, orders_reply, read_fits, reads_so, told_below, told_facts, told_then}
-use Rattle.calm_laws.proofs.PhaseRuns.{Cast, IsOpen, known_then, next_open, open_run}
+use Rattle.calm_laws.proofs.PhaseRuns.{Cast, IsOpen, known_then, next_open, open_run_first, of_first}
 use Rattle.calm_laws.proofs.Scenes.{Closes, Each, Part, Scene, Seated, Stage, made, sent, IsInView}
 use Rattle.calm_laws.proofs.StorePhases.{AreTaking, store_phase}
 use Rattle.fab_base.proofs.StampOrder.{stamp_neither_below, stamp_not_below_trans, stamp_same_refl}
@@ -21,12 +21,13 @@ use Rattle.messages.specs.declared.requests.Look.TheVariants.{Below}
 use Rattle.messages.specs.declared.requests.Version.{Version}
 use Rattle.messages.specs.declared.requests.Want.{Want}
 use Rattle.protocol.specs.Calms.{early}
-use Rattle.protocol.specs.Coordinators.{Coordinator, Makes, Next, Sends, answers_phase, finds, greatest_found, in_phase, may_be_found, pieces_at, read_back, restoring, lower_phase, looks_back, Waits, forgetting}
+use Rattle.protocol.specs.Coordinators.{Coordinator, Makes, Next, Sends, answers_phase, finds, greatest_found, in_phase, may_be_found, pieces_at, read_back, restoring, lower_phase, looks_back, Waits, forgetting, asks_each}
 use Rattle.protocol.specs.Replicas.{below, is_held, is_wanted, newest_of, told_version}
 use Rattle.protocol.specs.declared.phases.Counted.{Counted}
 use Rattle.protocol.specs.declared.phases.Phase.{Phase}
 use Rattle.protocol.specs.declared.phases.Phase.TheVariants.{Descends, LooksBack}
 use Rattle.reg_model.specs.Registers.{after_op}
+use Rattle.std.proofs.lemmas.List.Elements.{filter-append}
 
 -- the scene once the quorum has replied
 abbrev pub after_replies : Stage → Scene → ℕ → (ℕ → Part) → List Seated → (ℕ → Part) → Scene
@@ -48,9 +49,9 @@ pub record MayLookBack (stage : Stage) (cast : Cast stage) (logs : ℕ → List 
       → Holds (TameWith stage s.c.stamp logs) parts cast.xs → stamp_same s.c.stamp first_stamp ≡ false → s.c.call.phase + phases + 3 ≤ 2 ^ 32 - 1
       → Closes stage (sent stage (after_replies stage s known parts others before) (in_phase (having s.c counted) (LooksBack None)))
 
--- what a recovery comes to at the latest: the floor, or a look back
+-- what a recovery comes to at the latest: the floor of the first quorum, or a look back
 abbrev pub Ground : (stage : Stage) → Cast stage → (ℕ → List Version) → ℕ → Type 0
-Ground stage cast logs phases = IsFloor stage.group.m cast.xs logs ⊎ MayLookBack stage cast logs phases
+Ground stage cast logs phases = IsFloor stage.group.m cast.first logs ⊎ MayLookBack stage cast logs phases
 
 -- a bound is above the floor, if that is what the recovery comes to
 abbrev pub IsAbove : (stage : Stage) (cast : Cast stage) (logs : ℕ → List Version) (phases : ℕ) → Ground stage cast logs phases → Stamp → Type 0
@@ -122,7 +123,7 @@ module _ (logs : ℕ → List Version) (xs : List Seated) (bound : Stamp) (want 
   counted = map (counted_of (finding g)) xs
 
   -- what is found is below the bound, and held
-  found_lower : (v : Stamp) → greatest_found counted ≡ Some v → (stamp_below v bound ≡ true) × Has (λ x. is_held v (logs x.brick.0) ≡ true) xs
+  pub found_lower : (v : Stamp) → greatest_found counted ≡ Some v → (stamp_below v bound ≡ true) × Has (λ x. is_held v (logs x.brick.0) ≡ true) xs
   found_lower v is = go xs (greatest_has g v xs is)
     where
       go : (ys : List Seated) → Has (λ x. (version : Version) × (g x ≡ Some version) × (version.stamp ≡ v)) ys
@@ -237,10 +238,53 @@ module _ (logs : ℕ → List Version) (xs : List Seated) (bound : Stamp) (want 
         absurd (omega (arith, enough, as_many, few)))
         (cases_Bool (stamp_below floor v))
 
+-- some of the first of these are some of these
+has_front : {A : Type 0} (P : A → Type 0) (xs ys : List A) → Has P xs → Has P (xs ++ ys)
+has_front P [] ys has = absurd has
+has_front P (x ∷ xs) ys (inl here) = inl here
+has_front P (x ∷ xs) ys (inr there) = inr (has_front P xs ys there)
+
+-- enough of all of them hold the floor of the first quorum
+pub all_holders : (stage : Stage) (cast : Cast stage) (logs : ℕ → List Version) (at : IsFloor stage.group.m cast.first logs)
+    → stage.group.m ≤ length (filter (λ x. is_held at.floor (logs x.brick.0)) cast.xs)
+all_holders stage cast logs at =
+    subst (λ (l : List Seated). stage.group.m ≤ length (filter (λ x. is_held at.floor (logs x.brick.0)) l)) cast.split
+    (let long : length (filter (λ x. is_held at.floor (logs x.brick.0)) (cast.first ++ cast.more))
+    ≡ length (filter (λ x. is_held at.floor (logs x.brick.0)) cast.first) + length (filter (λ x. is_held at.floor (logs x.brick.0)) cast.more)
+    = ap (λ (l : List Seated). length l) (filter-append (λ x. is_held at.floor (logs x.brick.0)) cast.first cast.more)
+    ∙ length-append (filter (λ x. is_held at.floor (logs x.brick.0)) cast.first) (filter (λ x. is_held at.floor (logs x.brick.0)) cast.more) in
+    let enough = at.holders in
+    omega (arith, long, enough))
+
+-- These are all that count in a phase for each, or the first quorum.
 module _ (stage : Stage) (cast : Cast stage) (logs : ℕ → List Version) (lore : Lore stage cast logs) (s : Scene) (in_view : IsInView stage s.c)
-    (bound : Stamp) (want : Want) (above : IsAbove stage cast logs lore.phases lore.ground bound) where
+    (bound : Stamp) (want : Want) (above : IsAbove stage cast logs lore.phases lore.ground bound) (ys : List Seated)
+    (which : (ys ≡ cast.xs) ⊎ (ys ≡ cast.first)) where
   abbrev reads : List Counted
-  reads = map (counted_of (finding (told_below logs bound want))) cast.xs
+  reads = map (counted_of (finding (told_below logs bound want))) ys
+
+  -- their logs ascend, enough of them hold the floor, and each of them is one of all
+  its_ascends : Each (λ x. LogAscends (logs x.brick.0)) ys
+  its_ascends = ⊎_elim
+      (λ (all : ys ≡ cast.xs). subst (λ (l : List Seated). Each (λ x. LogAscends (logs x.brick.0)) l) (sym all) lore.ascends)
+      (λ (first : ys ≡ cast.first).
+      subst (λ (l : List Seated). Each (λ x. LogAscends (logs x.brick.0)) l) (sym first) (of_first stage cast (λ x. LogAscends (logs x.brick.0)) lore.ascends))
+      which
+
+  its_holders : (at : IsFloor stage.group.m cast.first logs) → stage.group.m ≤ length (filter (λ x. is_held at.floor (logs x.brick.0)) ys)
+  its_holders at = ⊎_elim
+      (λ (all : ys ≡ cast.xs).
+      subst (λ (l : List Seated). stage.group.m ≤ length (filter (λ x. is_held at.floor (logs x.brick.0)) l)) (sym all) (all_holders stage cast logs at))
+      (λ (first : ys ≡ cast.first).
+      subst (λ (l : List Seated). stage.group.m ≤ length (filter (λ x. is_held at.floor (logs x.brick.0)) l)) (sym first) at.holders)
+      which
+
+  its_some : (P : Seated → Type 0) → Has P ys → Has P cast.xs
+  its_some P has = ⊎_elim
+      (λ (all : ys ≡ cast.xs). subst (λ (l : List Seated). Has P l) all has)
+      (λ (first : ys ≡ cast.first).
+      subst (λ (l : List Seated). Has P l) cast.split (has_front P cast.first cast.more (subst (λ (l : List Seated). Has P l) first has)))
+      which
 
   -- where nothing is found, the operation looks back
   none_goes : (ground : Ground stage cast logs lore.phases) → IsAbove stage cast logs lore.phases ground bound → greatest_found reads ≡ None
@@ -249,20 +293,20 @@ module _ (stage : Stage) (cast : Cast stage) (logs : ℕ → List Version) (lore
       → Carries stage (after_replies stage s known parts others before)
       (read_back stage.setting.layout.block stage.setting.code (having s.c reads) None)
   none_goes (inl at) over none others before parts known tame later within =
-      absurd (found_some logs cast.xs bound want lore.ascends stage.group.m lore.some_block at.floor at.holders over none)
+      absurd (found_some logs ys bound want its_ascends stage.group.m lore.some_block at.floor (its_holders at) over none)
   none_goes (inr back) over none others before parts known tame later within =
       subst (λ (b : Bool). Carries stage (after_replies stage s known parts others before)
       (cond b (Sends (in_phase (having s.c reads) (LooksBack None))) (Waits (forgetting (having s.c reads)))))
       (sym (ap (λ (t : ℕ). nat_lt 1 t && not (looks_back s.c.phase)) (ap (λ (v : ViewNo). v.0) in_view.of.view)
       ∙ ap (λ (b : Bool). nat_lt 1 stage.call.view.0 && not b) in_view.ahead ∙ ap (λ (b : Bool). b && true) back.later)) (
-        record { group = refl; prior = refl; boot = refl; seq = refl; of_group = refl; view = refl; stripe = refl },
+        record { group = refl; prior = refl; only = refl; boot = refl; seq = refl; of_group = refl; view = refl; stripe = refl },
         back.closes s others before parts known reads in_view tame later within,
       )
 
   -- where too few tell what is found, that is above the floor
   still_above : (ground : Ground stage cast logs lore.phases) → IsAbove stage cast logs lore.phases ground bound → (v : Stamp) → greatest_found reads ≡ Some v
       → length (pieces_at v reads) < stage.group.m → IsAbove stage cast logs lore.phases ground v
-  still_above (inl at) over v is few = found_over logs cast.xs bound want lore.ascends stage.group.m lore.some_block at.floor at.holders over v is few
+  still_above (inl at) over v is few = found_over logs ys bound want its_ascends stage.group.m lore.some_block at.floor (its_holders at) over v is few
   still_above (inr back) over v is few = tt
 
   -- The version that is read back is stored; or a lower bound closes.
@@ -289,10 +333,14 @@ module _ (stage : Stage) (cast : Cast stage) (logs : ℕ → List Version) (lore
           (λ few.
           let same : s.c.group.m ≡ stage.group.m = ap (λ (y : Group). y.m) in_view.of.group in
           let less : length (pieces_at v reads) < s.c.group.m = ltb-true (length (pieces_at v reads)) s.c.group.m few in
-          let over = still_above lore.ground above v is (omega (arith, less, same)) in
-          (record { group = refl; prior = refl; boot = refl; seq = refl; of_group = refl; view = refl; stripe = refl }, lower v over (found_fewer logs cast.xs bound want v is)))
+          let over = still_above lore.ground above v is (omega (arith, less, same)) in (
+            record { group = refl; prior = refl; only = refl; boot = refl; seq = refl; of_group = refl; view = refl; stripe = refl },
+            lower v over
+                (let found = found_lower logs ys bound want v is in
+                total_falls logs v bound cast.xs found.0 (its_some (λ x. is_held v (logs x.brick.0) ≡ true) found.1)),
+          ))
           (λ enough. (
-            record { group = refl; prior = refl; boot = refl; seq = refl; of_group = refl; view = refl; stripe = refl },
+            record { group = refl; prior = refl; only = refl; boot = refl; seq = refl; of_group = refl; view = refl; stripe = refl },
             store_phase stage cast
                 (made stage (after_replies stage s known parts others before)
                 (restoring stage.setting.layout.block (having s.c reads) v (stage.setting.code.decode s.c.group.m (pieces_at v reads))))
@@ -303,7 +351,7 @@ module _ (stage : Stage) (cast : Cast stage) (logs : ℕ → List Version) (lore
                 (restoring stage.setting.layout.block (having s.c reads) v (stage.setting.code.decode s.c.group.m (pieces_at v reads))))
                 in_view
                 (record {
-                  same = record { group = refl; prior = refl; boot = refl; seq = refl; of_group = refl; view = refl; stripe = refl };
+                  same = record { group = refl; prior = refl; only = refl; boot = refl; seq = refl; of_group = refl; view = refl; stripe = refl };
                   ahead = refl;
                   own = refl;
                   later = refl;
@@ -331,28 +379,31 @@ down_step stage cast logs lore n s bound set phase above early lower =
     let asks = descends_ask stage s.c bound phase in
     let so = reads_so stage s.c (Below bound) Want.All asks in
     let found : Seated → Option Version = told_below logs bound Want.All in
-    let all : List Counted = map (counted_of (finding found)) cast.xs in
-    open_run stage cast s set.open_is (TameWith stage s.c.stamp logs) (finding found) (omega (arith, early))
+    let all : List Counted = map (counted_of (finding found)) cast.first in
+    let others : List Seated = cast.more ++ set.open_is.others in
+    open_run_first stage cast s set.open_is (ap (λ (p : Phase). asks_each p) phase) (TameWith stage s.c.stamp logs) (finding found) (omega (arith, early))
     (λ x seated. read_fits stage s.c s.c.stamp (Below bound) Want.All x (asks x))
     (orders_keep stage s.c (looking (Below bound) Want.All) logs set.later so)
     (orders_reply stage s.c (looking (Below bound) Want.All) logs so) set.tame
     (each_then (λ (x : Seated). may_be_found stage.setting.layout.block bound (found x) ≡ true)
-    (λ (x : Seated). answers_phase stage.setting.layout.block s.c.stamp x.seat s.c.phase (finding found x) ≡ true) cast.xs
+    (λ (x : Seated). answers_phase stage.setting.layout.block s.c.stamp x.seat s.c.phase (finding found x) ≡ true) cast.first
     (λ x fits. ap (λ (p : Phase). answers_phase stage.setting.layout.block s.c.stamp x.seat p (finding found x)) phase ∙ fits)
-    (told_fits stage.setting.layout.block logs cast.xs bound Want.All lore.blocks))
+    (told_fits stage.setting.layout.block logs cast.first bound Want.All
+    (of_first stage cast (λ x. (k : ℕ) (version : Version) → slice_get (logs x.brick.0) k ≡ Some version → length version.block ≡ stage.setting.layout.block)
+    lore.blocks)))
     (λ before parts tame.
-    let known : ℕ = known_then stage s (finding found) cast.xs set.open_is.stale in
-    subst (λ (z : Next). Carries stage (after_replies stage s known parts set.open_is.others before) z)
+    let known : ℕ = known_then stage s (finding found) cast.first set.open_is.stale in
+    subst (λ (z : Next). Carries stage (after_replies stage s known parts others before) z)
     (sym (descend_decides stage.setting.layout.block stage.setting.code (fresh_at stage s.c known) (having s.c all)
-    (none_stops (finding found) (record { unmoved = λ x. refl; undropped = λ x. refl; unfull = λ x. refl }) cast.xs) bound phase (none_refuses (finding found) (λ x. refl) cast.xs)))
-    (read_back_goes stage cast logs lore s set.open_is.in_view bound Want.All above set.open_is.others before parts known tame set.later (omega (arith, early))
+    (none_stops (finding found) (record { unmoved = λ x. refl; undropped = λ x. refl; unfull = λ x. refl }) cast.first) bound phase (none_refuses (finding found) (λ x. refl) cast.first)))
+    (read_back_goes stage cast logs lore s set.open_is.in_view bound Want.All above cast.first (inr refl) others before parts known tame set.later (omega (arith, early))
     (λ v over falls.
-    lower (sent stage (after_replies stage s known parts set.open_is.others before) (in_phase (having s.c all) (Descends v))) v
+    lower (sent stage (after_replies stage s known parts others before) (in_phase (having s.c all) (Descends v))) v
     (record {
-      open_is = next_open stage cast s.c (in_phase (having s.c all) (Descends v)) set.open_is.others before
-          (sent stage (after_replies stage s known parts set.open_is.others before) (in_phase (having s.c all) (Descends v))) set.open_is.in_view
+      open_is = next_open stage cast s.c (in_phase (having s.c all) (Descends v)) others before
+          (sent stage (after_replies stage s known parts others before) (in_phase (having s.c all) (Descends v))) set.open_is.in_view
           (record {
-            same = record { group = refl; prior = refl; boot = refl; seq = refl; of_group = refl; view = refl; stripe = refl };
+            same = record { group = refl; prior = refl; only = refl; boot = refl; seq = refl; of_group = refl; view = refl; stripe = refl };
             ahead = refl;
             own = refl;
             later = refl;

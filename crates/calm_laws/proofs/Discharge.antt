@@ -45,20 +45,21 @@ use Rattle.protocol_laws.proofs.Logs.{IsUnder, held_stands, newest_stands}
 use Rattle.protocol_laws.proofs.Said.{Stamping, Said, Stands, WasCollected, IsMadeOrFirst, IsStamped, IsBottom}
 use Rattle.protocol_laws.proofs.SaidAlways.{always_said}
 use Rattle.protocol_laws.proofs.OwnStamps.{not_made_yet}
-use Rattle.calm_laws.specs.Laws.{EncodesBlocks, CalmOperationsEnd, HasStripe, most_records}
+use Rattle.calm_laws.specs.Laws.{EncodesBlocks, CalmOperationsEnd, HasStripe, most_records, CountsThese}
 use Rattle.calm_laws.specs.Logs.{is_stripe}
 use Rattle.protocol.specs.Happenings.{is_marked}
 use Rattle.calm_laws.proofs.Known.{Known, KnownCall, KnownMessages, KnownLogs, repeated, KeepsFrom, StandsIn, KnownFloor, KnownBack}
 use Rattle.calm_laws.proofs.Fresh.{IsFresh, IsNumbered, IsOpenAt, opens_at}
 use Rattle.calm_laws.proofs.FreshRuns.{always_fresh}
 use Rattle.calm_laws.proofs.Lives.{CountsLives, always_count, log_within}
+use Rattle.protocol_laws.proofs.BooksKept.{counts_all}
 
 module _ (setting : Setting) (sound : IsSound setting) (encodes : EncodesBlocks setting) (small : setting.layout.records ≤ most_records) (w : World)
     (stamps : Stamping) (books : Books setting w) (said : Said setting (views_in setting.layout w.packets) w stamps) (n : ℕ) (o : Operation) (c : Coordinator) (is : IsOperation w n o)
-    (has_stripe : HasStripe setting o)
+    (bricks : List BrickId) (has_stripe : HasStripe setting o c bricks)
     (at : IsOpenAt w n c) (in_views : StampViews setting.layout w) (follows : Follows setting.layout (views_in setting.layout w.packets) w)
     (fresh : IsFresh setting w n c) (numbered : IsNumbered w) (counts : (i : ℕ) → CountsLives setting.layout (w.nodes i))
-    (bricks : List BrickId) (synced : IsSaidSynced w c.call.group.0 c.stamp.view.0 ⊎ ((may_ask_prior w c bricks ≡ true) × IsSaidSynced w c.call.group.0 (c.stamp.view.0 - 1))) where
+    (synced : IsSaidSynced w c.call.group.0 c.stamp.view.0 ⊎ ((may_ask_prior w c bricks ≡ true) × IsSaidSynced w c.call.group.0 (c.stamp.view.0 - 1))) where
   abbrev views : Views
   views = views_in setting.layout w.packets
 
@@ -134,8 +135,16 @@ module _ (setting : Setting) (sound : IsSound setting) (encodes : EncodesBlocks 
   asked_within : o.ask.stripe.0 < its_books.group.stripes
   asked_within = ⊎_elim
       (λ (marked : is_marked o ≡ true). its_books.stripe (ltb-true 0 o.mark marked))
-      (λ (there : is_stripe (group_of setting.layout o.ask.group.0) o.ask.stripe.0 ≡ true).
-      ltb-true o.ask.stripe.0 its_books.group.stripes (ap (λ (z : Option Group). is_stripe z o.ask.stripe.0) (sym its_books.group_is) ∙ there))
+      (λ (there : (is_stripe (group_of setting.layout o.ask.group.0) o.ask.stripe.0 ≡ true) × CountsThese c bricks).
+      ltb-true o.ask.stripe.0 its_books.group.stripes (ap (λ (z : Option Group). is_stripe z o.ask.stripe.0) (sym its_books.group_is) ∙ there.0))
+      has_stripe
+
+  -- it counts every member, or these bricks
+  counts_every : CountsThese c bricks
+  counts_every = ⊎_elim
+      (λ (marked : is_marked o ≡ true).
+      inl (counts_all setting w books o.brick.0 o.seq c its (subst (λ (z : Operation). 1 ≤ z.mark) (sym the_operation) (ltb-true 0 o.mark marked))))
+      (λ (every : (is_stripe (group_of setting.layout o.ask.group.0) o.ask.stripe.0 ≡ true) × CountsThese c bricks). every.1)
       has_stripe
 
   known_call : KnownCall setting w n o c
@@ -309,6 +318,7 @@ module _ (setting : Setting) (sound : IsSound setting) (encodes : EncodesBlocks 
   known : Known setting w n o c bricks
   known = record {
     call = known_call;
+    counts = counts_every;
     messages = known_messages;
     logs = subst (λ (k : ℕ). KnownLogs setting w g st k c.group) (sym view_number) (logs_in e c.group call_group);
     top_view = λ i.
@@ -411,15 +421,15 @@ said_synced setting events n bricks sound calm from_one = by (nat_lt 1 c.stamp.v
 -- what is known of an operation that may run alone
 pub known_of : (setting : Setting) (events : List Event) (n : ℕ) (bricks : List BrickId) → IsSound setting → EncodesBlocks setting
     → setting.layout.records ≤ most_records → (calm : IsCalm setting (run setting events (first_world setting.layout)) n bricks)
-    → HasStripe setting calm.operation → Known setting (run setting events (first_world setting.layout)) n calm.operation calm.coordinator bricks
+    → HasStripe setting calm.operation calm.coordinator bricks → Known setting (run setting events (first_world setting.layout)) n calm.operation calm.coordinator bricks
 known_of setting events n bricks sound encodes small calm has_stripe =
     let w : World = run setting events (first_world setting.layout) in
     let said = always_said setting (views_in setting.layout w.packets) events sound (every_run_follows setting events sound) in
     let always = always_fresh setting events in
     let at : IsOpenAt w n calm.coordinator = opens_at w n calm.coordinator calm.open_is in
     let fresh : IsFresh setting w n calm.coordinator = always.1 n calm.coordinator calm.open_is calm.untouched in
-    known setting sound encodes small w said.0 (books setting events) said.1 n calm.operation calm.coordinator calm.is has_stripe at (always_views setting events)
-    (every_run_follows setting events sound events [] (sym (append-nil events))) fresh always.0 (always_count setting events) bricks
+    known setting sound encodes small w said.0 (books setting events) said.1 n calm.operation calm.coordinator calm.is bricks has_stripe at (always_views setting events)
+    (every_run_follows setting events sound events [] (sym (append-nil events))) fresh always.0 (always_count setting events)
     (said_synced setting events n bricks sound calm
     (view_from_one setting w said.0 (books setting events) said.1 n calm.operation calm.coordinator calm.is at))
 
@@ -439,9 +449,9 @@ is_of_mark operations mark (suc k) o none is =
     (λ hasnt its. is_of_mark operations mark k o none its) is
 
 -- so its stripe is one of its group's
-pub marked_has_stripe : (setting : Setting) (events : List Event) (mark : ℕ) (o : Operation)
-    → (let w : World = run setting events (first_world setting.layout) in w.operations (operation_marked w mark) ≡ Some o) → HasStripe setting o
-marked_has_stripe setting events mark o is = inl (is_of_mark w.operations mark w.begun o (at (w.operations 0) refl) is)
+pub marked_has_stripe : (setting : Setting) (events : List Event) (mark : ℕ) (o : Operation) (c : Coordinator) (bricks : List BrickId)
+    → (let w : World = run setting events (first_world setting.layout) in w.operations (operation_marked w mark) ≡ Some o) → HasStripe setting o c bricks
+marked_has_stripe setting events mark o c bricks is = inl (is_of_mark w.operations mark w.begun o (at (w.operations 0) refl) is)
   where
     w : World
     w = run setting events (first_world setting.layout)

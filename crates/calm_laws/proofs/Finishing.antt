@@ -22,7 +22,7 @@ use Rattle.protocol.specs.Calms.{Next as Goes_on, Stuck}
 pub plays : (stage : Stage) (n : ℕ) (s : Scene) → Closes stage s → (w : World) → Shows stage n w s → Finishes stage n s.c w
 plays stage n _ (Asks s x rest queue seated fits in_view closes) w shows =
     finishes_by stage n w s s.c (asking stage s.c x) rest shows
-    (record { group = refl; prior = refl; boot = refl; seq = refl; of_group = refl; view = refl; stripe = refl }) queue (shows.members x.brick seated.1).up
+    (record { group = refl; prior = refl; only = refl; boot = refl; seq = refl; of_group = refl; view = refl; stripe = refl }) queue (shows.members x.brick seated.1).up
     (reacted x.brick stage.me (w.nodes x.brick.0) s.c.call (reaction stage s.c (s.parts x.brick.0) x))
     (asked_step stage n w s x shows seated fits in_view)
     (λ head.
@@ -36,7 +36,7 @@ plays stage n _ (Asks s x rest queue seated fits in_view closes) w shows =
     (asked_move stage n w s x rest (1 + head.place) shows seated in_view)))
 plays stage n _ (AsksBack s x rest bound queue seated back may later closes) w shows =
     finishes_by stage n w s s.c (asking stage s.c x) rest shows
-    (record { group = refl; prior = refl; boot = refl; seq = refl; of_group = refl; view = refl; stripe = refl }) queue (shows.members x.brick seated.1).up
+    (record { group = refl; prior = refl; only = refl; boot = refl; seq = refl; of_group = refl; view = refl; stripe = refl }) queue (shows.members x.brick seated.1).up
     (sending (w.nodes x.brick.0) (reply_packets x.brick stage.me s.c.call (Some (Old (found_back stage bound x)))))
     (back_step stage n w s x bound shows seated back may later)
     (λ head.

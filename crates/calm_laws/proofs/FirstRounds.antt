@@ -158,7 +158,7 @@ module _ (stage : Stage) (cast : Cast stage) (logs : ℕ → List Version) (s : 
       accepted
       (λ before parts r mixed is.
       subst (λ (z : Next). Carries stage (after_replies stage s known parts first.open_is.others before) z) (sym (tried r)) (
-        record { group = refl; prior = refl; boot = refl; seq = refl; of_group = refl; view = refl; stripe = refl },
+        record { group = refl; prior = refl; only = refl; boot = refl; seq = refl; of_group = refl; view = refl; stripe = refl },
         second before parts (second_set parts cast.xs mixed first.starts first.ascends
             (through_told stage s.c.call f cast.xs (known_through first.open_is.stale s.known))),
       ))
@@ -183,7 +183,7 @@ module _ (stage : Stage) (cast : Cast stage) (logs : ℕ → List Version) (s : 
                 (sent stage (after_replies stage s known parts first.open_is.others before) (reordering (having s.c counted) (second_stamp stage s.c known)))
                 first.open_is.in_view
                 (record {
-                  same = record { group = refl; prior = refl; boot = refl; seq = refl; of_group = refl; view = refl; stripe = refl };
+                  same = record { group = refl; prior = refl; only = refl; boot = refl; seq = refl; of_group = refl; view = refl; stripe = refl };
                   ahead = first.open_is.in_view.ahead;
                   own = view_ahead s.c.stamp s.c.phase first.open_is.in_view.ahead;
                   later = refl;

@@ -11,7 +11,7 @@ use Rattle.messages.specs.declared.packets.Message.{Message}
 use Rattle.messages.specs.declared.packets.Packet.{Packet}
 use Rattle.protocol.specs.Settings.{Setting}
 use Rattle.protocol.specs.Coordinators.{Coordinator, request_of, asked_group}
-use Rattle.protocol.specs.Nodes.{Node, put, coordinator_in, phase_packets}
+use Rattle.protocol.specs.Nodes.{Node, put, phase_packets}
 use Rattle.protocol.specs.Jobs.{Job}
 use Rattle.fab_base.specs.declared.member_lists.View.{View}
 use Rattle.protocol.specs.Worlds.{World, Operation, is_brick}
@@ -23,15 +23,17 @@ use Rattle.calm_laws.proofs.StepsOf.{members_are_of}
 use Rattle.view_laws.proofs.Calling.{Rises}
 use Rattle.protocol.proofs.Packets.{OfEach, each_member}
 use Rattle.calm_laws.proofs.Fresh.{packets_of, IsFresh, IsMade, IsMadeBy, IsNumbered, AreFresh, AreMade, made_put, filter_none, filter_every, packets_added, IsOpenAt, opens_at, opens_in, fresh_kept}
+use Rattle.protocol_laws.proofs.BooksBegins.{coordinator_of}
+use Rattle.protocol.specs.Scrubs.{Scrub}
 
 -- the coordinator of an operation that a brick begins in a view, which is its next call
-abbrev pub begun_coordinator : Group → View → BrickId → ℕ → Ask → Node → Coordinator
-begun_coordinator group view brick now ask node = coordinator_in group view brick now node ask
+abbrev pub begun_coordinator : Group → View → Option (List BrickId) → BrickId → ℕ → Ask → Node → Coordinator
+begun_coordinator group view only brick now ask node = coordinator_of group view only brick now node ask
 
 -- the brick then
-abbrev pub begun_node : ℕ → Option Job → Coordinator → Node → Node
-begun_node busy job c node =
-    record node { seq = node.seq + 1; known = c.stamp.time; busy = busy; calls = put node.calls (node.seq + 1) (Some c); job = job }
+abbrev pub begun_node : ℕ → Option Job → Option Scrub → Coordinator → Node → Node
+begun_node busy job scrub c node =
+    record node { seq = node.seq + 1; known = c.stamp.time; busy = busy; calls = put node.calls (node.seq + 1) (Some c); job = job; scrub = scrub }
 
 -- the operation, as the world has it
 abbrev pub begun_operation : Operation → BrickId → Node → Operation
@@ -41,12 +43,12 @@ begun_operation o brick node = record o { brick = brick; boot = node.boot; seq =
 abbrev pub next_numbers : (ℕ → ℕ → ℕ → ℕ) → ℕ → Node → ℕ → ℕ → ℕ → ℕ → ℕ
 next_numbers numbers i node n = put numbers i (put (numbers i) node.boot (put (numbers i node.boot) (node.seq + 1) n))
 
--- A world in which a brick, which was this node, began an operation: so many operations it has open then, and this synchronisation. What else is known of the
+-- A world in which a brick, which was this node, began an operation: so many operations it has open then, and this synchronisation and scrub. What else is known of the
 -- operation is what is known of this one.
-abbrev pub world_begun : Setting → World → BrickId → Node → Coordinator → ℕ → Option Job → Operation → World
-world_begun setting w brick node c busy job o =
+abbrev pub world_begun : Setting → World → BrickId → Node → Coordinator → ℕ → Option Job → Option Scrub → Operation → World
+world_begun setting w brick node c busy job scrub o =
     record w {
-      nodes = put w.nodes brick.0 (begun_node busy job c node);
+      nodes = put w.nodes brick.0 (begun_node busy job scrub c node);
       packets = w.packets ++ phase_packets setting brick c;
       begun = w.begun + 1;
       operations = put w.operations (w.begun + 1) (Some (begun_operation o brick node));
@@ -55,19 +57,19 @@ world_begun setting w brick node c busy job o =
 
 module _ (setting : Setting) (w : World) (all_made : AreMade w) (numbered : IsNumbered w) (fresh : AreFresh setting w) where
   -- a brick begins an operation
-  module _ (brick : BrickId) (there : is_brick setting.layout brick ≡ true) (group : Group) (view : View) (now : ℕ) (ask : Ask) (busy : ℕ) (job : Option Job)
-      (o : Operation) where
+  module _ (brick : BrickId) (there : is_brick setting.layout brick ≡ true) (group : Group) (view : View) (only : Option (List BrickId)) (now : ℕ) (ask : Ask) (busy : ℕ)
+      (job : Option Job) (scrub : Option Scrub) (o : Operation) where
     abbrev began_coordinator : Coordinator
-    began_coordinator = begun_coordinator group view brick now ask (w.nodes brick.0)
+    began_coordinator = begun_coordinator group view only brick now ask (w.nodes brick.0)
 
     abbrev began_node : Node
-    began_node = begun_node busy job began_coordinator (w.nodes brick.0)
+    began_node = begun_node busy job scrub began_coordinator (w.nodes brick.0)
 
     abbrev began_packets : List Packet
     began_packets = phase_packets setting brick began_coordinator
 
     abbrev begun_world : World
-    begun_world = world_begun setting w brick (w.nodes brick.0) began_coordinator busy job o
+    begun_world = world_begun setting w brick (w.nodes brick.0) began_coordinator busy job scrub o
 
     -- the numbers of the calls that were made stay
     old_number : (j b k : ℕ) → (j ≡ brick.0 → b ≡ (w.nodes brick.0).boot → k ≤ (w.nodes brick.0).seq) → begun_world.numbers j b k ≡ w.numbers j b k

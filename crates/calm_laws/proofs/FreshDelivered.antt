@@ -15,14 +15,14 @@ use Rattle.protocol.specs.Settings.{Setting}
 use Rattle.protocol.specs.Coordinators.{Coordinator}
 use Rattle.protocol.specs.Proposals.{Proposal}
 use Rattle.protocol.specs.declared.phases.Counted.{Counted}
-use Rattle.protocol.specs.Nodes.{Node, NodeStep, put, received, proposed, synced_at, no_step, with_job, then_does, read_closed, read_begun_by, phase_packets}
+use Rattle.protocol.specs.Nodes.{Node, NodeStep, put, received, proposed, synced_at, no_step, with_job, then_does, read_closed, read_begun_by, phase_packets, scrubbed_at, begun_aside, reading_aside}
 use Rattle.protocol.specs.Worlds.{World, Operation, Choices, is_brick, is_up, read_of_call, number_of, world_stepped, packet_of, replies_with, voiced}
 use Rattle.protocol.specs.Calms.{open_call, operation_of, IsUntouched}
 use Rattle.protocol_laws.proofs.Books.{Books, IsOperation}
 use Rattle.protocol_laws.proofs.Proposing.{IsBallot, proposed_each}
 use Rattle.view_laws.proofs.Calling.{OfBallots, IsOfDraft, IsOldDraft, IsNewDraft, StepCalls, Called, called_after, IsBallotOf}
-use Rattle.view_laws.proofs.CallSteps.{Calls, received_calls, proposed_calls, synced_calls}
-use Rattle.view_laws.proofs.SyncReads.{read_call, synced_at_each}
+use Rattle.view_laws.proofs.CallSteps.{Calls, received_calls, proposed_calls, synced_calls, scrubbed_calls}
+use Rattle.view_laws.proofs.SyncReads.{read_call, synced_at_each, scrubbed_at_each}
 use Rattle.protocol.proofs.Packets.{each_none}
 use Rattle.protocol.specs.Jobs.{Job, begun_job, job_ask}
 use Rattle.protocol.specs.declared.tellings.Report.{Report}
@@ -36,6 +36,11 @@ use Rattle.calm_laws.proofs.StepsOf.{StepIsOf, StepGoes, StepReads, IsKeyed, IsK
 use Rattle.calm_laws.proofs.Fresh.{IsFresh, IsMade, IsMadeBy, IsNumbered, AreFresh, IsOpenAt, opens_at, opens_in, put_before, packet_kept, packet_stands, fresh_kept, made_put, next_unnumbered, own_number, AreMade, AreAlike, numbered_alike, fresh_alike}
 use Rattle.calm_laws.proofs.Keys.{SameKeys, reached_stepped, ups_stepped}
 use Rattle.calm_laws.proofs.FreshBegun.{world_begun, began_numbered, began_fresh}
+use Rattle.protocol.specs.Scrubs.{Scrub, scrub_ask}
+use Rattle.protocol_laws.proofs.BooksBegins.{coordinator_of}
+use Rattle.fab_base.specs.declared.member_lists.View.{View}
+use Rattle.fab_base.specs.declared.asks.Ask.{Ask}
+use Rattle.fab_base.specs.declared.identities.StripeNo.{StripeNo}
 
 module _ (setting : Setting) (w : World) (books : Books setting w) (calls : Calls w) (numbered : IsNumbered w) (fresh : AreFresh setting w) where
   -- no operation has a call of boot 0
@@ -252,7 +257,7 @@ module _ (setting : Setting) (w : World) (books : Books setting w) (calls : Call
     abbrev next_begun : Option Stamp → World
     next_begun seen =
         world_begun setting (closed_world seen) me (closed seen).node (next_call seen) (closed seen).node.busy
-        (Some (record job { seq = (closed seen).node.seq + 1 })) (next_operation seen)
+        (Some (record job { seq = (closed seen).node.seq + 1 })) (closed seen).node.scrub (next_operation seen)
 
     both_alike : (seen : Option Stamp) → AreAlike (next_begun seen) (both_world seen)
     both_alike None = record {
@@ -372,7 +377,7 @@ module _ (setting : Setting) (w : World) (books : Books setting w) (calls : Call
       abbrev world_then : Node → World
       world_then node =
           world_begun setting (world_on read_end) packet.to node (read_next node) read_end.node.busy (Some (record reads.job { seq = read_end.node.seq + 1 }))
-          its_operation
+          read_end.node.scrub its_operation
 
       closing_kept : BothKept (world_on read_end)
       closing_kept = of_call read_end reads.closed_is reads.closed_calls
@@ -384,10 +389,10 @@ module _ (setting : Setting) (w : World) (books : Books setting w) (calls : Call
 
       begins_then : BothKept (world_then ((world_on read_end).nodes packet.to.0))
       begins_then = (
-        began_numbered setting (world_on read_end) closing_made closing_kept.0 closing_kept.1 packet.to there reads.group reads.job.view reads.now
-            (job_ask reads.job) read_end.node.busy (Some (record reads.job { seq = read_end.node.seq + 1 })) its_operation,
-        began_fresh setting (world_on read_end) closing_made closing_kept.0 closing_kept.1 packet.to there reads.group reads.job.view reads.now
-            (job_ask reads.job) read_end.node.busy (Some (record reads.job { seq = read_end.node.seq + 1 })) its_operation,
+        began_numbered setting (world_on read_end) closing_made closing_kept.0 closing_kept.1 packet.to there reads.group reads.job.view None
+            reads.now (job_ask reads.job) read_end.node.busy (Some (record reads.job { seq = read_end.node.seq + 1 })) read_end.node.scrub its_operation,
+        began_fresh setting (world_on read_end) closing_made closing_kept.0 closing_kept.1 packet.to there reads.group reads.job.view None
+            reads.now (job_ask reads.job) read_end.node.busy (Some (record reads.job { seq = read_end.node.seq + 1 })) read_end.node.scrub its_operation,
       )
 
       of_reads : BothKept (world_on step)
@@ -443,14 +448,14 @@ module _ (setting : Setting) (w : World) (books : Books setting w) (calls : Call
         w.reached (λ k is. is) numbered.reached n
         (λ same. let none = none_numbered in omega (arith, some, same, none)) c opens untouched
 
-  -- a brick begins a synchronisation
-  module _ (brick : BrickId) (group : GroupId) (there : is_brick setting.layout brick ≡ true) where
-    abbrev SyncKept : NodeStep → Type 0
-    SyncKept step = StepCalls brick.0 (w.nodes brick.0) step.node step.packets
+  -- a brick begins a read of its own
+  module _ (brick : BrickId) (there : is_brick setting.layout brick ≡ true) where
+    abbrev ReadKept : NodeStep → Type 0
+    ReadKept step = StepCalls brick.0 (w.nodes brick.0) step.node step.packets
         → IsNumbered (world_stepped setting w brick step) × AreFresh setting (world_stepped setting w brick step)
 
     -- nothing begins
-    quiet_kept : (step : NodeStep) → StepIsOf setting w brick step 0 0 0 → (world_stepped setting w brick step).operations ≡ w.operations → SyncKept step
+    quiet_kept : (step : NodeStep) → StepIsOf setting w brick step 0 0 0 → (world_stepped setting w brick step).operations ≡ w.operations → ReadKept step
     quiet_kept step is operations own = (
       stepped_numbered brick step 0 0 0 is none_made own w.replies w.choices w.reached (λ k unreached. unreached) numbered.reached,
       (λ n c opens untouched.
@@ -460,47 +465,60 @@ module _ (setting : Setting) (w : World) (books : Books setting w) (calls : Call
           (λ same. let none = none_numbered in omega (arith, some, same, none)) c opens untouched),
     )
 
-    -- its first read begins
-    read_kept : (kept : Group) (job : Job)
-        → SyncKept (read_begun_by setting brick (w.nodes brick.0) job (read_call kept job brick (w.clocks brick.0) (w.nodes brick.0)))
-    read_kept kept job own = (
-      numbered_alike begun next alike
-          (began_numbered setting w now_made numbered fresh brick there kept job.view (w.clocks brick.0) (job_ask job) (w.nodes brick.0).busy
-          (Some (record job { seq = (w.nodes brick.0).seq + 1 })) operation),
-      fresh_alike setting begun next alike
-          (began_fresh setting w now_made numbered fresh brick there kept job.view (w.clocks brick.0) (job_ask job) (w.nodes brick.0).busy
-          (Some (record job { seq = (w.nodes brick.0).seq + 1 })) operation),
-    )
-      where
-        call : Coordinator
-        call = read_call kept job brick (w.clocks brick.0) (w.nodes brick.0)
+    -- it begins
+    module _ (group : Group) (view : View) (only : Option (List BrickId)) (ask : Ask) (job : Option Job) (scrub : Option Scrub) where
+      abbrev reader : Coordinator
+      reader = coordinator_of group view only brick (w.clocks brick.0) (w.nodes brick.0) ask
 
-        step : NodeStep
-        step = read_begun_by setting brick (w.nodes brick.0) job call
+      abbrev aside_step : NodeStep
+      aside_step = begun_aside setting brick (record (reading_aside (w.nodes brick.0) reader) { job = job; scrub = scrub }) reader
 
-        next : World
-        next = world_stepped setting w brick step
+      abbrev aside_next : World
+      aside_next = world_stepped setting w brick aside_step
 
-        operation : Operation
-        operation = read_of_call (put w.nodes brick.0 step.node) w brick call.call
+      abbrev aside_operation : Operation
+      aside_operation = read_of_call (put w.nodes brick.0 aside_step.node) w brick reader.call
 
-        begun : World
-        begun =
-            world_begun setting w brick (w.nodes brick.0) call (w.nodes brick.0).busy (Some (record job { seq = (w.nodes brick.0).seq + 1 })) operation
+      abbrev aside_begun : World
+      aside_begun = world_begun setting w brick (w.nodes brick.0) reader (w.nodes brick.0).busy job scrub aside_operation
 
-        alike : AreAlike begun next
-        alike = record { nodes = refl; packets = refl; operations = refl; numbers = refl; up = refl; reached = refl }
+      aside_alike : AreAlike aside_begun aside_next
+      aside_alike = record { nodes = refl; packets = refl; operations = refl; numbers = refl; up = refl; reached = refl }
 
-    pub synced_kept : (let next = world_stepped setting w brick (synced_at setting brick (w.clocks brick.0) (w.nodes brick.0) group) in
+      aside_kept : IsNumbered aside_next × AreFresh setting aside_next
+      aside_kept = (
+        numbered_alike aside_begun aside_next aside_alike
+            (began_numbered setting w now_made numbered fresh brick there group view only (w.clocks brick.0) ask (w.nodes brick.0).busy job scrub aside_operation),
+        fresh_alike setting aside_begun aside_next aside_alike
+            (began_fresh setting w now_made numbered fresh brick there group view only (w.clocks brick.0) ask (w.nodes brick.0).busy job scrub aside_operation),
+      )
+
+    -- that of a synchronisation
+    pub synced_kept : (group : GroupId) → (let next = world_stepped setting w brick (synced_at setting brick (w.clocks brick.0) (w.nodes brick.0) group) in
         IsNumbered next × AreFresh setting next)
-    synced_kept =
-        synced_at_each SyncKept setting brick (w.clocks brick.0) (w.nodes brick.0) group
+    synced_kept group =
+        synced_at_each ReadKept setting brick (w.clocks brick.0) (w.nodes brick.0) group
         (quiet_kept (no_step (w.nodes brick.0)) (quiet (w.nodes brick.0) [] refl refl) refl)
         (λ answer. quiet_kept _ (quiet (w.nodes brick.0) (Report.Sync group answer ∷ []) refl refl) refl)
         (λ answer. quiet_kept _ (quiet (with_job (w.nodes brick.0) None) (Report.Sync group answer ∷ []) refl refl) refl)
-        (λ kept is. read_kept kept (begun_job group ((w.nodes brick.0).learnt group.0).view))
+        (λ kept is own.
+        let job : Job = begun_job group ((w.nodes brick.0).learnt group.0).view in
+        aside_kept kept job.view None (job_ask job) (Some (record job { seq = (w.nodes brick.0).seq + 1 })) (w.nodes brick.0).scrub)
         (synced_calls setting brick (w.clocks brick.0) (w.nodes brick.0) group)
       where
         quiet : (node : Node) (reports : List Report) → node.boot ≡ (w.nodes brick.0).boot → node.calls ≡ (w.nodes brick.0).calls
             → StepIsOf setting w brick (record { node = node; packets = []; told = []; answers = []; reports = reports }) 0 0 0
         quiet node reports boot calls = quiet_is_of setting w brick node [] reports 0 0 0 boot calls (each_none (IsKeyedOrNone 0 0 0))
+
+    -- that of a scrub
+    pub scrubbed_kept : (group : GroupId) (stripe : StripeNo) (members : List BrickId)
+        → (let next = world_stepped setting w brick (scrubbed_at setting brick (w.clocks brick.0) (w.nodes brick.0) group stripe members) in
+        IsNumbered next × AreFresh setting next)
+    scrubbed_kept group stripe members =
+        scrubbed_at_each ReadKept setting brick (w.clocks brick.0) (w.nodes brick.0) group stripe members
+        (quiet_kept (no_step (w.nodes brick.0))
+        (quiet_is_of setting w brick (w.nodes brick.0) [] [] 0 0 0 refl refl (each_none (IsKeyedOrNone 0 0 0))) refl)
+        (λ kept is own.
+        aside_kept kept ((w.nodes brick.0).learnt group.0).view (Some members) (scrub_ask group stripe) (w.nodes brick.0).job
+        (Some (record { seq = (w.nodes brick.0).seq + 1; lagging = [] })))
+        (scrubbed_calls setting brick (w.clocks brick.0) (w.nodes brick.0) group stripe members)

@@ -4,12 +4,12 @@ use Rattle.std.proofs.Common.{ltb-true, nat_lt, ◌&&◌, ◌≡◌, not, List, 
 use Rattle.std.proofs.lemmas.Bool.{and_parts, not-true}
 use Rattle.fab_base.specs.Layouts.{Group}
 use Rattle.protocol.specs.Settings.{Setting}
-use Rattle.protocol.specs.Nodes.{NodeStep, put, invoked, began, began_in, new_coordinator, may_open, refusal_of, sync_refusal, top_at, view_at}
+use Rattle.protocol.specs.Nodes.{NodeStep, put, invoked, began, began_in, new_coordinator, may_open, refusal_of, sync_refusal, top_at, view_at, scrub_refusal}
 use Rattle.protocol.specs.Worlds.{World, Event, Operation, first_world, may_begin, world_began, is_brick, is_up, run}
 use Rattle.protocol_laws.proofs.Books.{Books}
 use Rattle.calm_laws.proofs.Fresh.{IsNumbered, AreFresh, AreAlike, fresh_on, numbered_alike, fresh_alike}
 use Rattle.view_laws.proofs.CallSteps.{Calls, always_calls}
-use Rattle.calm_laws.proofs.FreshDelivered.{now_made, delivered_kept, proposed_numbered, proposed_fresh, synced_kept}
+use Rattle.calm_laws.proofs.FreshDelivered.{now_made, delivered_kept, proposed_numbered, proposed_fresh, synced_kept, scrubbed_kept}
 use Rattle.calm_laws.proofs.FreshTicked.{ticked_numbered, ticked_fresh}
 use Rattle.calm_laws.proofs.FreshBegun.{world_begun, began_numbered, began_fresh}
 use Rattle.calm_laws.proofs.FreshStopped.{stopped_numbered, stopped_fresh, started_numbered, started_fresh}
@@ -58,7 +58,7 @@ module _ (setting : Setting) (w : World) (books : Books setting w) (calls : Call
     abbrev begun : World
     begun =
         world_begun setting w brick (w.nodes brick.0) (new_coordinator group brick (w.clocks brick.0) (w.nodes brick.0) ask) ((w.nodes brick.0).busy + 1)
-        (w.nodes brick.0).job operation
+        (w.nodes brick.0).job (w.nodes brick.0).scrub operation
 
     alike : AreAlike begun next
     alike = record { nodes = refl; packets = refl; operations = refl; numbers = refl; up = refl; reached = refl }
@@ -67,10 +67,12 @@ module _ (setting : Setting) (w : World) (books : Books setting w) (calls : Call
     begun_kept = (
       numbered_alike begun next alike
           (began_numbered setting w (now_made setting w books calls holds.0 holds.1) holds.0 holds.1 brick there group
-          ((w.nodes brick.0).learnt ask.group.0).view (w.clocks brick.0) ask ((w.nodes brick.0).busy + 1) (w.nodes brick.0).job operation),
+          ((w.nodes brick.0).learnt ask.group.0).view None (w.clocks brick.0) ask ((w.nodes brick.0).busy + 1) (w.nodes brick.0).job (w.nodes brick.0).scrub
+          operation),
       fresh_alike setting begun next alike
           (began_fresh setting w (now_made setting w books calls holds.0 holds.1) holds.0 holds.1 brick there group
-          ((w.nodes brick.0).learnt ask.group.0).view (w.clocks brick.0) ask ((w.nodes brick.0).busy + 1) (w.nodes brick.0).job operation),
+          ((w.nodes brick.0).learnt ask.group.0).view None (w.clocks brick.0) ask ((w.nodes brick.0).busy + 1) (w.nodes brick.0).job (w.nodes brick.0).scrub
+          operation),
     )
 
   -- a beginning keeps both
@@ -90,9 +92,14 @@ fresh_cases setting w known holds = record {
     proposed_fresh setting w known.0 known.1 holds.0 holds.1 brick group members,
   );
   syncs = λ brick group may.
-      synced_kept setting w known.0 known.1 holds.0 holds.1 brick group
+      synced_kept setting w known.0 known.1 holds.0 holds.1 brick
       (and_parts (is_brick setting.layout brick) (w.up brick.0)
-      (and_parts (is_up setting.layout w brick) (not (is_some (sync_refusal setting.layout (w.nodes brick.0) group.0))) may).0).0;
+      (and_parts (is_up setting.layout w brick) (not (is_some (sync_refusal setting.layout (w.nodes brick.0) group.0))) may).0).0 group;
+  scrubs = λ brick group stripe members may.
+      scrubbed_kept setting w known.0 known.1 holds.0 holds.1 brick
+      (and_parts (is_brick setting.layout brick) (w.up brick.0)
+      (and_parts (is_up setting.layout w brick) (not (is_some (scrub_refusal setting.layout (w.nodes brick.0) group stripe members))) may).0).0 group stripe
+      members;
   handles = λ number packet at up. delivered_kept setting w known.0 known.1 holds.0 holds.1 number packet at up;
   sets = λ brick time is. (
     record { numbers = holds.0.numbers; drafts = holds.0.drafts; packets = holds.0.packets; reached = holds.0.reached },

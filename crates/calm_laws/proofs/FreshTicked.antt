@@ -16,7 +16,7 @@ use Rattle.protocol.specs.declared.phases.Counted.{Counted}
 use Rattle.protocol.specs.Coordinators.{Coordinator, request_of, has_seat, asked_group}
 use Rattle.fab_base.specs.declared.identities.GroupId.{GroupId}
 use Rattle.fab_base.specs.declared.member_lists.View.{View}
-use Rattle.protocol.specs.Nodes.{phase_packets, to_members, resent_to, resent, resent_up_to, ticked, teaching, each_taught, view_in, ballot_resent, calls_but_read, job_call, put}
+use Rattle.protocol.specs.Nodes.{phase_packets, to_members, resent_to, resent, resent_up_to, ticked, teaching, each_taught, view_in, ballot_resent, calls_but_read, job_call, put, calls_but_scrub, scrub_call}
 use Rattle.protocol.proofs.Packets.{OfEach, each_none, each_teaching, each_ballot_resent}
 use Rattle.protocol.specs.Jobs.{Job}
 use Rattle.view_laws.proofs.SyncReads.{each_tick}
@@ -27,6 +27,8 @@ use Rattle.protocol.specs.Calms.{operation_of, IsUntouched}
 use Rattle.protocol_laws.proofs.Books.{Books, CallBooks}
 use Rattle.protocol.proofs.Tables.{get_grown, put_each, put_same}
 use Rattle.calm_laws.proofs.Fresh.{IsMade, IsMadeBy, packets_of, repeated_more, IsFresh, IsNumbered, AreFresh, filter_none, filter_every, packets_added, packets_kept, fresh_on, IsOpenAt, opens_at, untouched_before, own_number}
+use Rattle.protocol.specs.Scrubs.{Scrub}
+use Rattle.std.specs.Option.{option_map}
 
 module _ (setting : Setting) (w : World) (books : Books setting w) (calls : Calls w) (numbered : IsNumbered w) (fresh : AreFresh setting w) where
   -- a brick's clock ticks: each of its open operations sends its present phase again
@@ -106,7 +108,7 @@ module _ (setting : Setting) (w : World) (books : Books setting w) (calls : Call
           ap (λ (b : ℕ). w.numbers brick.0 b c.call.seq) its.call_boot ∙ ap (λ (l : ℕ). number_of w brick.0 l) its.call_seq,
           (books.operations (number_of w brick.0 k) its.operation its.operation_is).from_one,
         ))
-        (λ k c is later from to. inr refl) (w.nodes brick.0).job (w.nodes brick.0).seq (w.nodes brick.0).proposal (λ j packet at. inr (ballots_are j packet at))
+        (λ k c is later from to. inr refl) (w.nodes brick.0).job (w.nodes brick.0).scrub (w.nodes brick.0).seq (w.nodes brick.0).proposal (λ j packet at. inr (ballots_are j packet at))
 
     -- its calls were made
     call_made : (k : ℕ) (c : Coordinator) → (w.nodes brick.0).calls k ≡ Some c → IsMade (w.nodes brick.0) c.call.boot c.call.seq
@@ -123,7 +125,7 @@ module _ (setting : Setting) (w : World) (books : Books setting w) (calls : Call
     unfolding ticked
     ticked_made =
         each_tick (IsMadeBy w.nodes) setting brick (w.nodes brick.0).calls (λ k c is seat to. call_made k c is) (λ k c is later from to. tt)
-        (w.nodes brick.0).job (w.nodes brick.0).seq (w.nodes brick.0).proposal
+        (w.nodes brick.0).job (w.nodes brick.0).scrub (w.nodes brick.0).seq (w.nodes brick.0).proposal
         (each_ballot_resent (IsMadeBy w.nodes) brick (w.nodes brick.0).proposal
         (λ p is to. let draft = calls.called.drafts brick.0 p is in let now = draft.now in
         ((let low : p.call.boot ≤ (w.nodes brick.0).boot = omega (arith, now) in low), (λ same. draft.seq)))
@@ -248,36 +250,99 @@ module _ (setting : Setting) (w : World) (books : Books setting w) (calls : Call
                 let most = (books.operations n o at.operation_is).called.1 (sym at.boot) in
                 subst (λ (j : ℕ). o.seq ≤ (w.nodes j).seq) own most
 
-      -- the read of a synchronisation is sent again last: the operation is that, or among the others
-      resent_once : (job : Option Job)
-          → filter is_n (resent_up_to setting brick (calls_but_read (w.nodes brick.0).calls job) (w.nodes brick.0).seq)
-          ++ filter is_n (resent setting brick (job_call (w.nodes brick.0).calls job))
-          ≡ phase_packets setting c.stamp.brick c
-      resent_once None =
-          append-nil (filter is_n (resent_up_to setting brick (w.nodes brick.0).calls (w.nodes brick.0).seq))
-          ∙ resent_all (w.nodes brick.0).calls (phase_packets setting c.stamp.brick c) resent_own resent_other
-      resent_once (Some job) = ⊎_elim
-          (λ (same : job.seq ≡ o.seq).
-          ap (λ (l : List Packet). l ++ filter is_n (resent setting brick ((w.nodes brick.0).calls job.seq)))
-          (resent_all but_read []
-          (ap (λ (z : Option Coordinator). filter is_n (resent setting brick z))
-          (ap (λ (k : ℕ). put (w.nodes brick.0).calls k None o.seq) same ∙ put_same (w.nodes brick.0).calls o.seq None)) but_others)
-          ∙ ap (λ (k : ℕ). filter is_n (resent setting brick ((w.nodes brick.0).calls k))) same ∙ resent_own)
+      -- of these calls, the operation's sends this, and no other anything of the operation
+      record Sends (some_calls : ℕ → Option Coordinator) (mine : List Packet) : Type 0 where
+        pub by_it : filter is_n (resent setting brick (some_calls o.seq)) ≡ mine
+        pub others : (k : ℕ) → k ≢ o.seq → filter is_n (resent setting brick (some_calls k)) ≡ []
+
+      up_to : (some_calls : ℕ → Option Coordinator) (mine : List Packet) → Sends some_calls mine
+          → filter is_n (resent_up_to setting brick some_calls (w.nodes brick.0).seq) ≡ mine
+      up_to some_calls mine sends = resent_all some_calls mine sends.by_it sends.others
+
+      -- all but the call of this number
+      but_others : (some_calls : ℕ → Option Coordinator) (mine : List Packet) → Sends some_calls mine → (l k : ℕ) → k ≢ o.seq
+          → filter is_n (resent setting brick (put some_calls l None k)) ≡ []
+      but_others some_calls mine sends l k other =
+          put_each (λ j (z : Option Coordinator). j ≢ o.seq → filter is_n (resent setting brick z) ≡ []) some_calls l None
+          (λ apart. refl) (λ j unlike apart. sends.others j apart) k other
+
+      but_own : (some_calls : ℕ → Option Coordinator) (mine : List Packet) → Sends some_calls mine → (l : ℕ) → l ≡ o.seq → Sends (put some_calls l None) []
+      but_own some_calls mine sends l same = record {
+        by_it = ap (λ (z : Option Coordinator). filter is_n (resent setting brick z))
+            (ap (λ (k : ℕ). put some_calls k None o.seq) same ∙ put_same some_calls o.seq None);
+        others = but_others some_calls mine sends l;
+      }
+
+      but_another : (some_calls : ℕ → Option Coordinator) (mine : List Packet) → Sends some_calls mine → (l : ℕ) → l ≢ o.seq
+          → Sends (put some_calls l None) mine
+      but_another some_calls mine sends l other = record {
+        by_it = ap (λ (z : Option Coordinator). filter is_n (resent setting brick z)) (put_other some_calls l None o.seq (λ same. other (sym same))) ∙ sends.by_it;
+        others = but_others some_calls mine sends l;
+      }
+
+      -- the brick's own reads are sent again last: the operation is one of them, or among the others
+      abbrev all_calls : ℕ → Option Coordinator
+      all_calls = (w.nodes brick.0).calls
+
+      abbrev phase : List Packet
+      phase = phase_packets setting c.stamp.brick c
+
+      sends_all : Sends all_calls phase
+      sends_all = record { by_it = resent_own; others = resent_other }
+
+      own_last : (l : ℕ) → l ≡ o.seq → filter is_n (resent setting brick (all_calls l)) ≡ phase
+      own_last l same = ap (λ (k : ℕ). filter is_n (resent setting brick (all_calls k))) same ∙ resent_own
+
+      abbrev Once : Option Job → Option Scrub → Type 0
+      Once job scrub =
+          filter is_n (resent_up_to setting brick (calls_but_scrub (calls_but_read all_calls job) scrub) (w.nodes brick.0).seq)
+          ++ (filter is_n (resent setting brick (job_call all_calls job)) ++ filter is_n (resent setting brick (scrub_call all_calls scrub)))
+          ≡ phase
+
+      -- where the other calls send what these do, and the scrub's this
+      scrub_once : (some_calls : ℕ → Option Coordinator) (mine : List Packet) → Sends some_calls mine → (scrub : Option Scrub)
+          → ((s : Scrub) → scrub ≡ Some s → s.seq ≡ o.seq → mine ≡ phase)
+          → filter is_n (resent_up_to setting brick (calls_but_scrub some_calls scrub) (w.nodes brick.0).seq)
+          ++ filter is_n (resent setting brick (scrub_call all_calls scrub)) ≡ mine
+      scrub_once some_calls mine sends None whole =
+          append-nil (filter is_n (resent_up_to setting brick some_calls (w.nodes brick.0).seq)) ∙ up_to some_calls mine sends
+      scrub_once some_calls mine sends (Some s) whole = ⊎_elim
+          (λ (same : s.seq ≡ o.seq).
+          ap (λ (l : List Packet). l ++ filter is_n (resent setting brick (all_calls s.seq)))
+          (up_to (put some_calls s.seq None) [] (but_own some_calls mine sends s.seq same))
+          ∙ own_last s.seq same ∙ sym (whole s refl same))
+          (λ (other : s.seq ≢ o.seq).
+          ap (λ (l : List Packet). filter is_n (resent_up_to setting brick (put some_calls s.seq None) (w.nodes brick.0).seq) ++ l) (resent_other s.seq other)
+          ∙ append-nil (filter is_n (resent_up_to setting brick (put some_calls s.seq None) (w.nodes brick.0).seq))
+          ∙ up_to (put some_calls s.seq None) mine (but_another some_calls mine sends s.seq other))
+          (cases_eq s.seq o.seq)
+
+      resent_once : (job : Option Job) (scrub : Option Scrub) → ((k : ℕ) → option_map (λ (j : Job). j.seq) job ≡ Some k
+          → option_map (λ (s : Scrub). s.seq) scrub ≡ Some k → ⊥) → Once job scrub
+      resent_once None scrub apart = scrub_once all_calls phase sends_all scrub (λ s is same. refl)
+      resent_once (Some job) scrub apart = ⊎_elim
+          (λ (same : job.seq ≡ o.seq). first same scrub apart)
           (λ (other : job.seq ≢ o.seq).
-          ap (λ (l : List Packet). filter is_n (resent_up_to setting brick but_read (w.nodes brick.0).seq) ++ l) (resent_other job.seq other)
-          ∙ append-nil (filter is_n (resent_up_to setting brick but_read (w.nodes brick.0).seq))
-          ∙ resent_all but_read (phase_packets setting c.stamp.brick c)
-          (ap (λ (z : Option Coordinator). filter is_n (resent setting brick z))
-          (put_other (w.nodes brick.0).calls job.seq None o.seq (λ same. other (sym same))) ∙ resent_own) but_others)
+          ap (λ (l : List Packet). filter is_n (resent_up_to setting brick (calls_but_scrub but_read scrub) (w.nodes brick.0).seq)
+          ++ (l ++ filter is_n (resent setting brick (scrub_call all_calls scrub)))) (resent_other job.seq other)
+          ∙ scrub_once but_read phase (but_another all_calls phase sends_all job.seq other) scrub (λ s is same. refl))
           (cases_eq job.seq o.seq)
         where
           but_read : ℕ → Option Coordinator
-          but_read = put (w.nodes brick.0).calls job.seq None
+          but_read = put all_calls job.seq None
 
-          but_others : (k : ℕ) → k ≢ o.seq → filter is_n (resent setting brick (but_read k)) ≡ []
-          but_others k other =
-              put_each (λ j (z : Option Coordinator). j ≢ o.seq → filter is_n (resent setting brick z) ≡ []) (w.nodes brick.0).calls job.seq None
-              (λ apart. refl) (λ j unlike apart. resent_other j apart) k other
+          -- the read of the synchronisation is the operation, and so the scrub is another
+          first : job.seq ≡ o.seq → (scrub : Option Scrub) → ((k : ℕ) → Some job.seq ≡ Some k → option_map (λ (s : Scrub). s.seq) scrub ≡ Some k → ⊥)
+              → Once (Some job) scrub
+          first same None apart =
+              ap (λ (l : List Packet). l ++ (filter is_n (resent setting brick (all_calls job.seq)) ++ [])) (up_to but_read [] (but_own all_calls phase sends_all job.seq same))
+              ∙ append-nil (filter is_n (resent setting brick (all_calls job.seq))) ∙ own_last job.seq same
+          first same (Some s) apart =
+              let other : s.seq ≢ o.seq = λ its. apart job.seq refl (ap (λ (k : ℕ). Some k) (its ∙ sym same)) in
+              ap (λ (l : List Packet). l ++ (filter is_n (resent setting brick (all_calls job.seq)) ++ filter is_n (resent setting brick (all_calls s.seq))))
+              (up_to (put but_read s.seq None) [] (but_another but_read [] (but_own all_calls phase sends_all job.seq same) s.seq other))
+              ∙ ap (λ (l : List Packet). filter is_n (resent setting brick (all_calls job.seq)) ++ l) (resent_other s.seq other)
+              ∙ append-nil (filter is_n (resent setting brick (all_calls job.seq))) ∙ own_last job.seq same
 
       once_more : IsFresh setting ticked_world n c
       unfolding ticked
@@ -293,25 +358,29 @@ module _ (setting : Setting) (w : World) (books : Books setting w) (calls : Call
         packets =
             packets_added w ticked_world n ticked_packets refl (λ j packet at'. refl)
             ∙ ap (λ (l : List Packet). packets_of w n ++ l) (
-            filter-append is_n others (ballots ++ reads)
+            filter-append is_n others (ballots ++ (reads ++ scrubs))
             ∙ ap (λ (l : List Packet). filter is_n others ++ l)
-            (filter-append is_n ballots reads
-            ∙ ap (λ (l : List Packet). l ++ filter is_n reads)
+            (filter-append is_n ballots (reads ++ scrubs)
+            ∙ ap (λ (l : List Packet). l ++ filter is_n (reads ++ scrubs))
             (filter_none is_n ballots
-            (λ j packet at'. ne_eqb (operation_of w packet) n (λ same. let none = ballots_are j packet at' in let from = from_one in omega (arith, none, same, from)))))
-            ∙ resent_once (w.nodes brick.0).job)
+            (λ j packet at'. ne_eqb (operation_of w packet) n (λ same. let none = ballots_are j packet at' in let from = from_one in omega (arith, none, same, from))))
+            ∙ filter-append is_n reads scrubs)
+            ∙ resent_once (w.nodes brick.0).job (w.nodes brick.0).scrub (books.apart brick.0))
             ∙ ap (λ (l : List Packet). l ++ phase_packets setting c.stamp.brick c) its.packets
             ∙ repeated_more (suc its.copies) (phase_packets setting c.stamp.brick c);
       }
         where
           others : List Packet
-          others = resent_up_to setting brick (calls_but_read (w.nodes brick.0).calls (w.nodes brick.0).job) (w.nodes brick.0).seq
+          others = resent_up_to setting brick (calls_but_scrub (calls_but_read all_calls (w.nodes brick.0).job) (w.nodes brick.0).scrub) (w.nodes brick.0).seq
 
           ballots : List Packet
           ballots = ballot_resent brick (w.nodes brick.0).proposal
 
           reads : List Packet
-          reads = resent setting brick (job_call (w.nodes brick.0).calls (w.nodes brick.0).job)
+          reads = resent setting brick (job_call all_calls (w.nodes brick.0).job)
+
+          scrubs : List Packet
+          scrubs = resent setting brick (scrub_call all_calls (w.nodes brick.0).scrub)
 
     pub ticked_fresh : AreFresh setting ticked_world
     ticked_fresh n c opens untouched =

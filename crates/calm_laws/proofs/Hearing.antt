@@ -3,13 +3,12 @@ use Rattle.std.proofs.Common.{Bool, List, None, Option, [], ap, arith, cond, fal
 use Rattle.std.proofs.lemmas.Bool.Decides.{nat_tests}
 use Rattle.std.specs.Prelude.{nat_lt, ◌-◌, ◌^◌}
 use Rattle.calm_laws.proofs.Scenes.{Closes, Each, Outcome, Scene, Stage, decision, heard, hears, replying, with_queue}
-use Rattle.fab_base.specs.Layouts.{seat_in}
 use Rattle.fab_base.specs.declared.identities.BrickId.{BrickId}
 use Rattle.messages.specs.declared.calls.Call.{Call}
 use Rattle.messages.specs.declared.packets.Message.{Message}
 use Rattle.messages.specs.declared.packets.Packet.{Packet}
 use Rattle.messages.specs.declared.replies.Reply.{Reply}
-use Rattle.protocol.specs.Coordinators.{Coordinator, Ignores, Next, answering_seat, call_same, counted_at, counts_at, new_seat, on_reply, asked_group}
+use Rattle.protocol.specs.Coordinators.{Coordinator, Ignores, Next, answering_seat, call_same, counted_at, counts_at, new_seat, on_reply, counting_seat}
 use Rattle.protocol.specs.Views.{view_told}
 use Rattle.protocol.specs.Nodes.{fresh_stamp, known_after}
 
@@ -41,7 +40,7 @@ uncounted : (block : ℕ) (c : Coordinator) (from : ℕ) (call : Call) (reply : 
     → counts_at block c from call reply ≡ None
 unfolding counts_at
 uncounted block c from call reply other =
-    ap (λ (b : Bool). cond (b && nat_lt c.call.phase (2 ^ 32 - 1)) (new_seat c.counted (answering_seat block c reply (seat_in (asked_group c).members from))) None)
+    ap (λ (b : Bool). cond (b && nat_lt c.call.phase (2 ^ 32 - 1)) (new_seat c.counted (answering_seat block c reply (counting_seat c from))) None)
     other
 
 -- nor does it decide anything

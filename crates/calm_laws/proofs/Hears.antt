@@ -19,8 +19,8 @@ use Rattle.messages.specs.declared.packets.Packet.{Packet}
 use Rattle.messages.specs.declared.replies.Reply.{Reply}
 use Rattle.messages.specs.declared.requests.Request.{Request}
 use Rattle.protocol.specs.Calms.{goes_among, is_left, open_at, operation_of}
-use Rattle.protocol.specs.Coordinators.{Coordinator, Ends, Ignores, Makes, Next, Sends, Waits, on_reply, request_of, asked_group}
-use Rattle.protocol.specs.Nodes.{NodeStep, carried_for, job_reading, read_closed, read_begun_by, then_does, with_job, synced_packets, Node, carried_out, fresh_stamp, known_after, phase_packets, put, received, replica_at, replied, replied_at, to_members, with_call, with_known, with_round, may_teach, no_step, then_taught, counts_here, collect_packets}
+use Rattle.protocol.specs.Coordinators.{Coordinator, Ends, Ignores, Makes, Next, Sends, Waits, on_reply, request_of, asked_group, hearing, counts_at}
+use Rattle.protocol.specs.Nodes.{NodeStep, carried_for, job_reading, read_closed, read_begun_by, then_does, synced_packets, Node, carried_out, fresh_stamp, known_after, phase_packets, put, received, replica_at, replied, replied_at, to_members, with_call, with_known, with_round, may_teach, no_step, then_taught, counts_here, collect_packets, scrub_of, with_scrub, scrub_ended, members_alone}
 use Rattle.protocol.specs.Replicas.{Replica}
 use Rattle.protocol.specs.Settings.{Setting}
 use Rattle.protocol.specs.Jobs.{Job, abort_cause, synced_answer}
@@ -30,13 +30,20 @@ use Rattle.view_laws.proofs.SyncReads.{AfterRead, carried_each, read_call}
 use Rattle.fab_base.specs.declared.answers.Cause.{Cause}
 use Rattle.fab_base.specs.declared.answers.Answer.TheVariants.{Data, Done, Aborted}
 use Rattle.protocol.specs.Worlds.{Operation, World, is_answer, number_of, with_answer, with_closed, with_made, with_seen}
+use Rattle.protocol.specs.Scrubs.{Scrub, lagging_after, scrub_answer}
+use Rattle.protocol.specs.declared.tellings.ScrubAnswer.{ScrubAnswer}
+
+-- the coordinator once it heard a reply
+abbrev hearing_reply : Stage → Scene → BrickId → Call → Reply → Coordinator
+hearing_reply stage s from call reply = hearing s.c from reply (counts_at stage.setting.layout.block s.c from.0 call reply)
 
 -- the coordinator's brick handles a reply
 heard_step : (stage : Stage) (n : ℕ) (w : World) (s : Scene) (from : BrickId) (call : Call) (reply : Reply) (rest : List Packet)
     → Shows stage n w s → IsNext stage s from call reply rest
     → received stage.setting stage.me (w.clocks stage.me.0) (w.nodes stage.me.0) (replying stage from call reply)
     ≡ carried_for stage.setting stage.me (w.clocks stage.me.0) (with_round (w.nodes stage.me.0) reply) (known_after s.known reply) s.c
-    (decision stage s from call reply) (job_reading (w.nodes stage.me.0).job s.c.call.seq)
+    (hearing_reply stage s from call reply) (decision stage s from call reply) (job_reading (w.nodes stage.me.0).job s.c.call.seq)
+    (scrub_of (w.nodes stage.me.0).scrub s.c.call.seq)
 unfolding received replied
 heard_step stage n w s from call reply rest shows next =
     ap (λ (z : Option View). cond (not (is_some z) || may_teach stage.setting.layout z (group_of stage.setting.layout call.group.0))
@@ -47,18 +54,18 @@ heard_step stage n w s from call reply rest shows next =
     (none_counted (counts_here stage.setting.layout from call reply (w.nodes stage.me.0).proposal ((w.nodes stage.me.0).calls call.seq)) next.plain)
     ∙ ap (λ (z : Option Coordinator). replied_at stage.setting stage.me (w.clocks stage.me.0) from node call reply z)
     (ap (λ (k : ℕ). (w.nodes stage.me.0).calls k) next.seq.1 ∙ shows.call)
-    ∙ ap (λ (k : ℕ). carried_for stage.setting stage.me (w.clocks stage.me.0) node (known_after k reply) s.c
+    ∙ ap (λ (k : ℕ). carried_for stage.setting stage.me (w.clocks stage.me.0) node (known_after k reply) s.c (hearing_reply stage s from call reply)
     (on_reply stage.setting.layout.block stage.setting.code
     (fresh_stamp stage.me s.c.stamp.view (w.clocks stage.me.0) (w.nodes stage.me.0).boot (known_after k reply)) s.c from call reply)
-    (job_reading (w.nodes stage.me.0).job s.c.call.seq)) shows.known
-    ∙ ap (λ (b : ℕ). carried_for stage.setting stage.me (w.clocks stage.me.0) node (known_after s.known reply) s.c
+    (job_reading (w.nodes stage.me.0).job s.c.call.seq) (scrub_of (w.nodes stage.me.0).scrub s.c.call.seq)) shows.known
+    ∙ ap (λ (b : ℕ). carried_for stage.setting stage.me (w.clocks stage.me.0) node (known_after s.known reply) s.c (hearing_reply stage s from call reply)
     (on_reply stage.setting.layout.block stage.setting.code
     (fresh_stamp stage.me s.c.stamp.view (w.clocks stage.me.0) b (known_after s.known reply)) s.c from call reply)
-    (job_reading (w.nodes stage.me.0).job s.c.call.seq)) shows.node_boot
-    ∙ ap (λ (t : ℕ). carried_for stage.setting stage.me (w.clocks stage.me.0) node (known_after s.known reply) s.c
+    (job_reading (w.nodes stage.me.0).job s.c.call.seq) (scrub_of (w.nodes stage.me.0).scrub s.c.call.seq)) shows.node_boot
+    ∙ ap (λ (t : ℕ). carried_for stage.setting stage.me (w.clocks stage.me.0) node (known_after s.known reply) s.c (hearing_reply stage s from call reply)
     (on_reply stage.setting.layout.block stage.setting.code
     (fresh_stamp stage.me s.c.stamp.view t s.c.call.boot (known_after s.known reply)) s.c from call reply)
-    (job_reading (w.nodes stage.me.0).job s.c.call.seq)) shows.clock
+    (job_reading (w.nodes stage.me.0).job s.c.call.seq) (scrub_of (w.nodes stage.me.0).scrub s.c.call.seq)) shows.clock
   where
     node : Node
     node = with_round (w.nodes stage.me.0) reply
@@ -73,27 +80,46 @@ abbrev GoesOn : Next → Type 0
 GoesOn (Ends answer seen stored) = ⊥
 GoesOn next = Unit {0}
 
--- where it does, a read of a synchronisation does as each other operation
-carried_on : (setting : Setting) (me : BrickId) (now : ℕ) (node : Node) (known : ℕ) (c : Coordinator) (next : Next) (reading : Option Job) → GoesOn next
-    → carried_for setting me now node known c next reading ≡ carried_out setting me node known c next
-carried_on setting me now node known c next None on = refl
-carried_on setting me now node known c Ignores (Some job) on = refl
-carried_on setting me now node known c (Waits d) (Some job) on = refl
-carried_on setting me now node known c (Sends d) (Some job) on = refl
-carried_on setting me now node known c (Makes d) (Some job) on = refl
-carried_on setting me now node known c (Ends answer seen stored) (Some job) on = absurd on
+-- where it does, a read of the brick's own does as each other operation, but that the brick may note who lagged
+carried_on : (setting : Setting) (me : BrickId) (now : ℕ) (node : Node) (known : ℕ) (c heard : Coordinator) (next : Next) (reading : Option Job)
+    (scrub : Option Scrub) → GoesOn next
+    → (later : Option Scrub) × (carried_for setting me now node known c heard next reading scrub ≡ carried_out setting me (with_scrub node later) known c next)
+carried_on setting me now node known c heard next None None on = (node.scrub, refl)
+carried_on setting me now node known c heard Ignores None (Some s) on = (node.scrub, refl)
+carried_on setting me now node known c heard (Waits d) None (Some s) on = (node.scrub, refl)
+carried_on setting me now node known c heard (Sends d) None (Some s) on = (Some (record s { lagging = lagging_after s heard }), refl)
+carried_on setting me now node known c heard (Makes d) None (Some s) on = (node.scrub, refl)
+carried_on setting me now node known c heard (Ends answer seen stored) None (Some s) on = absurd on
+carried_on setting me now node known c heard Ignores (Some job) scrub on = (node.scrub, refl)
+carried_on setting me now node known c heard (Waits d) (Some job) scrub on = (node.scrub, refl)
+carried_on setting me now node known c heard (Sends d) (Some job) scrub on = (node.scrub, refl)
+carried_on setting me now node known c heard (Makes d) (Some job) scrub on = (node.scrub, refl)
+carried_on setting me now node known c heard (Ends answer seen stored) (Some job) scrub on = absurd on
 
--- where it ends, it is answered; or the synchronisation whose read it was goes on
-ends_each : (P : NodeStep → Type 0) (setting : Setting) (me : BrickId) (now : ℕ) (node : Node) (known : ℕ) (c : Coordinator) (answer : Answer)
-    (seen stored : Option Stamp) (reading : Option Job) → P (carried_out setting me node known c (Ends answer seen stored))
+-- where it ends, it is answered; or the synchronisation whose read it was goes on, or the scrub that it was ends
+ends_each : (P : NodeStep → Type 0) (setting : Setting) (me : BrickId) (now : ℕ) (node : Node) (known : ℕ) (c heard : Coordinator) (answer : Answer)
+    (seen stored : Option Stamp) (reading : Option Job) (scrub : Option Scrub) → P (carried_out setting me node known c (Ends answer seen stored))
     → ((job : Job) → AfterRead P setting me now (read_closed me node known c answer seen stored) job)
-    → P (carried_for setting me now node known c (Ends answer seen stored) reading)
-ends_each P setting me now node known c answer seen stored reading carried closed =
-    carried_each P setting me now node known c (Ends answer seen stored) reading carried (λ job is a s t same. subst (after job) same (closed job))
+    → ((ended : ScrubAnswer)
+    → (let closed = read_closed me node known c answer seen stored in P (then_does closed (scrub_ended closed.node c.call (members_alone c.only) ended))))
+    → P (carried_for setting me now node known c heard (Ends answer seen stored) reading scrub)
+ends_each P setting me now node known c heard answer seen stored reading scrub carried closed ended =
+    carried_each P setting me now node known c heard (Ends answer seen stored) reading scrub carried
+    (λ job is a s t same. subst (after job) same (closed job))
+    (record {
+      begins = λ one is d never. let no : ⊥ = cc in absurd no;
+      ends = λ one is a s t same. subst (over one) same (ended (scrub_answer one.lagging (abort_cause answer) stored));
+    })
   where
     after : Job → Next → Type 0
     after job (Ends a s t) = AfterRead P setting me now (read_closed me node known c a s t) job
     after job next = Unit {0}
+
+    over : Scrub → Next → Type 0
+    over one (Ends a s t) =
+        (let closed = read_closed me node known c a s t in
+        P (then_does closed (scrub_ended closed.node c.call (members_alone c.only) (scrub_answer one.lagging (abort_cause a) t))))
+    over one next = Unit {0}
 
 -- an operation that saw this version at once, if it saw one
 abbrev with_seen_if : Option Stamp → Option Operation → Option Operation
@@ -202,6 +228,9 @@ closes_at stage n w later s node seen stored shows nodes up more packets closed 
   operation = o.operation;
   is = o.is;
   answered = o.answered;
+  brick = o.brick ∙ shows.brick;
+  boot = o.boot ∙ shows.boot;
+  seq = o.seq ∙ shows.seq;
   events = [];
   coordinator = s.c;
   same = same_itself;
@@ -230,7 +259,7 @@ closes_at stage n w later s node seen stored shows nodes up more packets closed 
 }
   where
     same_itself : SameCall s.c s.c
-    same_itself = record { group = refl; prior = refl; boot = refl; seq = refl; of_group = refl; view = refl; stripe = refl }
+    same_itself = record { group = refl; prior = refl; only = refl; boot = refl; seq = refl; of_group = refl; view = refl; stripe = refl }
 
 module _ (stage : Stage) (n : ℕ) (w : World) (s : Scene) (from : BrickId) (call : Call) (reply : Reply) (rest : List Packet)
     (shows : Shows stage n w s) (next : IsNext stage s from call reply rest) where
@@ -250,50 +279,59 @@ module _ (stage : Stage) (n : ℕ) (w : World) (s : Scene) (from : BrickId) (cal
   abbrev reading : Option Job
   reading = job_reading (w.nodes stage.me.0).job s.c.call.seq
 
+  -- the scrub that it is, if it is one
+  abbrev scrub : Option Scrub
+  scrub = scrub_of (w.nodes stage.me.0).scrub s.c.call.seq
+
+  -- the brick, once it may have noted who lagged
+  abbrev noted : Option Scrub → Node
+  noted later = with_scrub me_node later
+
   -- it is known what follows the delivery
   after_step : (z : Next) (d : Coordinator) → GoesOn z → SameCall s.c d → decision stage s from call reply ≡ z
-      → ((head : IsHead (is_left w n stage.bricks) 1 w.packets packet rest)
-      → Finishes stage n d (world_by stage w (1 + head.place) packet (carried_out stage.setting stage.me me_node known s.c z)))
+      → ((later : Option Scrub) (head : IsHead (is_left w n stage.bricks) 1 w.packets packet rest)
+      → Finishes stage n d (world_by stage w (1 + head.place) packet (carried_out stage.setting stage.me (noted later) known s.c z)))
       → Finishes stage n s.c w
   after_step z d on same is then =
-      finishes_by stage n w s d packet rest shows same next.queue shows.up (carried_out stage.setting stage.me me_node known s.c z)
+      let goes = carried_on stage.setting stage.me now me_node known s.c (hearing_reply stage s from call reply) z reading scrub on in
+      finishes_by stage n w s d packet rest shows same next.queue shows.up (carried_out stage.setting stage.me (noted goes.0) known s.c z)
       (heard_step stage n w s from call reply rest shows next
-      ∙ ap (λ (y : Next). carried_for stage.setting stage.me now me_node known s.c y reading) is
-      ∙ carried_on stage.setting stage.me now me_node known s.c z reading on) then
+      ∙ ap (λ (y : Next). carried_for stage.setting stage.me now me_node known s.c (hearing_reply stage s from call reply) y reading scrub) is
+      ∙ goes.1) (then goes.0)
 
   -- a reply that is left out
   pub skip_plays : decision stage s from call reply ≡ Ignores
       → ((later : World) → Shows stage n later (heard s reply rest) → Finishes stage n s.c later) → Finishes stage n s.c w
   skip_plays is then =
-      after_step Ignores s.c tt (record { group = refl; prior = refl; boot = refl; seq = refl; of_group = refl; view = refl; stripe = refl }) is (λ head.
-      then (world_by stage w (1 + head.place) packet (carried_out stage.setting stage.me me_node known s.c Ignores))
-      (subst (λ (q : List Packet). Shows stage n (world_by stage w (1 + head.place) packet (carried_out stage.setting stage.me me_node known s.c Ignores))
+      after_step Ignores s.c tt (record { group = refl; prior = refl; only = refl; boot = refl; seq = refl; of_group = refl; view = refl; stripe = refl }) is (λ later_scrub head.
+      then (world_by stage w (1 + head.place) packet (carried_out stage.setting stage.me (noted later_scrub) known s.c Ignores))
+      (subst (λ (q : List Packet). Shows stage n (world_by stage w (1 + head.place) packet (carried_out stage.setting stage.me (noted later_scrub) known s.c Ignores))
       (record s { known = known; queue = q })) (append-nil rest)
-      (shows_next stage n w (world_by stage w (1 + head.place) packet (carried_out stage.setting stage.me me_node known s.c Ignores)) s
+      (shows_next stage n w (world_by stage w (1 + head.place) packet (carried_out stage.setting stage.me (noted later_scrub) known s.c Ignores)) s
       (record s { known = known; queue = rest ++ [] }) packet rest [] shows head
-      (heard_move stage n w (world_by stage w (1 + head.place) packet (carried_out stage.setting stage.me me_node known s.c Ignores)) s
-      (with_known me_node known) s.c known (1 + head.place) rest [] shows refl refl refl refl
+      (heard_move stage n w (world_by stage w (1 + head.place) packet (carried_out stage.setting stage.me (noted later_scrub) known s.c Ignores)) s
+      (with_known (noted later_scrub) known) s.c known (1 + head.place) rest [] shows refl refl refl refl
       (record { boot = refl; seq = refl; call = shows.call; known_is = refl; learnt = refl; ballots = refl; replicas = refl; live = refl })
       (record { operation = shows.operation; is = shows.is; brick = refl; boot = refl; seq = refl })
       (record { numbers = refl; reached = refl; packets = refl; own = tt })
-      (record { group = refl; prior = refl; boot = refl; seq = refl; of_group = refl; view = refl; stripe = refl })))))
+      (record { group = refl; prior = refl; only = refl; boot = refl; seq = refl; of_group = refl; view = refl; stripe = refl })))))
 
   -- one that counts, where more are waited for
   pub count_plays : (d : Coordinator) → decision stage s from call reply ≡ Waits d → SameCall s.c d
       → ((later : World) → Shows stage n later (waits (heard s reply rest) d) → Finishes stage n d later) → Finishes stage n s.c w
   count_plays d is same then =
-      after_step (Waits d) d tt same is (λ head.
-      then (world_by stage w (1 + head.place) packet (carried_out stage.setting stage.me me_node known s.c (Waits d)))
-      (subst (λ (q : List Packet). Shows stage n (world_by stage w (1 + head.place) packet (carried_out stage.setting stage.me me_node known s.c (Waits d)))
+      after_step (Waits d) d tt same is (λ later_scrub head.
+      then (world_by stage w (1 + head.place) packet (carried_out stage.setting stage.me (noted later_scrub) known s.c (Waits d)))
+      (subst (λ (q : List Packet). Shows stage n (world_by stage w (1 + head.place) packet (carried_out stage.setting stage.me (noted later_scrub) known s.c (Waits d)))
       (record s { c = d; known = known; queue = q })) (append-nil rest)
-      (shows_next stage n w (world_by stage w (1 + head.place) packet (carried_out stage.setting stage.me me_node known s.c (Waits d))) s
+      (shows_next stage n w (world_by stage w (1 + head.place) packet (carried_out stage.setting stage.me (noted later_scrub) known s.c (Waits d))) s
       (record s { c = d; known = known; queue = rest ++ [] }) packet rest [] shows head
-      (heard_move stage n w (world_by stage w (1 + head.place) packet (carried_out stage.setting stage.me me_node known s.c (Waits d))) s
-      (with_call me_node known me_node.busy s.c.call.seq (Some d)) d known (1 + head.place) rest [] shows refl refl refl refl
+      (heard_move stage n w (world_by stage w (1 + head.place) packet (carried_out stage.setting stage.me (noted later_scrub) known s.c (Waits d))) s
+      (with_call (noted later_scrub) known (noted later_scrub).busy s.c.call.seq (Some d)) d known (1 + head.place) rest [] shows refl refl refl refl
       (record {
         boot = refl;
         seq = refl;
-        call = put_same me_node.calls s.c.call.seq (Some d);
+        call = put_same (noted later_scrub).calls s.c.call.seq (Some d);
         known_is = refl;
         learnt = refl;
         ballots = refl;
@@ -307,17 +345,17 @@ module _ (stage : Stage) (n : ℕ) (w : World) (s : Scene) (from : BrickId) (cal
   pub begin_plays : (d : Coordinator) → decision stage s from call reply ≡ Sends d → SameCall s.c d
       → ((later : World) → Shows stage n later (sent stage (heard s reply rest) d) → Finishes stage n d later) → Finishes stage n s.c w
   begin_plays d is same then =
-      after_step (Sends d) d tt same is (λ head.
-      then (world_by stage w (1 + head.place) packet (carried_out stage.setting stage.me me_node known s.c (Sends d)))
-      (shows_next stage n w (world_by stage w (1 + head.place) packet (carried_out stage.setting stage.me me_node known s.c (Sends d))) s
+      after_step (Sends d) d tt same is (λ later_scrub head.
+      then (world_by stage w (1 + head.place) packet (carried_out stage.setting stage.me (noted later_scrub) known s.c (Sends d)))
+      (shows_next stage n w (world_by stage w (1 + head.place) packet (carried_out stage.setting stage.me (noted later_scrub) known s.c (Sends d))) s
       (sent stage (heard s reply rest) d) packet rest (phase_packets stage.setting stage.me d) shows head
-      (heard_move stage n w (world_by stage w (1 + head.place) packet (carried_out stage.setting stage.me me_node known s.c (Sends d))) s
-      (with_call me_node (max known d.stamp.time) me_node.busy s.c.call.seq (Some d)) d (max known d.stamp.time) (1 + head.place) rest
+      (heard_move stage n w (world_by stage w (1 + head.place) packet (carried_out stage.setting stage.me (noted later_scrub) known s.c (Sends d))) s
+      (with_call (noted later_scrub) (max known d.stamp.time) (noted later_scrub).busy s.c.call.seq (Some d)) d (max known d.stamp.time) (1 + head.place) rest
       (phase_packets stage.setting stage.me d) shows refl refl refl refl
       (record {
         boot = refl;
         seq = refl;
-        call = put_same me_node.calls s.c.call.seq (Some d);
+        call = put_same (noted later_scrub).calls s.c.call.seq (Some d);
         known_is = refl;
         learnt = refl;
         ballots = refl;
@@ -343,17 +381,17 @@ module _ (stage : Stage) (n : ℕ) (w : World) (s : Scene) (from : BrickId) (cal
   pub create_plays : (d : Coordinator) → decision stage s from call reply ≡ Makes d → SameCall s.c d
       → ((later : World) → Shows stage n later (made stage (heard s reply rest) d) → Finishes stage n d later) → Finishes stage n s.c w
   create_plays d is same then =
-      after_step (Makes d) d tt same is (λ head.
-      then (world_by stage w (1 + head.place) packet (carried_out stage.setting stage.me me_node known s.c (Makes d)))
-      (shows_next stage n w (world_by stage w (1 + head.place) packet (carried_out stage.setting stage.me me_node known s.c (Makes d))) s
+      after_step (Makes d) d tt same is (λ later_scrub head.
+      then (world_by stage w (1 + head.place) packet (carried_out stage.setting stage.me (noted later_scrub) known s.c (Makes d)))
+      (shows_next stage n w (world_by stage w (1 + head.place) packet (carried_out stage.setting stage.me (noted later_scrub) known s.c (Makes d))) s
       (made stage (heard s reply rest) d) packet rest (phase_packets stage.setting stage.me d) shows head
-      (heard_move stage n w (world_by stage w (1 + head.place) packet (carried_out stage.setting stage.me me_node known s.c (Makes d))) s
-      (with_call me_node known me_node.busy s.c.call.seq (Some d)) d known (1 + head.place) rest
+      (heard_move stage n w (world_by stage w (1 + head.place) packet (carried_out stage.setting stage.me (noted later_scrub) known s.c (Makes d))) s
+      (with_call (noted later_scrub) known (noted later_scrub).busy s.c.call.seq (Some d)) d known (1 + head.place) rest
       (phase_packets stage.setting stage.me d) shows refl refl refl refl
       (record {
         boot = refl;
         seq = refl;
-        call = put_same me_node.calls s.c.call.seq (Some d);
+        call = put_same (noted later_scrub).calls s.c.call.seq (Some d);
         known_is = refl;
         learnt = refl;
         ballots = refl;
@@ -481,15 +519,15 @@ module _ (stage : Stage) (n : ℕ) (w : World) (s : Scene) (from : BrickId) (cal
         ∙ put_same (seen_at n v) n (with_closed (abort_cause answer) (seen_at n v n))
         ∙ ap (λ (o : Option Operation). with_closed (abort_cause answer) o) (put_same w.operations n (with_seen v (w.operations n)))
 
-    -- the synchronisation goes on without a new read, or ends
-    read_ends : (number : ℕ) (seen : Option Stamp) → EndsAt stage s.c.phase s.c.stamp s.parts seen stored → (job : Option Job) (more : List Packet)
-        (reports : List Report) → HasEnded stage n s.c w (world_after number (then_does (closed seen)
-        (record { node = with_job (closed seen).node job; packets = more; told = []; answers = []; reports = reports })))
-    read_ends number None ends job more reports =
+    -- the synchronisation goes on without a new read, or ends, or the scrub does
+    read_ends : (number : ℕ) (seen : Option Stamp) → EndsAt stage s.c.phase s.c.stamp s.parts seen stored → (job : Option Job) (left : Option Scrub)
+        (more : List Packet) (reports : List Report) → HasEnded stage n s.c w (world_after number (then_does (closed seen)
+        (record { node = record (closed seen).node { job = job; scrub = left }; packets = more; told = []; answers = []; reports = reports })))
+    read_ends number None ends job left more reports =
         closes_at stage n w _ s _ None stored shows refl refl more refl
         (record { boot = refl; call = put_same me_node.calls s.c.call.seq None; learnt = refl; ballots = refl; replicas = refl })
         (read_answered _ None (closed_is None)) ends
-    read_ends number (Some v) ends job more reports =
+    read_ends number (Some v) ends job left more reports =
         closes_at stage n w _ s _ (Some v) stored shows refl refl more refl
         (record { boot = refl; call = put_same me_node.calls s.c.call.seq None; learnt = refl; ballots = refl; replicas = refl })
         (read_answered _ (Some v) (closed_is (Some v))) ends
@@ -522,14 +560,17 @@ module _ (stage : Stage) (n : ℕ) (w : World) (s : Scene) (from : BrickId) (cal
     pub answer_plays : decision stage s from call reply ≡ Ends answer seen stored → EndsAt stage s.c.phase s.c.stamp s.parts seen stored
         → Finishes stage n s.c w
     answer_plays is ends =
-        ends_by stage n w s packet rest shows next.queue shows.up (carried_for stage.setting stage.me now me_node known s.c (Ends answer seen stored) reading)
+        let heard_c : Coordinator = hearing_reply stage s from call reply in
+        ends_by stage n w s packet rest shows next.queue shows.up
+        (carried_for stage.setting stage.me now me_node known s.c heard_c (Ends answer seen stored) reading scrub)
         (heard_step stage n w s from call reply rest shows next
-        ∙ ap (λ (y : Next). carried_for stage.setting stage.me now me_node known s.c y reading) is) (λ head.
-        ends_each (λ (step : NodeStep). HasEnded stage n s.c w (world_after (1 + head.place) step)) stage.setting stage.me now me_node known s.c answer seen
-        stored reading (answered (1 + head.place) seen ends) (λ job. record {
-          stays = read_ends (1 + head.place) seen ends me_node.job [] [];
-          ends = λ told. read_ends (1 + head.place) seen ends None [] (Report.Sync job.group told ∷ []);
-          finishes = read_ends (1 + head.place) seen ends None (synced_packets stage.me job.group job.view.number stage.setting.layout.bricks 0)
+        ∙ ap (λ (y : Next). carried_for stage.setting stage.me now me_node known s.c heard_c y reading scrub) is) (λ head.
+        ends_each (λ (step : NodeStep). HasEnded stage n s.c w (world_after (1 + head.place) step)) stage.setting stage.me now me_node known s.c heard_c answer
+        seen stored reading scrub (answered (1 + head.place) seen ends) (λ job. record {
+          stays = read_ends (1 + head.place) seen ends me_node.job me_node.scrub [] [];
+          ends = λ told. read_ends (1 + head.place) seen ends None me_node.scrub [] (Report.Sync job.group told ∷ []);
+          finishes = read_ends (1 + head.place) seen ends None me_node.scrub (synced_packets stage.me job.group job.view.number stage.setting.layout.bricks 0)
               (Report.Sync job.group (synced_answer job.view.number) ∷ []);
           reads = λ attempt group kept. next_read (1 + head.place) seen ends (record job { attempt = attempt }) group;
-        }))
+        })
+        (λ told. read_ends (1 + head.place) seen ends me_node.job None [] (Report.Scrub s.c.call (members_alone s.c.only) told ∷ [])))

@@ -10,13 +10,13 @@ use Rattle.messages.specs.declared.packets.Packet.{Packet}
 use Rattle.messages.specs.declared.replies.Reply.{Reply}
 use Rattle.messages.specs.declared.requests.Request.{Request}
 use Rattle.protocol.specs.Views.{is_later, view_told}
-use Rattle.protocol.specs.Coordinators.{Coordinator, Next, Ignores, Waits, Sends, Makes, Ends, on_reply}
-use Rattle.protocol.specs.Nodes.{reading as reading_node, carried_for, job_reading, read_closed, synced_at, with_job, Node, NodeStep, put, requested, replied_at, received, carried_out, known_after, fresh_stamp, invoked, began, group_at, stopped, restarted, first_node, proposed, heard, with_known, with_round, with_learnt, node_taught_by, view_counted, lists_fit}
+use Rattle.protocol.specs.Coordinators.{Coordinator, Next, Ignores, Waits, Sends, Makes, Ends, on_reply, hearing, counts_at}
+use Rattle.protocol.specs.Nodes.{reading as reading_node, carried_for, job_reading, read_closed, synced_at, with_job, Node, NodeStep, put, requested, replied_at, received, carried_out, known_after, fresh_stamp, invoked, began, group_at, stopped, restarted, proposed, heard, with_known, with_round, with_learnt, node_taught_by, view_counted, lists_fit, with_scrub, scrub_of, scrubbed_at, scrubbing, scrub_coordinator}
 use Rattle.protocol.specs.Settings.{Setting}
 use Rattle.protocol.specs.Jobs.{Job, begun_job}
-use Rattle.view_laws.proofs.SyncReads.{carried_each, synced_at_each, read_call}
+use Rattle.view_laws.proofs.SyncReads.{carried_each, synced_at_each, read_call, scrubbed_at_each}
 use Rattle.fab_base.specs.declared.identities.GroupId.{GroupId}
-use Rattle.protocol.specs.Worlds.{World, Event, Found, Before, After, first_world, world_found, run}
+use Rattle.protocol.specs.Worlds.{World, Event, Found, Before, After, first_brick, first_world, world_found, run}
 use Rattle.protocol_laws.specs.Laws.{WasSent}
 use Rattle.protocol_laws.proofs.BooksEvents.{start_fits}
 use Rattle.protocol_laws.proofs.Left.{IsLeft, Leaves, always_leaves, kept_of}
@@ -27,6 +27,8 @@ use Rattle.protocol.proofs.Tables.{put_each}
 use Rattle.protocol.proofs.Events.{EventCases, step_on, always_where}
 use Rattle.fab_base.specs.declared.asks.Ask.{Ask}
 use Rattle.std.proofs.lemmas.Bool.{cond_both}
+use Rattle.protocol.specs.Scrubs.{Scrub, lagging_after}
+use Rattle.fab_base.specs.declared.identities.StripeNo.{StripeNo}
 
 -- the brick is as another in what it has learnt and in its parts of stripes, and has as many live records, of each view too
 pub record IsLike (old new : Node) : Type 0 where
@@ -67,11 +69,11 @@ module _ (setting : Setting) (P : Node → Type 0) (same : IsOfParts P) (request
   decision_keeps me node known c (Ends answer seen stored) =
       same node (carried_out setting me node known c (Ends answer seen stored)).node (record { learnt = refl; live = refl; live_in = refl; replicas = refl })
 
-  -- after its step, or after a read of the brick's synchronisation, which may be followed by another
-  goes_keeps : (me : BrickId) (now : ℕ) (node : Node) (known : ℕ) (c : Coordinator) (z : Next) (reading : Option Job) → P node
-      → P (carried_for setting me now node known c z reading).node
-  goes_keeps me now node known c z reading holds =
-      carried_each (λ (step : NodeStep). P step.node) setting me now node known c z reading (decision_keeps me node known c z holds)
+  -- after its step, or after a read of the brick's own, which may be followed by another
+  goes_keeps : (me : BrickId) (now : ℕ) (node : Node) (known : ℕ) (c heard : Coordinator) (z : Next) (reading : Option Job) (scrub : Option Scrub) → P node
+      → P (carried_for setting me now node known c heard z reading scrub).node
+  goes_keeps me now node known c heard z reading scrub holds =
+      carried_each (λ (step : NodeStep). P step.node) setting me now node known c heard z reading scrub (decision_keeps me node known c z holds)
       (λ job is answer seen stored ends.
       let closed : Node = (read_closed me node known c answer seen stored).node in
       record {
@@ -81,6 +83,14 @@ module _ (setting : Setting) (P : Node → Type 0) (same : IsOfParts P) (request
         reads = λ attempt group kept.
             same node (reading_node closed (record job { attempt = attempt }) (read_call group (record job { attempt = attempt }) me now closed))
             (record { learnt = refl; live = refl; live_in = refl; replicas = refl }) holds;
+      })
+      (record {
+        begins = λ s is d sends.
+            same node (carried_out setting me (with_scrub node (Some (record s { lagging = lagging_after s heard }))) known c (Sends d)).node
+            (record { learnt = refl; live = refl; live_in = refl; replicas = refl }) holds;
+        ends = λ s is answer seen stored ends.
+            let closed : Node = (read_closed me node known c answer seen stored).node in
+            same node (with_scrub closed None) (record { learnt = refl; live = refl; live_in = refl; replicas = refl }) holds;
       })
 
   -- and after one begins
@@ -92,6 +102,14 @@ module _ (setting : Setting) (P : Node → Type 0) (same : IsOfParts P) (request
       let job = begun_job group (node.learnt group.0).view in
       same node (reading_node node job (read_call kept job me now node)) (record { learnt = refl; live = refl; live_in = refl; replicas = refl }) holds)
 
+  -- and after a scrub begins
+  scrubbed_keeps : (me : BrickId) (now : ℕ) (node : Node) (group : GroupId) (stripe : StripeNo) (members : List BrickId) → P node
+      → P (scrubbed_at setting me now node group stripe members).node
+  scrubbed_keeps me now node group stripe members holds =
+      scrubbed_at_each (λ (step : NodeStep). P step.node) setting me now node group stripe members holds
+      (λ kept is. same node (scrubbing node (scrub_coordinator kept me now node group stripe members))
+      (record { learnt = refl; live = refl; live_in = refl; replicas = refl }) holds)
+
   -- after a reply to an operation or to a proposal
   replied_keeps : (me : BrickId) (now : ℕ) (from : BrickId) (node : Node) (call : Call) (reply : Reply) (found : Option Coordinator) → P node
       → P (replied_at setting me now from node call reply found).node
@@ -101,9 +119,9 @@ module _ (setting : Setting) (P : Node → Type 0) (same : IsOfParts P) (request
       same node (record (with_known node (known_after node.known reply)) { seq = seq; round = round; proposal = proposal })
       (record { learnt = refl; live = refl; live_in = refl; replicas = refl }) holds)
   replied_keeps me now from node call reply (Some c) holds =
-      goes_keeps me now node (known_after node.known reply) c
+      goes_keeps me now node (known_after node.known reply) c (hearing c from reply (counts_at setting.layout.block c from.0 call reply))
       (on_reply setting.layout.block setting.code (fresh_stamp me c.stamp.view now node.boot (known_after node.known reply)) c from call reply)
-      (job_reading node.job c.call.seq) holds
+      (job_reading node.job c.call.seq) (scrub_of node.scrub c.call.seq) holds
 
   -- after a reply, which may teach a view
   heard_keeps : (me : BrickId) (now : ℕ) (from : BrickId) (node : Node) (call : Call) (reply : Reply) → NodeViews setting.layout node → P node
@@ -191,6 +209,9 @@ module _ (setting : Setting) (P : Node → Type 0) (same : IsOfParts P) (request
     syncs = λ brick group may.
         have_by w brick.0 (synced_at setting brick (w.clocks brick.0) (w.nodes brick.0) group).node all
         (synced_keeps brick (w.clocks brick.0) (w.nodes brick.0) group (all brick.0));
+    scrubs = λ brick group stripe members may.
+        have_by w brick.0 (scrubbed_at setting brick (w.clocks brick.0) (w.nodes brick.0) group stripe members).node all
+        (scrubbed_keeps brick (w.clocks brick.0) (w.nodes brick.0) group stripe members (all brick.0));
     handles = λ number packet at up.
         have_by w packet.to.0 (step_on setting w packet).node all
         (message_keeps (w.clocks packet.to.0) packet.from packet.to (w.nodes packet.to.0) packet.message (known.1.nodes packet.to.0) (all packet.to.0));
@@ -213,7 +234,7 @@ module _ (setting : Setting) (P : Node → Type 0) (same : IsOfParts P) (request
           (left_keeps w brick.0 (w.after brick.0) (known.1.nodes brick.0) (known.0 brick.0 down) all)
 
   -- what holds of a fresh brick holds always
-  pub always_kept : P (first_node setting.layout) → (events : List Event) (i : ℕ) → P ((run setting events (first_world setting.layout)).nodes i)
+  pub always_kept : P (first_brick setting.layout) → (events : List Event) (i : ℕ) → P ((run setting events (first_world setting.layout)).nodes i)
   always_kept fresh =
       always_where AllHave (λ w. Leaves setting w × StampViews setting.layout w) setting (λ events. (always_leaves setting events, always_views setting events))
       (λ i. fresh) have_cases

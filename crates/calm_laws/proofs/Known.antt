@@ -5,7 +5,7 @@ use Rattle.protocol.specs.Views.{view_of, first_kept, kept_by}
 use Rattle.std.proofs.Common.{List, Some, [], false, length, suc, true, zero, ℕ, ◌++◌, ◌+◌, ◌<◌, ◌≡◌, ◌≤◌, ◌⊎◌}
 use Rattle.std.specs.Prelude.{filter, nat_eq, slice_get, map, ◌-◌}
 use Rattle.protocol_laws.proofs.Logs.{LogAscends}
-use Rattle.calm_laws.specs.Laws.{most_records}
+use Rattle.calm_laws.specs.Laws.{most_records, CountsThese}
 use Rattle.fab_base.specs.Layouts.{brick_at, group_of, seat_in, Group}
 use Rattle.fab_base.specs.Stamps.{stamp_below}
 use Rattle.fab_base.specs.declared.stamps.Stamp.{Stamp}
@@ -93,6 +93,7 @@ pub record KnownBack (setting : Setting) (w : World) (c : Coordinator) (bricks :
 -- what is known of an open operation and its stripe: no brick has come to a stamp of a later view in its own, and none holds its stamp
 pub record Known (setting : Setting) (w : World) (n : ℕ) (o : Operation) (c : Coordinator) (bricks : List BrickId) : Type 0 where
   pub call : KnownCall setting w n o c
+  pub counts : CountsThese c bricks
   pub messages : KnownMessages setting w n o c
   pub logs : KnownLogs setting w c.call.group.0 c.call.stripe.0 c.call.view.0 c.group
   pub top_view : (i : ℕ) → (top_of (replica_at (w.nodes i) c.call)).view.0 ≤ c.stamp.view.0

@@ -1,6 +1,6 @@
 -- Where just a quorum of an operation's members hear one another, its Collects leave each of them its version only.
 use Rattle.protocol.specs.Views.{kept_by}
-use Rattle.std.proofs.Common.{◌≡◌, ℕ, suc, ◌+◌, ◌≤◌, ◌&&◌, false, true, nat_lt, List, [], ◌∷◌, ◌++◌, map, Option, Some, None, refl, sym, ap, ◌∙◌, subst, ⊎_elim, take, eqb-true, inl}
+use Rattle.std.proofs.Common.{◌≡◌, ℕ, suc, ◌+◌, ◌≤◌, ◌&&◌, false, true, nat_lt, List, [], ◌∷◌, ◌++◌, map, Option, Some, None, refl, sym, ap, ◌∙◌, subst, ⊎_elim, eqb-true, inl}
 use Rattle.std.specs.Prelude.{is_some, nat_eq, slice_get, ◌-◌}
 use Rattle.std.proofs.lemmas.Bool.{false≢true, or_cases, and_from, cond-true}
 use Rattle.std.proofs.lemmas.Option.{same_Some}
@@ -42,6 +42,7 @@ use Rattle.calm_laws.proofs.Storing.{held_newest}
 use Rattle.calm_laws.specs.Laws.{AreCollects, AreJustQuorum, CollectsLeaveOne, EncodesBlocks, HasOnly, HasStripe, IsCollect, IsMemberAmong, LeavesOne, most_records}
 use Rattle.calm_laws.specs.Logs.{is_stripe, log_in}
 use Rattle.quorum.specs.Quorums.{quorum_of}
+use Rattle.calm_laws.proofs.Members.{counts_of}
 
 -- an operation that has made a version has made its coordinator's
 made_is : (c : Coordinator) (o : Operation) (p : Phase) → MadeInPhase c o p → o.made ≡ true → IsMade c o
@@ -116,7 +117,7 @@ ends_stored stage c o parts t None (Some u) its made version ends =
 
 module _ (setting : Setting) (events : List Event) (n : ℕ) (bricks : List BrickId) (sound : IsSound setting) (encodes : EncodesBlocks setting)
     (small : setting.layout.records ≤ most_records) (calm : IsCalm setting (run setting events (first_world setting.layout)) n bricks)
-    (has_stripe : HasStripe setting calm.operation) (exactly : AreJustQuorum calm.coordinator bricks) (t : Stamp) where
+    (has_stripe : HasStripe setting calm.operation calm.coordinator bricks) (exactly : AreJustQuorum calm.coordinator bricks) (t : Stamp) where
   abbrev w : World
   w = run setting events (first_world setting.layout)
 
@@ -134,7 +135,8 @@ module _ (setting : Setting) (events : List Event) (n : ℕ) (bricks : List Bric
     now = w.clocks calm.operation.brick.0;
     call = c.call;
     group = c.group;
-    quorum = take (quorum_of c.group) (chosen bricks 0 c.group.members);
+    quorum = counts_of c.only (quorum_of c.group) (chosen bricks 0 c.group.members);
+    only = c.only;
     prior = kept_by c.prior c.group;
     may_ask = may_ask_prior w c bricks;
     old = λ i. ((w.nodes i).replicas c.call.group.0 (c.call.view.0 - 1) c.call.stripe.0).log;

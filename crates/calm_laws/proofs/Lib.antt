@@ -27,8 +27,11 @@ pub mod Hears
 pub mod Kept
 pub mod Known
 pub mod Leaving
+pub mod LoneScrubs
 pub mod Looking
+pub mod Members
 pub mod Once
+pub mod OpenScrubs
 pub mod OrderPhases
 pub mod OrderRuns
 pub mod Ordering

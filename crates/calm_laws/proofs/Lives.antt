@@ -21,8 +21,8 @@ use Rattle.protocol.specs.Replicas.{Replica, Reaction, top_of, is_held, is_wante
 use Rattle.messages.specs.declared.calls.Call.{Call}
 use Rattle.fab_base.specs.declared.member_lists.View.{View}
 use Rattle.protocol.specs.Views.{Learnt, is_later, kept_by, first_kept}
-use Rattle.protocol.specs.Nodes.{Node, NodeStep, put, requested, with_replica, with_learnt, replica_at, full_at, group_at, live_before, view_at, first_node}
-use Rattle.protocol.specs.Worlds.{World, Event, first_world, run}
+use Rattle.protocol.specs.Nodes.{Node, NodeStep, put, requested, with_replica, with_learnt, replica_at, full_at, group_at, live_before, view_at}
+use Rattle.protocol.specs.Worlds.{World, Event, first_brick, first_world, run}
 use Rattle.protocol.specs.Settings.{Setting}
 use Rattle.protocol_laws.proofs.StampViews.{NodeViews}
 use Rattle.protocol_laws.proofs.Teaching.{newly_learnt, dropped_each}
@@ -789,7 +789,7 @@ pub always_count : (setting : Setting) (events : List Event) → AllCount settin
 always_count setting events =
     always_kept setting (CountsLives setting.layout) (counts_same setting.layout) (request_counts setting) (view_counts setting) (sync_counts setting)
     (record {
-      live_is = sym (none_at_all (group_lives (first_node setting.layout)) setting.layout.groups 0 (λ j. none_live 2));
+      live_is = sym (none_at_all (group_lives (first_brick setting.layout)) setting.layout.groups 0 (λ j. none_live 2));
       lives = λ g e group is. sym (fresh_stripes setting.layout.block e group.stripes);
       none = λ g e is. refl;
       beyond = λ g e above. refl;

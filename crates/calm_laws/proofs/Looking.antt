@@ -14,7 +14,7 @@ use Rattle.calm_laws.proofs.Ordering.{told_from}
 use Rattle.calm_laws.proofs.PhaseRuns.{Cast, known_then, open_run, stale_then}
 use Rattle.calm_laws.proofs.Rooms.{Room}
 use Rattle.calm_laws.proofs.Rounds.{stays_room}
-use Rattle.calm_laws.proofs.Scenes.{Closes, Each, Fits, Part, Scene, Seated, Stage, asked_of, part_after, reaction, sent, of_same}
+use Rattle.calm_laws.proofs.Scenes.{Closes, Each, Fits, Part, Scene, Seated, Stage, asked_of, part_after, reaction, sent, of_same, IsForAll}
 use Rattle.calm_laws.proofs.Starts.{AreFew, recover_first}
 use Rattle.calm_laws.proofs.StorePhases.{fits_in_phase}
 use Rattle.calm_laws.proofs.Storing.{with_reaction}
@@ -28,7 +28,7 @@ use Rattle.messages.specs.declared.requests.Request.{Request}
 use Rattle.messages.specs.declared.requests.Version.{Version}
 use Rattle.messages.specs.declared.requests.Want.{Want}
 use Rattle.protocol.specs.Calms.{early}
-use Rattle.protocol.specs.Coordinators.{Coordinator, Ends, Next, Sends, answered_fast, answered_fast_at, answers_phase, bytes_at, decided, fast_version, fast_version_at, in_phase, pieces_of, request_of}
+use Rattle.protocol.specs.Coordinators.{Coordinator, Ends, Next, Sends, answered_fast, answered_fast_at, answers_phase, bytes_at, decided, fast_version, fast_version_at, in_phase, pieces_of, request_of, asks_each}
 use Rattle.protocol.specs.Nodes.{full_at, put, reply_packets}
 use Rattle.protocol.specs.Replicas.{Reaction, Replica, handle, is_wanted, newest_of, stays, told_version, top_of}
 use Rattle.protocol.specs.declared.phases.Counted.{Counted}
@@ -82,6 +82,7 @@ told_quiet stage call replicas want (x ∷ xs) known = told_quiet stage call rep
 -- A phase that looks: what it asks, that what is told answers it, and that it decides to answer, or to recover.
 pub record IsLooking (stage : Stage) (s : Scene) (want : Want) : Type 0 where
   pub look : IsLook s.c.phase
+  pub all : IsForAll stage s.c.phase
   pub asks : (x : Seated) → asked_of stage s.c x ≡ Request.Read want
   pub fits : (x : Seated) → Fits stage s.c x
   pub answers_none : (x : Seated) (order : Stamp) → answers_phase stage.setting.layout.block s.c.stamp x.seat s.c.phase (Found order None) ≡ true
@@ -98,6 +99,7 @@ pub looks_looking : (stage : Stage) (s : Scene) → s.c.phase ≡ Looks → IsLo
 unfolding request_of
 looks_looking stage s phase = record {
   look = subst (λ (p : Phase). IsLook p) (sym phase) tt;
+  all = inl (ap (λ (p : Phase). asks_each p) phase);
   asks = λ x. asked_in_phase stage.setting.code s.c Looks x.seat phase;
   fits = λ x. fits_in_phase stage s.c Looks x phase refl;
   answers_none = λ x order. ap (λ (p : Phase). answers_phase stage.setting.layout.block s.c.stamp x.seat p (Found order None)) phase;
@@ -115,10 +117,11 @@ looks_looking stage s phase = record {
     go counted None fresh is = inl is
     go counted (Some v) fresh is = inr (stage.setting.code.decode s.c.group.m (pieces_of counted), Some v, is)
 
-pub looks_at_looking : (stage : Stage) (s : Scene) (j : ℕ) → s.c.phase ≡ LooksAt j → IsLooking stage s (Want.Seat j)
+pub looks_at_looking : (stage : Stage) (s : Scene) (j : ℕ) → stage.only ≡ None → s.c.phase ≡ LooksAt j → IsLooking stage s (Want.Seat j)
 unfolding request_of
-looks_at_looking stage s j phase = record {
+looks_at_looking stage s j every phase = record {
   look = subst (λ (p : Phase). IsLook p) (sym phase) tt;
+  all = inr every;
   asks = λ x. asked_in_phase stage.setting.code s.c (LooksAt j) x.seat phase;
   fits = λ x. fits_in_phase stage s.c (LooksAt j) x phase refl;
   answers_none = λ x order. ap (λ (p : Phase). answers_phase stage.setting.layout.block s.c.stamp x.seat p (Found order None)) phase;
@@ -184,15 +187,15 @@ module _ (stage : Stage) (cast : Cast stage) (logs : ℕ → List Version) (lore
       let own = first.stamp_known in
       record {
         open_is = record {
-          in_view = record { of = of_same stage s.c (in_phase (having s.c counted) Recovers) (record { group = refl; prior = refl; boot = refl; seq = refl; of_group = refl; view = refl; stripe = refl }) first.open_is.in_view.of; ahead = refl; own = refl };
+          in_view = record { of = of_same stage s.c (in_phase (having s.c counted) Recovers) (record { group = refl; prior = refl; only = refl; boot = refl; seq = refl; of_group = refl; view = refl; stripe = refl }) first.open_is.in_view.of; ahead = refl; own = refl };
           counted = refl;
           stale = told_all stage s.c first.open_is.others before;
-          old = stale_then stage s.c (in_phase (having s.c counted) Recovers) (record { group = refl; prior = refl; boot = refl; seq = refl; of_group = refl; view = refl; stripe = refl }) refl
+          old = stale_then stage s.c (in_phase (having s.c counted) Recovers) (record { group = refl; prior = refl; only = refl; boot = refl; seq = refl; of_group = refl; view = refl; stripe = refl }) refl
               (told_all stage s.c first.open_is.others before) (told_replies stage s.c first.open_is.others before);
           others = cast.rest;
           others_seated = cast.rest_seated;
           waiting = ap (λ (q : List Packet). told_all stage s.c first.open_is.others before ++ q)
-              (cast.sends (in_phase (having s.c counted) Recovers) (record { of = of_same stage s.c (in_phase (having s.c counted) Recovers) (record { group = refl; prior = refl; boot = refl; seq = refl; of_group = refl; view = refl; stripe = refl }) first.open_is.in_view.of; ahead = refl; own = refl }));
+              (cast.sends (in_phase (having s.c counted) Recovers) (record { of = of_same stage s.c (in_phase (having s.c counted) Recovers) (record { group = refl; prior = refl; only = refl; boot = refl; seq = refl; of_group = refl; view = refl; stripe = refl }) first.open_is.in_view.of; ahead = refl; own = refl }));
         };
         quiet = looks_quiet stage s.c want looking_is.asks first.open_is.others before (max known s.c.stamp.time);
         round = first.round;
@@ -221,7 +224,7 @@ module _ (stage : Stage) (cast : Cast stage) (logs : ℕ → List Version) (lore
   -- the read closes
   pub look_first : s.c.call.phase ≤ 2 → IsUnheld logs s.c.stamp cast.xs → Closes stage s
   look_first early unheld =
-      open_run stage cast s first.open_is (IsStill stage replicas) f (omega (arith, early)) (λ x seated. looking_is.fits x)
+      open_run stage cast s first.open_is looking_is.all (IsStill stage replicas) f (omega (arith, early)) (λ x seated. looking_is.fits x)
       (still_keeps stage s.c want replicas looking_is.asks) (still_replies stage s.c want replicas looking_is.asks)
       (each_then (λ (x : Seated). ((s.parts x.brick.0).replica.log ≡ logs x.brick.0) × Room stage (s.parts x.brick.0)
       × IsLow s.c.stamp.view.0 early_time (top_of (s.parts x.brick.0).replica)) (λ (x : Seated). IsStill stage replicas x.brick.0 (s.parts x.brick.0)) cast.xs
@@ -248,7 +251,7 @@ module _ (stage : Stage) (cast : Cast stage) (logs : ℕ → List Version) (lore
           → Carries stage (after_replies stage s known parts first.open_is.others before) (decides stage s.c known counted)
       go before parts still (inl is) =
           subst (λ (z : Next). Carries stage (after_replies stage s known parts first.open_is.others before) z) (sym is) (
-            record { group = refl; prior = refl; boot = refl; seq = refl; of_group = refl; view = refl; stripe = refl },
+            record { group = refl; prior = refl; only = refl; boot = refl; seq = refl; of_group = refl; view = refl; stripe = refl },
             recover_first stage cast logs lore few
                 (sent stage (after_replies stage s known parts first.open_is.others before) (in_phase (having s.c counted) Recovers))
                 (recovery_first counted before parts known known_is still) refl (omega (arith, early)) unheld,

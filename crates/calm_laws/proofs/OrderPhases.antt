@@ -1,10 +1,10 @@
 -- The three phases that order, alone: each closes, in its first round or in its second.
-use Rattle.std.proofs.Common.{List, [], ap, arith, false, inl, inr, map, refl, true, ℕ, ◌+◌, ◌<◌, ◌∙◌, ◌∷◌, ◌≡◌, ◌≤◌}
+use Rattle.std.proofs.Common.{List, [], ap, arith, false, inl, inr, map, refl, true, ℕ, ◌+◌, ◌<◌, ◌∙◌, ◌∷◌, ◌≡◌, ◌≤◌, None}
 use Rattle.std.specs.Prelude.{◌-◌, ◌^◌}
-use Rattle.calm_laws.proofs.Asking.{Holds, each_then}
+use Rattle.calm_laws.proofs.Asking.{Holds, each_then, each_so}
 use Rattle.calm_laws.proofs.Counts.{Carries, counted_of}
 use Rattle.calm_laws.proofs.Decided.{order_decides, recover_decides}
-use Rattle.calm_laws.proofs.Descending.{are_taking, IsSet, Lore, after_replies, down_phase, having, read_back_goes, told_fits, Ground, IsAbove}
+use Rattle.calm_laws.proofs.Descending.{are_taking, IsSet, Lore, after_replies, down_phase, having, read_back_goes, told_fits, Ground, IsAbove, all_holders}
 use Rattle.calm_laws.proofs.Finds.{Has, finding, some_of, total_below}
 use Rattle.protocol_laws.proofs.Logs.{LogAscends}
 use Rattle.calm_laws.proofs.OrderRuns.{IsOrdering, IsUnheld, held_below}
@@ -12,14 +12,14 @@ use Rattle.calm_laws.proofs.Ordering.{TameWith, looking, order_fits, orders_ask,
 use Rattle.calm_laws.proofs.PhaseRuns.{Cast, IsAfter, next_open}
 use Rattle.calm_laws.proofs.Rounds.{order_whole, reads_whole}
 use Rattle.calm_laws.proofs.Scenes.{Closes, Each, Part, Scene, Seated, Stage, made, sent, IsInView, view_ahead}
-use Rattle.calm_laws.proofs.StorePhases.{each_so, store_phase}
+use Rattle.calm_laws.proofs.StorePhases.{store_phase}
 use Rattle.fab_base.specs.Stamps.{first_stamp, stamp_below, stamp_same}
 use Rattle.fab_base.specs.declared.stamps.Stamp.{Stamp}
 use Rattle.messages.specs.declared.replies.Reply.TheVariants.{Later, Ordered}
 use Rattle.messages.specs.declared.requests.Look.TheVariants.{Below}
 use Rattle.messages.specs.declared.requests.Version.{Version}
 use Rattle.messages.specs.declared.requests.Want.{Want}
-use Rattle.protocol.specs.Coordinators.{Coordinator, Makes, Next, answers_phase, greatest_found, in_phase, may_be_found, read_back, looks_back}
+use Rattle.protocol.specs.Coordinators.{Coordinator, Makes, Next, answers_phase, greatest_found, in_phase, may_be_found, read_back, looks_back, asks_each}
 use Rattle.protocol.specs.Replicas.{is_held}
 use Rattle.protocol.specs.declared.phases.Counted.{Counted}
 use Rattle.protocol.specs.declared.phases.Phase.{Phase}
@@ -29,7 +29,7 @@ use Rattle.protocol.specs.declared.phases.Phase.TheVariants.{Descends, Orders, R
 pub after_in_phase : (c : Coordinator) → (counted : List Counted) (phase : Phase) → looks_back phase ≡ false
     → IsAfter c (in_phase (having c counted) phase)
 after_in_phase c counted phase ahead = record {
-  same = record { group = refl; prior = refl; boot = refl; seq = refl; of_group = refl; view = refl; stripe = refl };
+  same = record { group = refl; prior = refl; only = refl; boot = refl; seq = refl; of_group = refl; view = refl; stripe = refl };
   ahead = ahead;
   own = view_ahead c.stamp phase ahead;
   later = refl;
@@ -44,7 +44,7 @@ floor_below stage cast logs lore t parts tame unheld = by lore.ground
     by : (ground : Ground stage cast logs lore.phases) → IsAbove stage cast logs lore.phases ground t
     by (inr back) = tt
     by (inl at) =
-        go cast.xs (let many = at.holders in let one = lore.some_block in some_of (λ x. is_held at.floor (logs x.brick.0)) cast.xs (omega (arith, many, one)))
+        go cast.xs (let many = all_holders stage cast logs at in let one = lore.some_block in some_of (λ x. is_held at.floor (logs x.brick.0)) cast.xs (omega (arith, many, one)))
         tame unheld lore.ascends
       where
         go : (ys : List Seated) → Has (λ x. is_held at.floor (logs x.brick.0) ≡ true) ys → Holds (TameWith stage t logs) parts ys → IsUnheld logs t ys
@@ -65,8 +65,9 @@ module _ (stage : Stage) (cast : Cast stage) (logs : ℕ → List Version) (lore
   abbrev pub write_goes : List Counted → Next
   write_goes counted = Makes (in_phase (having s.c counted) Stores)
 
-  pub write_ordering : s.c.phase ≡ Orders → IsOrdering stage cast logs s (λ x log. Ordered) write_goes
-  write_ordering phase = record {
+  pub write_ordering : stage.only ≡ None → s.c.phase ≡ Orders → IsOrdering stage cast logs s (λ x log. Ordered) write_goes
+  write_ordering every phase = record {
+    all = inr every;
     so = order_whole stage s.c (orders_ask stage s.c phase);
     fits = λ x seated. order_fits stage s.c s.c.stamp x (orders_ask stage s.c phase x);
     answers = each_so (λ (x : Seated). answers_phase stage.setting.layout.block s.c.stamp x.seat s.c.phase Ordered ≡ true)
@@ -84,7 +85,7 @@ module _ (stage : Stage) (cast : Cast stage) (logs : ℕ → List Version) (lore
       → Holds (TameWith stage s.c.stamp logs) parts cast.xs
       → Carries stage (after_replies stage s known parts others before) (write_goes (map (counted_of (λ x. Ordered)) cast.xs))
   write_accepted in_view early others before parts known tame = (
-    record { group = refl; prior = refl; boot = refl; seq = refl; of_group = refl; view = refl; stripe = refl },
+    record { group = refl; prior = refl; only = refl; boot = refl; seq = refl; of_group = refl; view = refl; stripe = refl },
     store_phase stage cast
         (made stage (after_replies stage s known parts others before) (in_phase (having s.c (map (counted_of (λ x. Ordered)) cast.xs)) Stores))
         (next_open stage cast s.c (in_phase (having s.c (map (counted_of (λ x. Ordered)) cast.xs)) Stores) others before
@@ -101,6 +102,7 @@ module _ (stage : Stage) (cast : Cast stage) (logs : ℕ → List Version) (lore
   pub recover_ordering : s.c.phase ≡ Recovers
       → IsOrdering stage cast logs s (looking (Below s.c.stamp) Want.All) recover_goes
   recover_ordering phase = record {
+    all = inl (ap (λ (p : Phase). asks_each p) phase);
     so = reads_whole stage s.c (Below s.c.stamp) Want.All (recovers_ask stage s.c phase);
     fits = λ x seated. read_fits stage s.c s.c.stamp (Below s.c.stamp) Want.All x (recovers_ask stage s.c phase x);
     answers = each_then (λ (x : Seated). may_be_found stage.setting.layout.block s.c.stamp (told_below logs s.c.stamp Want.All x) ≡ true)
@@ -143,6 +145,6 @@ module _ (stage : Stage) (cast : Cast stage) (logs : ℕ → List Version) (lore
       → Carries stage (after_replies stage s known parts others before)
       (recover_goes (map (counted_of (λ x. looking (Below s.c.stamp) Want.All x (logs x.brick.0))) cast.xs))
   recover_accepted in_view later early above others before parts known tame =
-      read_back_goes stage cast logs lore s in_view s.c.stamp Want.All above others before parts known tame later (omega (arith, early))
+      read_back_goes stage cast logs lore s in_view s.c.stamp Want.All above cast.xs (inl refl) others before parts known tame later (omega (arith, early))
       (λ v over falls. lower_closes in_view later early others before parts known
       (map (counted_of (finding (told_below logs s.c.stamp Want.All))) cast.xs) v tame over (omega (arith, falls)))

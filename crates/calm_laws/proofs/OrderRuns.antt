@@ -11,7 +11,7 @@ use Rattle.calm_laws.proofs.Ordering.{TameWith}
 use Rattle.calm_laws.proofs.PhaseRuns.{Cast, IsOpen, known_then, open_run}
 use Rattle.calm_laws.proofs.Rooms.{IsTame, newest_within}
 use Rattle.calm_laws.proofs.Rounds.{MixedWith, OrdersWhole, mixed_keeps, mixed_replies, mixed_reply, tame_counted, unrefused_tame}
-use Rattle.calm_laws.proofs.Scenes.{Closes, Each, Fits, IsSeated, Part, Scene, Seated, Stage}
+use Rattle.calm_laws.proofs.Scenes.{Closes, Each, Fits, IsSeated, Part, Scene, Seated, Stage, IsForAll}
 use Rattle.fab_base.proofs.StampOrder.{stamp_below_irrefl, stamp_neither_below, stamp_not_below_trans}
 use Rattle.fab_base.specs.Stamps.{first_stamp, stamp_below, stamp_same}
 use Rattle.fab_base.specs.declared.stamps.Stamp.{Stamp}
@@ -70,6 +70,7 @@ IsUnheld logs t xs = Each (λ x. is_held t (logs x.brick.0) ≡ false) xs
 -- goes on.
 pub record IsOrdering (stage : Stage) (cast : Cast stage) (logs : ℕ → List Version) (s : Scene) (answer : Seated → List Version → Reply)
     (goes : List Counted → Next) : Type 0 where
+  pub all : IsForAll stage s.c.phase
   pub so : OrdersWhole stage s.c answer
   pub fits : (x : Seated) → IsSeated stage x → Fits stage s.c x
   pub answers : Each (λ x. answers_phase stage.setting.layout.block s.c.stamp x.seat s.c.phase (answer x (logs x.brick.0)) ≡ true) cast.xs
@@ -135,7 +136,7 @@ module _ (stage : Stage) (cast : Cast stage) (logs : ℕ → List Version) (s : 
       (ordered_again (fresh_at stage s.c (known_of tops)) (having s.c (counts_of tops)) r))
       → Closes stage s
   ordering_run tops mixed accepted refused =
-      open_run stage cast s open_is (MixedWith stage s.c.stamp tops logs) (replies_of tops) early ordering.fits
+      open_run stage cast s open_is ordering.all (MixedWith stage s.c.stamp tops logs) (replies_of tops) early ordering.fits
       (mixed_keeps stage s.c answer tops logs later ordering.so) (mixed_replies stage s.c answer tops logs ordering.so) mixed
       (each_then (λ (x : Seated). answers_phase stage.setting.layout.block s.c.stamp x.seat s.c.phase (answer x (logs x.brick.0)) ≡ true)
       (λ (x : Seated). answers_phase stage.setting.layout.block s.c.stamp x.seat s.c.phase (replies_of tops x) ≡ true) cast.xs

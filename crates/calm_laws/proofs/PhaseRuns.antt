@@ -1,20 +1,24 @@
 -- A phase alone: what is left of earlier phases is left out, each member is asked, and the first quorum of them decides.
-use Rattle.fab_base.specs.Layouts.{seat_in}
-use Rattle.std.proofs.Common.{None, List, [], ap, ap₂, arith, false, length, map, refl, subst, sym, true, zero-add, ℕ, ◌++◌, ◌+◌, ◌<◌, ◌∙◌, ◌∷◌, ◌≡◌, ◌≤◌, Some}
+use Rattle.fab_base.specs.Layouts.{seat_in, Group}
+use Rattle.std.proofs.Common.{None, List, [], ap, ap₂, arith, false, length, map, refl, subst, sym, true, zero-add, ℕ, ◌++◌, ◌+◌, ◌<◌, ◌∙◌, ◌∷◌, ◌≡◌, ◌≤◌, Some, Option, inl}
 use Rattle.std.specs.Prelude.{◌-◌, ◌^◌}
-use Rattle.calm_laws.proofs.Asking.{Gives, Holds, IsReply, Keeps, Replies, all_given, asks_pass, each_then, holds_on, reacted_all, reaction_teaches, told_all, told_exactly, told_replies}
+use Rattle.calm_laws.proofs.Asking.{Gives, Holds, IsReply, Keeps, Replies, all_given, asks_pass, each_then, holds_on, reacted_all, reaction_teaches, told_all, told_exactly, told_replies, each_append}
 use Rattle.calm_laws.proofs.Counts.{AreNew, Carries, counted_of, decides, new_from, replies_pass, told}
 use Rattle.calm_laws.proofs.Hearing.{IsStale, known_through, stale_pass}
 use Rattle.calm_laws.proofs.Queues.{waiting}
-use Rattle.calm_laws.proofs.Scenes.{Closes, Each, Fits, IsSeated, Part, SameCall, Scene, Seated, Stage, asking, heard, sends, AreApart, IsInView, asks_own, IsOf, of_same}
+use Rattle.calm_laws.proofs.Scenes.{Closes, Each, Fits, IsSeated, Part, SameCall, Scene, Seated, Stage, asking, heard, sends, AreApart, IsInView, asks_own, IsOf, of_same, IsForAll, quorum_needed}
 use Rattle.messages.specs.declared.packets.Packet.{Packet}
 use Rattle.messages.specs.declared.replies.Reply.{Reply}
-use Rattle.protocol.specs.Coordinators.{Coordinator, answers_phase, has_seat, looks_back}
+use Rattle.protocol.specs.Coordinators.{Coordinator, answers_phase, has_seat, looks_back, may_count, asks_each, needed, may_count_in}
 use Rattle.protocol.specs.Views.{view_told}
 use Rattle.protocol.specs.declared.phases.Counted.{Counted}
 use Rattle.quorum.specs.Quorums.{quorum_of}
+use Rattle.calm_laws.proofs.Beginnings.{map_append}
+use Rattle.std.proofs.lemmas.List.{append_assoc}
+use Rattle.protocol.specs.declared.phases.Phase.{Phase}
+use Rattle.fab_base.specs.declared.identities.BrickId.{BrickId}
 
--- A phase begins at these seats, a quorum: nothing counts yet; what is asked can be stored; and of the part of each seat something holds that each
+-- A phase begins at these seats, as many as it needs, which may count: nothing counts yet; what is asked can be stored; and of the part of each seat something holds that each
 -- request keeps, and that tells what is replied, which answers the phase.
 pub record HasBegun (stage : Stage) (s : Scene) (Inv : ℕ → Part → Type 0) (f : Seated → Reply) (xs : List Seated) : Type 0 where
   pub in_view : IsInView stage s.c
@@ -24,7 +28,8 @@ pub record HasBegun (stage : Stage) (s : Scene) (Inv : ℕ → Part → Type 0) 
   pub seated : Each (IsSeated stage) xs
   pub apart : AreApart xs
   pub some : 1 ≤ length xs
-  pub quorum : length xs ≡ quorum_of stage.group
+  pub needs : length xs ≡ needed s.c
+  pub may : Each (λ x. may_count s.c x.brick.0 ≡ true) xs
   pub keeps : Keeps stage s.c Inv
   pub replies : Replies stage s.c Inv f
   pub holds : Holds Inv s.parts xs
@@ -40,15 +45,19 @@ none_new [] = tt
 none_new (x ∷ xs) = (refl, none_new xs)
 
 -- where these seats' replies are heard, by what holds of the parts then
-abbrev pub Heard : Stage → Scene → (ℕ → Part → Type 0) → (Seated → Reply) → List Seated → List Packet → List Seated → Type 0
-Heard stage s After f xs stale others =
-    (before parts : ℕ → Part) → Holds After parts xs
+abbrev pub HeardBy : Stage → Scene → ((ℕ → Part) → Type 0) → (Seated → Reply) → List Seated → List Packet → List Seated → Type 0
+HeardBy stage s Then f xs stale others =
+    (before parts : ℕ → Part) → Then parts
     → Carries stage (record s { known = known_then stage s f xs stale; parts = parts; queue = told_all stage s.c others before })
     (decides stage s.c (known_then stage s f xs stale) (map (counted_of f) xs))
 
-module _ (stage : Stage) (s : Scene) (Inv After : ℕ → Part → Type 0) (f : Seated → Reply) (xs : List Seated) (begins : HasBegun stage s Inv f xs)
-    (after_keeps : Keeps stage s.c After) (gives : Gives stage s.c Inv After) (stale : List Packet) (others : List Seated)
-    (heard : Heard stage s After f xs stale others) where
+-- by what holds of their parts
+abbrev pub Heard : Stage → Scene → (ℕ → Part → Type 0) → (Seated → Reply) → List Seated → List Packet → List Seated → Type 0
+Heard stage s After f xs stale others = HeardBy stage s (λ parts. Holds After parts xs) f xs stale others
+
+module _ (stage : Stage) (s : Scene) (Inv : ℕ → Part → Type 0) (Then : (ℕ → Part) → Type 0) (f : Seated → Reply) (xs : List Seated)
+    (begins : HasBegun stage s Inv f xs) (stale : List Packet) (others : List Seated)
+    (comes : Then (reacted_all stage s.c others (reacted_all stage s.c xs s.parts))) (heard : HeardBy stage s Then f xs stale others) where
   -- the parts once the quorum was asked, and once all were
   abbrev asked_parts : ℕ → Part
   asked_parts = reacted_all stage s.c xs s.parts
@@ -68,16 +77,15 @@ module _ (stage : Stage) (s : Scene) (Inv After : ℕ → Part → Type 0) (f : 
   replies_wait =
       replies_pass stage stage.group f xs
       (record s { known = known_through stale s.known; parts = all_parts; queue = told stage s.c.call f xs ++ told_all stage s.c others asked_parts })
-      (told_all stage s.c others asked_parts) refl begins.early (asks_own stage s.c begins.in_view)
+      (told_all stage s.c others asked_parts) refl begins.early
+      begins.may (asks_own stage s.c begins.in_view)
       (each_then (IsSeated stage) (λ (x : Seated). seat_in stage.group.members x.brick.0 ≡ Some x.seat) xs (λ x seated. seated.0) begins.seated) begins.answers plain
       (subst (λ (l : List Counted). AreNew f l xs) (sym begins.counted) (new_from f [] xs begins.apart (none_new xs)))
-      begins.some (ap (λ (l : List Counted). length l + length xs) begins.counted ∙ zero-add (length xs) ∙ begins.quorum)
+      begins.some (ap (λ (l : List Counted). length l + length xs) begins.counted ∙ zero-add (length xs) ∙ begins.needs)
       (subst (λ (l : List Counted). Carries stage
       (record s { known = known_then stage s f xs stale; parts = all_parts; queue = told_all stage s.c others asked_parts })
       (decides stage s.c (known_then stage s f xs stale) (l ++ map (counted_of f) xs))) (sym begins.counted)
-      (heard asked_parts all_parts
-      (holds_on stage s.c After after_keeps xs others asked_parts
-      (all_given stage s.c Inv After begins.keeps after_keeps gives xs s.parts begins.holds))))
+      (heard asked_parts all_parts comes))
 
   -- the requests wait
   requests_wait : Each (IsSeated stage) others
@@ -98,7 +106,7 @@ module _ (stage : Stage) (s : Scene) (Inv After : ℕ → Part → Type 0) (f : 
   phase_run waiting old seated =
       stale_pass stage stale s (map (asking stage s.c) xs ++ map (asking stage s.c) others) waiting old (requests_wait seated)
 
--- the members that hear the coordinator: the first quorum of them in the order of seats, and the rest
+-- The members that hear the coordinator, in the order of seats: those that a phase for each counts, the first quorum of which count in any other; and the rest.
 pub record Cast (stage : Stage) : Type 0 where
   pub xs : List Seated
   pub rest : List Seated
@@ -107,7 +115,14 @@ pub record Cast (stage : Stage) : Type 0 where
   pub rest_seated : Each (IsSeated stage) rest
   pub apart : AreApart xs
   pub some : 1 ≤ length xs
-  pub quorum : length xs ≡ quorum_of stage.group
+  pub needs : (d : Coordinator) → IsInView stage d → IsForAll stage d.phase → length xs ≡ needed d
+  pub may : (phase : Phase) → Each (λ x. may_count_in phase stage.only x.brick.0 ≡ true) xs
+  pub first : List Seated
+  pub more : List Seated
+  pub split : first ++ more ≡ xs
+  pub first_apart : AreApart first
+  pub first_some : 1 ≤ length first
+  pub first_quorum : length first ≡ quorum_of stage.group
   pub sends : (d : Coordinator) → IsInView stage d → sends stage d ≡ map (asking stage d) xs ++ map (asking stage d) rest
 
 -- A phase begins: nothing counts yet, and what waits are replies to earlier phases, and requests, first to the first quorum.
@@ -120,14 +135,70 @@ pub record IsOpen (stage : Stage) (cast : Cast stage) (s : Scene) : Type 0 where
   pub others_seated : Each (IsSeated stage) others
   pub waiting : s.queue ≡ stale ++ (map (asking stage s.c) cast.xs ++ map (asking stage s.c) others)
 
+-- what holds of the first of some holds of these
+pub each_front : {A : Type 0} (P : A → Type 0) (xs ys : List A) → Each P (xs ++ ys) → Each P xs
+each_front P [] ys each = tt
+each_front P (x ∷ xs) ys each = (each.0, each_front P xs ys each.1)
+
+each_behind : {A : Type 0} (P : A → Type 0) (xs ys : List A) → Each P (xs ++ ys) → Each P ys
+each_behind P [] ys each = each
+each_behind P (x ∷ xs) ys each = each_behind P xs ys each.1
+
+-- so of the first quorum
+pub of_first : (stage : Stage) (cast : Cast stage) (P : Seated → Type 0) → Each P cast.xs → Each P cast.first
+of_first stage cast P each = each_front P cast.first cast.more (subst (λ (l : List Seated). Each P l) (sym cast.split) each)
+
+of_more : (stage : Stage) (cast : Cast stage) (P : Seated → Type 0) → Each P cast.xs → Each P cast.more
+of_more stage cast P each = each_behind P cast.first cast.more (subst (λ (l : List Seated). Each P l) (sym cast.split) each)
+
+-- they may count
+may_all : (stage : Stage) (cast : Cast stage) (c : Coordinator) → IsInView stage c → Each (λ x. may_count c x.brick.0 ≡ true) cast.xs
+may_all stage cast c in_view =
+    subst (λ (only : Option (List BrickId)). Each (λ x. may_count_in c.phase only x.brick.0 ≡ true) cast.xs) (sym in_view.of.only) (cast.may c.phase)
+
+-- an open phase that a quorum decides runs to its decision by what the first quorum replies, and what the requests keep they keep
+pub open_run_first : (stage : Stage) (cast : Cast stage) (s : Scene) (open_is : IsOpen stage cast s) → asks_each s.c.phase ≡ false
+    → (Inv : ℕ → Part → Type 0) (f : Seated → Reply) → s.c.call.phase < 2 ^ 32 - 1 → ((x : Seated) → IsSeated stage x → Fits stage s.c x)
+    → Keeps stage s.c Inv → Replies stage s.c Inv f → Holds Inv s.parts cast.xs
+    → Each (λ x. answers_phase stage.setting.layout.block s.c.stamp x.seat s.c.phase (f x) ≡ true) cast.first
+    → HeardBy stage s (λ parts. Holds Inv parts cast.xs) f cast.first open_is.stale (cast.more ++ open_is.others) → Closes stage s
+open_run_first stage cast s open_is isnt Inv f early fits keeps replies holds answers heard =
+    phase_run stage s Inv (λ parts. Holds Inv parts cast.xs) f cast.first
+    (record {
+      in_view = open_is.in_view;
+      counted = open_is.counted;
+      early = early;
+      fits = fits;
+      seated = of_first stage cast (IsSeated stage) cast.seated;
+      apart = cast.first_apart;
+      some = cast.first_some;
+      needs = cast.first_quorum ∙ ap (λ (g : Group). quorum_of g) (sym (asks_own stage s.c open_is.in_view)) ∙ sym (quorum_needed s.c (inl isnt));
+      may = of_first stage cast (λ x. may_count s.c x.brick.0 ≡ true) (may_all stage cast s.c open_is.in_view);
+      keeps = keeps;
+      replies = replies;
+      holds = of_first stage cast (λ x. Inv x.brick.0 (s.parts x.brick.0)) holds;
+      answers = answers;
+    })
+    open_is.stale (cast.more ++ open_is.others)
+    (holds_on stage s.c Inv keeps cast.xs (cast.more ++ open_is.others) (reacted_all stage s.c cast.first s.parts)
+    (holds_on stage s.c Inv keeps cast.xs cast.first s.parts holds))
+    heard
+    (open_is.waiting
+    ∙ ap (λ (l : List Packet). open_is.stale ++ l)
+    (ap (λ (l : List Seated). map (asking stage s.c) l ++ map (asking stage s.c) open_is.others) (sym cast.split)
+    ∙ ap (λ (l : List Packet). l ++ map (asking stage s.c) open_is.others) (map_append (asking stage s.c) cast.first cast.more)
+    ∙ append_assoc (map (asking stage s.c) cast.first) (map (asking stage s.c) cast.more) (map (asking stage s.c) open_is.others)
+    ∙ ap (λ (l : List Packet). map (asking stage s.c) cast.first ++ l) (sym (map_append (asking stage s.c) cast.more open_is.others))))
+    open_is.old (each_append (IsSeated stage) cast.more open_is.others (of_more stage cast (IsSeated stage) cast.seated) open_is.others_seated)
+
 -- an open phase runs to its decision, by what the requests give
-pub open_run_to : (stage : Stage) (cast : Cast stage) (s : Scene) (open_is : IsOpen stage cast s) (Inv After : ℕ → Part → Type 0) (f : Seated → Reply)
+pub open_run_to : (stage : Stage) (cast : Cast stage) (s : Scene) (open_is : IsOpen stage cast s) → IsForAll stage s.c.phase → (Inv After : ℕ → Part → Type 0) (f : Seated → Reply)
     → s.c.call.phase < 2 ^ 32 - 1 → ((x : Seated) → IsSeated stage x → Fits stage s.c x) → Keeps stage s.c Inv → Replies stage s.c Inv f
     → Keeps stage s.c After → Gives stage s.c Inv After → Holds Inv s.parts cast.xs
     → Each (λ x. answers_phase stage.setting.layout.block s.c.stamp x.seat s.c.phase (f x) ≡ true) cast.xs
     → Heard stage s After f cast.xs open_is.stale open_is.others → Closes stage s
-open_run_to stage cast s open_is Inv After f early fits keeps replies after_keeps gives holds answers heard =
-    phase_run stage s Inv After f cast.xs
+open_run_to stage cast s open_is all Inv After f early fits keeps replies after_keeps gives holds answers heard =
+    phase_run stage s Inv (λ parts. Holds After parts cast.xs) f cast.xs
     (record {
       in_view = open_is.in_view;
       counted = open_is.counted;
@@ -136,22 +207,26 @@ open_run_to stage cast s open_is Inv After f early fits keeps replies after_keep
       seated = cast.seated;
       apart = cast.apart;
       some = cast.some;
-      quorum = cast.quorum;
+      needs = cast.needs s.c open_is.in_view all;
+      may = may_all stage cast s.c open_is.in_view;
       keeps = keeps;
       replies = replies;
       holds = holds;
       answers = answers;
     })
-    after_keeps gives open_is.stale open_is.others heard open_is.waiting open_is.old open_is.others_seated
+    open_is.stale open_is.others
+    (holds_on stage s.c After after_keeps cast.xs open_is.others (reacted_all stage s.c cast.xs s.parts)
+    (all_given stage s.c Inv After keeps after_keeps gives cast.xs s.parts holds))
+    heard open_is.waiting open_is.old open_is.others_seated
 
 -- and by what they keep
-pub open_run : (stage : Stage) (cast : Cast stage) (s : Scene) (open_is : IsOpen stage cast s) (Inv : ℕ → Part → Type 0) (f : Seated → Reply)
+pub open_run : (stage : Stage) (cast : Cast stage) (s : Scene) (open_is : IsOpen stage cast s) → IsForAll stage s.c.phase → (Inv : ℕ → Part → Type 0) (f : Seated → Reply)
     → s.c.call.phase < 2 ^ 32 - 1 → ((x : Seated) → IsSeated stage x → Fits stage s.c x) → Keeps stage s.c Inv → Replies stage s.c Inv f
     → Holds Inv s.parts cast.xs
     → Each (λ x. answers_phase stage.setting.layout.block s.c.stamp x.seat s.c.phase (f x) ≡ true) cast.xs
     → Heard stage s Inv f cast.xs open_is.stale open_is.others → Closes stage s
-open_run stage cast s open_is Inv f early fits keeps replies holds answers heard =
-    open_run_to stage cast s open_is Inv Inv f early fits keeps replies keeps (λ x part held. keeps x.brick.0 x part held) holds answers heard
+open_run stage cast s open_is all Inv f early fits keeps replies holds answers heard =
+    open_run_to stage cast s open_is all Inv Inv f early fits keeps replies keeps (λ x part held. keeps x.brick.0 x part held) holds answers heard
 
 -- a coordinator begins the phase after another, in its own view
 pub record IsAfter (c d : Coordinator) : Type 0 where

@@ -42,6 +42,9 @@ pub record HasEnded (stage : Stage) (n : ℕ) (c : Coordinator) (w last : World)
   pub operation : Operation
   pub is : last.operations n ≡ Some operation
   pub answered : operation.answered ≡ true
+  pub brick : operation.brick ≡ stage.me
+  pub boot : operation.boot ≡ c.call.boot
+  pub seq : operation.seq ≡ c.call.seq
   pub events : List Event
   pub coordinator : Coordinator
   pub same : SameCall c coordinator
@@ -72,6 +75,7 @@ same_then : (c d e : Coordinator) → SameCall c d → SameCall d e → SameCall
 same_then c d e first second = record {
   group = second.group ∙ first.group;
   prior = second.prior ∙ first.prior;
+  only = second.only ∙ first.only;
   boot = second.boot ∙ first.boot;
   seq = second.seq ∙ first.seq;
   of_group = second.of_group ∙ first.of_group;
@@ -87,6 +91,9 @@ ended_from stage n c d w last event same end = record {
   operation = end.operation;
   is = end.is;
   answered = end.answered;
+  brick = end.brick;
+  boot = end.boot ∙ same.boot;
+  seq = end.seq ∙ same.seq;
   events = event ∷ end.events;
   coordinator = end.coordinator;
   same = same_then c d end.coordinator same end.same;
@@ -420,7 +427,7 @@ asked_move stage n w s x rest number shows seated in_view = record {
     own = reply_own stage w n x.brick s.c.call change.reply shows.number;
   };
   queue = ap (λ (l : List Packet). rest ++ l) (sym (reply_goes stage x.brick s.c.call change.reply seated.1));
-  same = record { group = refl; prior = refl; boot = refl; seq = refl; of_group = refl; view = refl; stripe = refl };
+  same = record { group = refl; prior = refl; only = refl; boot = refl; seq = refl; of_group = refl; view = refl; stripe = refl };
 }
   where
     change : Reaction
@@ -492,5 +499,5 @@ back_move stage n w s x rest reply number shows one = record {
     own = reply_own stage w n x.brick s.c.call (Some reply) shows.number;
   };
   queue = ap (λ (l : List Packet). rest ++ l) (sym (reply_goes stage x.brick s.c.call (Some reply) one));
-  same = record { group = refl; prior = refl; boot = refl; seq = refl; of_group = refl; view = refl; stripe = refl };
+  same = record { group = refl; prior = refl; only = refl; boot = refl; seq = refl; of_group = refl; view = refl; stripe = refl };
 }

@@ -4,8 +4,8 @@ use Rattle.messages.specs.declared.replies.Reply.TheVariants.{Old}
 use Rattle.protocol.specs.declared.phases.Phase.TheVariants.{LooksBack}
 use Rattle.fab_base.specs.declared.asks.Op.TheVariants.{ReadBlock, ReadStripe, WriteBlock, WriteStripe}
 use Rattle.fab_base.specs.declared.asks.Op.{Op}
-use Rattle.std.proofs.Common.{List, None, Option, Some, [], false, refl, subst, sym, true, ℕ, ◌++◌, ◌+◌, ◌∷◌, ◌≡◌, Bool, ap, cond, ◌∙◌}
-use Rattle.std.specs.Prelude.{filter, max, nat_eq, ◌-◌, nat_lt}
+use Rattle.std.proofs.Common.{List, None, Option, Some, [], false, refl, subst, sym, true, ℕ, ◌++◌, ◌+◌, ◌∷◌, ◌≡◌, Bool, ap, cond, ◌∙◌, is_some, length, ◌⊎◌, inl, inr}
+use Rattle.std.specs.Prelude.{filter, max, nat_eq, ◌-◌, nat_lt, ◌||◌}
 use Rattle.fab_base.specs.Layouts.{Group, seat_in}
 use Rattle.fab_base.specs.declared.answers.Answer.{Answer}
 use Rattle.fab_base.specs.declared.identities.BrickId.{BrickId}
@@ -17,7 +17,7 @@ use Rattle.messages.specs.declared.replies.Reply.{Reply}
 use Rattle.messages.specs.declared.requests.Request.{Request}
 use Rattle.messages.specs.declared.requests.Version.{Version}
 use Rattle.protocol.specs.Calms.{goes_among, is_one_of}
-use Rattle.protocol.specs.Coordinators.{Coordinator, Ends, Ignores, Makes, Next, Sends, Waits, on_reply, request_of, asked_group, asked_view, looks_back}
+use Rattle.protocol.specs.Coordinators.{Coordinator, Ends, Ignores, Makes, Next, Sends, Waits, on_reply, request_of, asked_group, asked_view, looks_back, needed_of, needed, may_count_in, may_count, asks_each}
 use Rattle.protocol.specs.Views.{view_told, kept_by}
 use Rattle.protocol.specs.Nodes.{fits, fresh_stamp, full_at, known_after, phase_packets, put, reply_packets, first_phase}
 use Rattle.protocol.specs.Replicas.{Reaction, Replica, handle, newest_of, under}
@@ -25,6 +25,7 @@ use Rattle.protocol.specs.Settings.{Setting}
 use Rattle.protocol.specs.declared.phases.Phase.{Phase}
 use Rattle.protocol.specs.Worlds.{is_answer}
 use Rattle.protocol_laws.proofs.Outcomes.{IsLook}
+use Rattle.quorum.specs.Quorums.{quorum_of}
 
 -- a member at its seat
 pub record Seated : Type 0 where
@@ -32,7 +33,7 @@ pub record Seated : Type 0 where
   pub brick : BrickId
 
 -- What stays as it is meanwhile: the setting, the bricks that hear one another, the coordinator's brick and its clock, the operation's call, the group, and the members
--- whose replies count: the first quorum that hears the coordinator. And the group as the members of the view before keep it, whether the operation may ask these, and what
+-- whose replies count: the first quorum that hears the coordinator, or all where some members alone count, and which these are. And the group as the members of the view before keep it, whether the operation may ask these, and what
 -- each brick keeps of the stripe in that view.
 pub record Stage : Type 0 where
   pub setting : Setting
@@ -42,6 +43,7 @@ pub record Stage : Type 0 where
   pub call : Call
   pub group : Group
   pub quorum : List Seated
+  pub only : Option (List BrickId)
   pub prior : Group
   pub may_ask : Bool
   pub old : ℕ → List Version
@@ -148,6 +150,7 @@ first_ahead (WriteStripe bytes) = refl
 pub record SameCall (c d : Coordinator) : Type 0 where
   pub group : d.group ≡ c.group
   pub prior : d.prior ≡ c.prior
+  pub only : d.only ≡ c.only
   pub boot : d.call.boot ≡ c.call.boot
   pub seq : d.call.seq ≡ c.call.seq
   pub of_group : d.call.group ≡ c.call.group
@@ -158,6 +161,7 @@ pub record SameCall (c d : Coordinator) : Type 0 where
 pub record IsOf (stage : Stage) (c : Coordinator) : Type 0 where
   pub group : c.group ≡ stage.group
   pub prior : kept_by c.prior c.group ≡ stage.prior
+  pub only : c.only ≡ stage.only
   pub boot : c.call.boot ≡ stage.call.boot
   pub seq : c.call.seq ≡ stage.call.seq
   pub of_group : c.call.group ≡ stage.call.group
@@ -169,12 +173,34 @@ pub of_same : (stage : Stage) (c d : Coordinator) → SameCall c d → IsOf stag
 of_same stage c d same is = record {
   group = same.group ∙ is.group;
   prior = ap (λ (members : List BrickId). kept_by members d.group) same.prior ∙ ap (λ (g : Group). kept_by c.prior g) same.group ∙ is.prior;
+  only = same.only ∙ is.only;
   boot = same.boot ∙ is.boot;
   seq = same.seq ∙ is.seq;
   of_group = same.of_group ∙ is.of_group;
   view = same.view ∙ is.view;
   stripe = same.stripe ∙ is.stripe;
 }
+
+-- A phase is for each of the members that alone count, or every member counts.
+abbrev pub IsForAll : Stage → Phase → Type 0
+IsForAll stage phase = (asks_each phase ≡ true) ⊎ (stage.only ≡ None)
+
+-- another phase, and any where every member counts, needs a quorum of those who are asked
+pub quorum_needed : (c : Coordinator) → (asks_each c.phase ≡ false) ⊎ (c.only ≡ None) → needed c ≡ quorum_of (asked_group c)
+quorum_needed c (inr all) = ap (λ (o : Option (List BrickId)). needed_of (asked_group c) c.phase o) all
+quorum_needed c (inl isnt) = by c.only
+  where
+    by : (only : Option (List BrickId)) → needed_of (asked_group c) c.phase only ≡ quorum_of (asked_group c)
+    by None = refl
+    by (Some only) = ap (λ (b : Bool). cond b (length only) (quorum_of (asked_group c))) isnt
+
+-- each of those who are asked may count in a phase that looks back
+pub back_counts : (c : Coordinator) (bound : Option Stamp) → c.phase ≡ LooksBack bound → (brick : ℕ) → may_count c brick ≡ true
+back_counts c bound is brick = by c.only
+  where
+    by : (only : Option (List BrickId)) → may_count_in c.phase only brick ≡ true
+    by None = refl
+    by (Some only) = ap (λ (p : Phase). looks_back p || is_some (seat_in only brick)) is
 
 -- A coordinator is in a phase that asks the members of its operation's view: its call is of the view of its stamp.
 pub record IsInView (stage : Stage) (c : Coordinator) : Type 0 where

@@ -1,5 +1,5 @@
 -- An operation that orders first, and a recovery, close.
-use Rattle.std.proofs.Common.{List, arith, length, refl, ℕ, ◌+◌, ◌<◌, ◌≡◌, ◌≤◌}
+use Rattle.std.proofs.Common.{List, arith, length, refl, ℕ, ◌+◌, ◌<◌, ◌≡◌, ◌≤◌, None}
 use Rattle.std.specs.Prelude.{◌-◌, ◌^◌}
 use Rattle.calm_laws.proofs.BlockWrites.{block_accepted, block_goes, block_ordering}
 use Rattle.calm_laws.proofs.Descending.{IsSet, Lore, after_replies, having}
@@ -50,35 +50,35 @@ module _ (stage : Stage) (cast : Cast stage) (logs : ℕ → List Version) (lore
       set phase (omega (arith, early)) free)
 
   -- a stripe write at tame parts
-  write_tame : (s : Scene) → IsSet stage cast logs s → s.c.phase ≡ Orders → s.c.call.phase ≤ 4 → Closes stage s
-  write_tame s set phase early =
+  write_tame : stage.only ≡ None → (s : Scene) → IsSet stage cast logs s → s.c.phase ≡ Orders → s.c.call.phase ≤ 4 → Closes stage s
+  write_tame every s set phase early =
       ordering_tame stage cast logs s (λ x log. Ordered) (write_goes stage cast logs lore s)
-      (write_ordering stage cast logs lore s phase) set.open_is (omega (arith, early)) set.later set.tame
+      (write_ordering stage cast logs lore s every phase) set.open_is (omega (arith, early)) set.later set.tame
       (λ before parts known tame.
       write_accepted stage cast logs lore s set.open_is.in_view (omega (arith, early)) set.open_is.others before parts known tame)
 
   -- a stripe write
-  pub write_first : (s : Scene) → IsFirst stage cast logs s → s.c.phase ≡ Orders → s.c.call.phase ≤ 3 → Closes stage s
-  write_first s first phase early =
+  pub write_first : stage.only ≡ None → (s : Scene) → IsFirst stage cast logs s → s.c.phase ≡ Orders → s.c.call.phase ≤ 3 → Closes stage s
+  write_first every s first phase early =
       ordering_first stage cast logs s (λ x log. Ordered) (write_goes stage cast logs lore s)
-      (write_ordering stage cast logs lore s phase) first (omega (arith, early)) (λ y log. refl)
+      (write_ordering stage cast logs lore s every phase) first (omega (arith, early)) (λ y log. refl)
       (λ before parts known tame.
       write_accepted stage cast logs lore s first.open_is.in_view (omega (arith, early)) first.open_is.others before parts known tame)
       (λ before parts known counted grows set free.
-      write_tame (sent stage (after_replies stage s known parts first.open_is.others before) (reordering (having s.c counted) (second_stamp stage s.c known)))
+      write_tame every (sent stage (after_replies stage s known parts first.open_is.others before) (reordering (having s.c counted) (second_stamp stage s.c known)))
       set phase (omega (arith, early)))
 
   module _ (deltas : (old new : List ℕ) → length old ≡ stage.setting.layout.block → length new ≡ stage.setting.layout.block
-      → length (stage.setting.code.delta old new) ≡ stage.setting.layout.block) where
+      → length (stage.setting.code.delta old new) ≡ stage.setting.layout.block) (every : stage.only ≡ None) where
     -- a block write at tame parts
     block_tame : (s : Scene) (j : ℕ) → IsSet stage cast logs s → s.c.phase ≡ OrdersAt j → s.c.call.phase ≤ 4 → IsUnheld logs s.c.stamp cast.xs
         → j < stage.group.m → length (block_written s.c.ask.op) ≡ stage.setting.layout.block → Closes stage s
     block_tame s j set phase early unheld below_m written =
         let low = few s.c.stamp in
         ordering_tame stage cast logs s (looking (Below s.c.stamp) (Want.Seat j)) (block_goes stage cast logs lore s j)
-        (block_ordering stage cast logs lore s j phase) set.open_is (omega (arith, early)) set.later set.tame
+        (block_ordering stage cast logs lore s j every phase) set.open_is (omega (arith, early)) set.later set.tame
         (λ before parts known tame.
-        block_accepted stage cast logs lore s j set.open_is.in_view set.later (omega (arith, early, low))
+        block_accepted stage cast logs lore s j every set.open_is.in_view set.later (omega (arith, early, low))
         (floor_below stage cast logs lore s.c.stamp parts tame unheld) unheld below_m written deltas set.open_is.others before parts known tame)
 
     -- a block write
@@ -87,9 +87,9 @@ module _ (stage : Stage) (cast : Cast stage) (logs : ℕ → List Version) (lore
     block_first s j first phase early unheld below_m written =
         let low = few s.c.stamp in
         ordering_first stage cast logs s (looking (Below s.c.stamp) (Want.Seat j)) (block_goes stage cast logs lore s j)
-        (block_ordering stage cast logs lore s j phase) first (omega (arith, early)) (λ y log. refl)
+        (block_ordering stage cast logs lore s j every phase) first (omega (arith, early)) (λ y log. refl)
         (λ before parts known tame.
-        block_accepted stage cast logs lore s j first.open_is.in_view (not_first s.c.stamp first.from_one) (omega (arith, early, low))
+        block_accepted stage cast logs lore s j every first.open_is.in_view (not_first s.c.stamp first.from_one) (omega (arith, early, low))
         (floor_below stage cast logs lore s.c.stamp parts tame unheld) unheld below_m written deltas first.open_is.others before parts known tame)
         (λ before parts known counted grows set free.
         block_tame (sent stage (after_replies stage s known parts first.open_is.others before) (reordering (having s.c counted) (second_stamp stage s.c known))) j

@@ -22,9 +22,9 @@ use Rattle.messages.specs.declared.replies.Reply.{Reply}
 use Rattle.protocol.specs.Settings.{Setting}
 use Rattle.protocol.specs.Replicas.{handle}
 use Rattle.protocol.specs.declared.phases.Counted.{Counted}
-use Rattle.protocol.specs.Coordinators.{Coordinator, Next, Ignores, Waits, Sends, Makes, Ends, counts_at, counted_at, once_full, with_reply, request_of, on_reply, asked_group}
+use Rattle.protocol.specs.Coordinators.{Coordinator, Next, Ignores, Waits, Sends, Makes, Ends, counts_at, counted_at, once_full, with_reply, request_of, on_reply, asked_group, hearing}
 use Rattle.protocol.specs.declared.tellings.Report.{Report}
-use Rattle.protocol.specs.Nodes.{carried_for, job_reading, read_closed, read_begun_by, synced_packets, then_does, with_job, Node, NodeStep, put, no_step, with_known, with_round, with_replica, replica_at, full_at, known_after, fresh_stamp, reply_packets, requested, replied_at, carried_out, received, heard, collect_packets, to_members, vote_at, voted_on, node_taught_by, node_learnt, view_counted, node_synced}
+use Rattle.protocol.specs.Nodes.{carried_for, job_reading, read_closed, read_begun_by, synced_packets, then_does, Node, NodeStep, put, no_step, with_known, with_round, with_replica, replica_at, full_at, known_after, fresh_stamp, reply_packets, requested, replied_at, carried_out, received, heard, collect_packets, to_members, vote_at, voted_on, node_taught_by, node_learnt, view_counted, node_synced, scrub_of, members_alone}
 use Rattle.protocol.proofs.Packets.{OfEach, each_both, each_collect, each_member, each_none, each_reply}
 use Rattle.protocol_laws.proofs.Proposing.{IsOfViews, ballot_each}
 use Rattle.protocol_laws.proofs.Teaching.{heard_each, told_each, learnt_each}
@@ -36,6 +36,7 @@ use Rattle.protocol_laws.proofs.Books.{Books, CallBooks, IsCall}
 use Rattle.protocol_laws.proofs.Outcomes.{NextFits, once_full_fits}
 use Rattle.protocol.proofs.Puts.{put_other}
 use Rattle.protocol.proofs.Served.{request_each}
+use Rattle.protocol.specs.Scrubs.{Scrub, scrub_answer}
 
 -- a packet is a request or a reply under a call of brick i, of this boot and number
 abbrev pub IsKeyed : ℕ → ℕ → ℕ → Packet → Type 0
@@ -321,12 +322,16 @@ module _ (setting : Setting) (w : World) (books : Books setting w) (me : BrickId
   }
 
   -- and no other begins
-  closed_then : (answer : Answer) (seen stored : Option Stamp) (job : Option Job) (more : List Packet) (reports : List Report)
-      → OfEach (IsKeyedOrNone me.0 its_boot its_seq) more
-      → StepIsOf setting w me (then_does (read_closed me node known c answer seen stored)
-      (record { node = with_job (read_closed me node known c answer seen stored).node job; packets = more; told = []; answers = []; reports = reports }))
-      me.0 its_boot its_seq
-  closed_then answer None stored job more reports are = record {
+  closed_then : (answer : Answer) (seen stored : Option Stamp) (job : Option Job) (scrub : Option Scrub) (more : List Packet)
+      (reports : List Report) → OfEach (IsKeyedOrNone me.0 its_boot its_seq) more
+      → StepIsOf setting w me (then_does (read_closed me node known c answer seen stored) (record {
+        node = record (read_closed me node known c answer seen stored).node { job = job; scrub = scrub };
+        packets = more;
+        told = [];
+        answers = [];
+        reports = reports;
+      })) me.0 its_boot its_seq
+  closed_then answer None stored job scrub more reports are = record {
     boot_is = self.boot;
     packets = each_both (IsKeyedOrNone me.0 its_boot its_seq) (collect_packets me c stored) more (collects_are stored) are;
     calls = other_calls None;
@@ -335,7 +340,7 @@ module _ (setting : Setting) (w : World) (books : Books setting w) (me : BrickId
     numbers = λ replies choices reached. refl;
     begun = λ replies choices reached. refl;
   }
-  closed_then answer (Some v) stored job more reports are = record {
+  closed_then answer (Some v) stored job scrub more reports are = record {
     boot_is = self.boot;
     packets = each_both (IsKeyedOrNone me.0 its_boot its_seq) (collect_packets me c stored) more (collects_are stored) are;
     calls = other_calls None;
@@ -368,16 +373,17 @@ module _ (setting : Setting) (w : World) (books : Books setting w) (me : BrickId
       more_calls : (w.nodes me.0).seq ≤ node.seq
       more_calls = let same = self.seq in omega (arith, same)
 
-  -- what it decided is carried out, for a read of the brick's synchronisation or for another operation
-  pub next_goes : (now : ℕ) (fresh : Option Stamp) (d : Coordinator) (z : Next) → d.call ≡ c.call → NextFits fresh d z → (reading : Option Job)
-      → StepGoes setting w me (carried_for setting me now node known c z reading) me.0 its_boot its_seq
-  next_goes now fresh d z same fits reading =
-      carried_each (λ (step : NodeStep). StepGoes setting w me step me.0 its_boot its_seq) setting me now node known c z reading
+  -- what it decided is carried out, for a read of the brick's own or for another operation
+  pub next_goes : (now : ℕ) (fresh : Option Stamp) (d : Coordinator) (z : Next) → d.call ≡ c.call → NextFits fresh d z → (heard : Coordinator)
+      (reading : Option Job) (scrub : Option Scrub)
+      → StepGoes setting w me (carried_for setting me now node known c heard z reading scrub) me.0 its_boot its_seq
+  next_goes now fresh d z same fits heard reading scrub =
+      carried_each (λ (step : NodeStep). StepGoes setting w me step me.0 its_boot its_seq) setting me now node known c heard z reading scrub
       (inl (next_is_of fresh d z same fits))
       (λ job job_is answer seen stored ends. record {
-        stays = inl (closed_then answer seen stored node.job [] [] (none_at me.0 its_boot its_seq));
-        ends = λ told. inl (closed_then answer seen stored None [] (Report.Sync job.group told ∷ []) (none_at me.0 its_boot its_seq));
-        finishes = inl (closed_then answer seen stored None (synced_packets me job.group job.view.number setting.layout.bricks 0)
+        stays = inl (closed_then answer seen stored node.job node.scrub [] [] (none_at me.0 its_boot its_seq));
+        ends = λ told. inl (closed_then answer seen stored None node.scrub [] (Report.Sync job.group told ∷ []) (none_at me.0 its_boot its_seq));
+        finishes = inl (closed_then answer seen stored None node.scrub (synced_packets me job.group job.view.number setting.layout.bricks 0)
             (Report.Sync job.group (synced_answer job.view.number) ∷ [])
             (each_synced (IsKeyedOrNone me.0 its_boot its_seq) me job.group job.view.number (λ to. inr tt) setting.layout.bricks 0));
         reads = λ attempt group kept. inr (record {
@@ -395,6 +401,23 @@ module _ (setting : Setting) (w : World) (books : Books setting w) (me : BrickId
           step_is = refl;
         });
       })
+      (record {
+        begins = λ s is e sends.
+            let told : StepIsOf setting w me (carried_out setting me node known c (Sends e)) me.0 its_boot its_seq
+            = next_is_of fresh d (Sends e) same (subst (λ (y : Next). NextFits fresh d y) sends fits) in
+            inl (record {
+              boot_is = told.boot_is;
+              packets = told.packets;
+              calls = told.calls;
+              operations = told.operations;
+              keys = told.keys;
+              numbers = told.numbers;
+              begun = told.begun;
+            });
+        ends = λ s is answer seen stored ends.
+            inl (closed_then answer seen stored node.job None [] (Report.Scrub c.call (members_alone c.only) (scrub_answer s.lagging (abort_cause answer) stored) ∷ [])
+            (none_at me.0 its_boot its_seq));
+      })
 
 -- a reply that is handled, by a brick that may have been taught a view
 replied_is_of : (setting : Setting) (w : World) (books : Books setting w) (me : BrickId) (now : ℕ) (from : BrickId) (node : Node) → IsSelf (w.nodes me.0) node
@@ -405,33 +428,38 @@ replied_is_of setting w books me now from node self call reply = at_call ((w.nod
     quiet : (next : Node) → next.boot ≡ node.boot → next.calls ≡ node.calls → StepIsOf setting w me (no_step next) me.0 call.boot call.seq
     quiet next boot calls = quiet_is_of setting w me next [] [] me.0 call.boot call.seq (boot ∙ self.boot) (calls ∙ self.calls) (none_at me.0 call.boot call.seq)
 
-    left_out : (c : Coordinator) (reading : Option Job)
-        → StepGoes setting w me (carried_for setting me now node (known_after node.known reply) c Ignores reading) me.0 call.boot call.seq
-    left_out c reading =
-        carried_each (λ (step : NodeStep). StepGoes setting w me step me.0 call.boot call.seq) setting me now node (known_after node.known reply) c Ignores
-        reading (inl (quiet (with_known node (known_after node.known reply)) refl refl))
+    left_out : (c heard : Coordinator) (reading : Option Job) (scrub : Option Scrub)
+        → StepGoes setting w me (carried_for setting me now node (known_after node.known reply) c heard Ignores reading scrub) me.0 call.boot call.seq
+    left_out c heard reading scrub =
+        carried_each (λ (step : NodeStep). StepGoes setting w me step me.0 call.boot call.seq) setting me now node (known_after node.known reply) c heard Ignores
+        reading scrub (inl (quiet (with_known node (known_after node.known reply)) refl refl))
         (λ job is answer seen stored never. let no : ⊥ = cc in absurd no)
+        (record {
+          begins = λ s is d never. let no : ⊥ = cc in absurd no;
+          ends = λ s is answer seen stored never. let no : ⊥ = cc in absurd no;
+        })
 
     at_seat : (c : Coordinator) → IsCall w me.0 call.seq c → (z : Option ℕ) → counts_at setting.layout.block c from.0 call reply ≡ z
-        → StepGoes setting w me (carried_for setting me now node (known_after node.known reply) c
+        → StepGoes setting w me (carried_for setting me now node (known_after node.known reply) c (hearing c from reply z)
         (counted_at setting.layout.block setting.code (fresh_stamp me c.stamp.view now node.boot (known_after node.known reply)) c from reply z)
-        (job_reading node.job c.call.seq)) me.0 call.boot call.seq
-    at_seat c is None none = left_out c (job_reading node.job c.call.seq)
+        (job_reading node.job c.call.seq) (scrub_of node.scrub c.call.seq)) me.0 call.boot call.seq
+    at_seat c is None none = left_out c c (job_reading node.job c.call.seq) (scrub_of node.scrub c.call.seq)
     at_seat c is (Some seat) counts =
         let facts : CountsAt setting.layout.block c from.0 call reply seat = counts_facts setting.layout.block c from.0 call reply seat counts in
         let time : ℕ = known_after node.known reply in
         let fresh : Option Stamp = fresh_stamp me c.stamp.view now node.boot time in
         let own : IsCall w me.0 c.call.seq c = subst (λ (k : Call). IsCall w me.0 k.seq c) facts.call_is is in
         let books_of : CallBooks setting w me.0 c.call.seq c = books.calls me.0 c.call.seq c own in
-        subst (λ (b : ℕ). StepGoes setting w me (carried_for setting me now node time c
-        (once_full setting.layout.block setting.code fresh (with_reply c seat from reply)) (job_reading node.job c.call.seq)) me.0 b call.seq)
+        subst (λ (b : ℕ). StepGoes setting w me (carried_for setting me now node time c (with_reply c seat from reply)
+        (once_full setting.layout.block setting.code fresh (with_reply c seat from reply)) (job_reading node.job c.call.seq) (scrub_of node.scrub c.call.seq)) me.0 b call.seq)
         (sym books_of.call_boot ∙ ap (λ (k : Call). k.boot) (sym facts.call_is))
-        (subst (λ (l : ℕ). StepGoes setting w me (carried_for setting me now node time c
-        (once_full setting.layout.block setting.code fresh (with_reply c seat from reply)) (job_reading node.job c.call.seq)) me.0 (w.nodes me.0).boot l)
+        (subst (λ (l : ℕ). StepGoes setting w me (carried_for setting me now node time c (with_reply c seat from reply)
+        (once_full setting.layout.block setting.code fresh (with_reply c seat from reply)) (job_reading node.job c.call.seq) (scrub_of node.scrub c.call.seq)) me.0 (w.nodes me.0).boot l)
         (ap (λ (k : Call). k.seq) (sym facts.call_is))
         (next_goes setting w books me node self time c own now fresh (with_reply c seat from reply)
         (once_full setting.layout.block setting.code fresh (with_reply c seat from reply)) refl
-        (once_full_fits setting.layout.block setting.code fresh (with_reply c seat from reply)) (job_reading node.job c.call.seq)))
+        (once_full_fits setting.layout.block setting.code fresh (with_reply c seat from reply)) (with_reply c seat from reply) (job_reading node.job c.call.seq)
+        (scrub_of node.scrub c.call.seq)))
 
     at_call : (z : Option Coordinator) → (w.nodes me.0).calls call.seq ≡ z
         → StepGoes setting w me (replied_at setting me now from node call reply z) me.0 call.boot call.seq

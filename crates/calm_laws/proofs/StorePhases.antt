@@ -1,9 +1,9 @@
 -- The two phases that store, alone: each ends with an answer.
-use Rattle.std.proofs.Common.{Bool, List, None, Option, Some, [], ap, arith, cond, false, inl, length, map, refl, subst, sym, true, ℕ, ◌&&◌, ◌<◌, ◌∙◌, ◌∷◌, ◌≡◌}
+use Rattle.std.proofs.Common.{Bool, List, None, Option, Some, [], ap, arith, cond, false, inl, length, map, refl, subst, sym, true, ℕ, ◌&&◌, ◌<◌, ◌∙◌, ◌∷◌, ◌≡◌, inr}
 use Rattle.std.proofs.lemmas.Bool.{eq-eqb}
 use Rattle.std.proofs.lemmas.Bool.Decides.{nat_tests}
 use Rattle.std.specs.Prelude.{nat_eq, nat_lt, ◌-◌, ◌^◌}
-use Rattle.calm_laws.proofs.Asking.{each_then}
+use Rattle.calm_laws.proofs.Asking.{each_then, each_so}
 use Rattle.calm_laws.proofs.Counts.{counted_of}
 use Rattle.calm_laws.proofs.Decided.{asked_in_phase, in_this, modify_decides, none_stops, none_refuses, store_decides}
 use Rattle.calm_laws.proofs.PhaseRuns.{Cast, IsOpen}
@@ -19,7 +19,7 @@ use Rattle.messages.specs.declared.replies.Reply.TheVariants.{Behind, Later, Sto
 use Rattle.messages.specs.declared.requests.Request.{Request}
 use Rattle.messages.specs.declared.requests.Version.{Version}
 use Rattle.protocol.specs.Calms.{early}
-use Rattle.protocol.specs.Coordinators.{Coordinator, Ends, Sends, answer_with, answers_phase, delta_at, in_phase, request_of, some_behind}
+use Rattle.protocol.specs.Coordinators.{Coordinator, Ends, Sends, answer_with, answers_phase, delta_at, in_phase, request_of, some_behind, asks_each}
 use Rattle.protocol.specs.Nodes.{fits as request_fits, full_at}
 use Rattle.protocol.specs.Replicas.{below, handle, is_changed, modified_block, modified_on, newest_of, stays, stored, top_of, unless_full}
 use Rattle.protocol.specs.Worlds.{is_answer}
@@ -37,11 +37,6 @@ none_behind (x ∷ xs) = none_behind xs
 answers_well : (bytes : Option (List ℕ)) → is_answer (answer_with bytes) ≡ true
 answers_well None = refl
 answers_well (Some bytes) = refl
-
--- a test that passes at each member
-pub each_so : {A : Type 0} (P : A → Type 0) → ((x : A) → P x) → (xs : List A) → Each P xs
-each_so P all [] = tt
-each_so P all (x ∷ xs) = (all x, each_so P all xs)
 
 -- what is asked fits, by the phase's name
 pub fits_in_phase : (stage : Stage) (c : Coordinator) (phase : Phase) (x : Seated) → c.phase ≡ phase → Fits stage (in_this c phase) x → Fits stage c x
@@ -100,7 +95,7 @@ AreTaking stage t parts xs = Each (λ x. Takes stage t (λ log. Unit {0}) (parts
 pub store_phase : (stage : Stage) (cast : Cast stage) (s : Scene) → IsOpen stage cast s → s.c.phase ≡ Stores → s.c.call.phase < 2 ^ 32 - 1
     → HasBlocks stage s.c → AreTaking stage s.c.stamp s.parts cast.xs → Closes stage s
 store_phase stage cast s open_is phase early blocks taking =
-    storing_ends stage cast s (λ log. Unit {0}) open_is (write_so stage s.c phase) early
+    storing_ends stage cast s (λ log. Unit {0}) open_is (inl (ap (λ (p : Phase). asks_each p) phase)) (write_so stage s.c phase) early
     (λ x seated. fits_in_phase stage s.c Stores x phase (write_fits stage s.c x (blocks x seated)))
     (each_then (λ (x : Seated). Takes stage s.c.stamp (λ log. Unit {0}) (s.parts x.brick.0))
     (λ (x : Seated). IsStorable stage s.c.stamp (λ log. Unit {0}) (s.parts x.brick.0)) cast.xs
@@ -169,11 +164,12 @@ abbrev pub AreOn : Stage → Stamp → Stamp → (ℕ → Part) → List Seated 
 AreOn stage t base parts xs = Each (λ x. Takes stage t (IsNewest base) (parts x.brick.0)) xs
 
 -- a phase that modifies the newest version of all ends
-pub modify_phase : (stage : Stage) (cast : Cast stage) (s : Scene) (base : Stamp) (j : ℕ) → IsOpen stage cast s → s.c.phase ≡ Modifies base j
+pub modify_phase : (stage : Stage) (cast : Cast stage) (s : Scene) (base : Stamp) (j : ℕ) → stage.only ≡ None → IsOpen stage cast s
+    → s.c.phase ≡ Modifies base j
     → s.c.call.phase < 2 ^ 32 - 1 → j < stage.group.m → length s.c.content ≡ stage.setting.layout.block
     → AreOn stage s.c.stamp base s.parts cast.xs → Closes stage s
-modify_phase stage cast s base j open_is phase early below long on =
-    storing_ends stage cast s (IsNewest base) open_is (modify_so stage s.c base j phase) early
+modify_phase stage cast s base j every open_is phase early below long on =
+    storing_ends stage cast s (IsNewest base) open_is (inr every) (modify_so stage s.c base j phase) early
     (λ x seated. fits_in_phase stage s.c (Modifies base j) x phase (modify_fits stage s.c base j x open_is.in_view.of.group below long))
     (each_then (λ (x : Seated). Takes stage s.c.stamp (IsNewest base) (s.parts x.brick.0))
     (λ (x : Seated). IsStorable stage s.c.stamp (IsNewest base) (s.parts x.brick.0)) cast.xs

@@ -6,7 +6,7 @@ use Rattle.calm_laws.proofs.Asking.{Gives, Keeps, Replies, told_all}
 use Rattle.calm_laws.proofs.Counts.{Carries, counted_of, fresh_at}
 use Rattle.calm_laws.proofs.PhaseRuns.{Cast, IsOpen, known_then, open_run_to}
 use Rattle.calm_laws.proofs.Rooms.{Room, newest_within}
-use Rattle.calm_laws.proofs.Scenes.{Closes, Each, Fits, IsNewest, IsSeated, Part, Scene, Seated, Stage, part_after, reaction}
+use Rattle.calm_laws.proofs.Scenes.{Closes, Each, Fits, IsNewest, IsSeated, Part, Scene, Seated, Stage, part_after, reaction, IsForAll}
 use Rattle.fab_base.specs.Stamps.{stamp_below}
 use Rattle.fab_base.specs.declared.answers.Answer.{Answer}
 use Rattle.fab_base.specs.declared.stamps.Stamp.{Stamp}
@@ -94,7 +94,7 @@ module _ (stage : Stage) (c : Coordinator) (P : List Version → Type 0) (so : S
   stores_reply x part storable = (stores x part storable).1
 
 -- the version is stored by all, and the operation ends
-pub storing_ends : (stage : Stage) (cast : Cast stage) (s : Scene) (P : List Version → Type 0) → IsOpen stage cast s → StoresSo stage s.c P
+pub storing_ends : (stage : Stage) (cast : Cast stage) (s : Scene) (P : List Version → Type 0) → IsOpen stage cast s → IsForAll stage s.c.phase → StoresSo stage s.c P
     → s.c.call.phase < 2 ^ 32 - 1 → ((x : Seated) → IsSeated stage x → Fits stage s.c x)
     → Each (λ x. IsStorable stage s.c.stamp P (s.parts x.brick.0)) cast.xs
     → Each (λ x. answers_phase stage.setting.layout.block s.c.stamp x.seat s.c.phase Stored ≡ true) cast.xs
@@ -102,8 +102,8 @@ pub storing_ends : (stage : Stage) (cast : Cast stage) (s : Scene) (P : List Ver
     × (decided stage.setting.layout.block stage.setting.code fresh (record s.c { counted = map (counted_of (λ x. Stored)) cast.xs })
     ≡ Ends answer None (Some s.c.stamp)))
     → Closes stage s
-storing_ends stage cast s P open_is so early fits storable answers ends =
-    open_run_to stage cast s open_is (λ i part. IsStorable stage s.c.stamp P part) (λ i part. IsNewest s.c.stamp part.replica.log) (λ x. Stored)
+storing_ends stage cast s P open_is all so early fits storable answers ends =
+    open_run_to stage cast s open_is all (λ i part. IsStorable stage s.c.stamp P part) (λ i part. IsNewest s.c.stamp part.replica.log) (λ x. Stored)
     early fits (stores_keep stage s.c P so) (stores_reply stage s.c P so) (newest_keep stage s.c P so) (stores_give stage s.c P so) storable answers
     (λ before parts newest.
     let known : ℕ = known_then stage s (λ x. Stored) cast.xs open_is.stale in

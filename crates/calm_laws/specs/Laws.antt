@@ -14,6 +14,7 @@ use Rattle.protocol.specs.Calms.{IsCalm, RunsAlone, open_call, is_one_of, member
 use Rattle.protocol.specs.Happenings.{is_marked}
 use Rattle.protocol.specs.Settings.{IsSound, Setting}
 use Rattle.protocol.specs.Worlds.{Event, Operation, World, first_world, run, Delivers, packet_of}
+use Rattle.fab_base.specs.declared.asks.Op.TheVariants.{ReadStripe}
 
 -- An operation is over: it is not open, and it was answered data or that it is done, and not aborted.
 pub record IsOver (w : World) (n : ℕ) : Type 0 where
@@ -37,16 +38,22 @@ EncodesBlocks setting = (m : ℕ) (content : List ℕ) (seat : ℕ) → length (
 abbrev pub most_records : ℕ
 most_records = 2 ^ 20
 
--- An operation has marks, or its stripe is one of its group's: a synchronisation of a group without stripes reads one that there is not, and nobody answers it.
-abbrev pub HasStripe : Setting → Operation → Type 0
-HasStripe setting o = (is_marked o ≡ true) ⊎ (is_stripe (group_of setting.layout o.ask.group.0) o.ask.stripe.0 ≡ true)
+-- An operation counts every member; or it is a scrub of just these bricks, which are members.
+abbrev pub CountsThese : Coordinator → List BrickId → Type 0
+CountsThese c bricks = (c.only ≡ None) ⊎ ((c.only ≡ Some bricks) × (members_among c.group.members bricks ≡ length bricks) × (c.ask.op ≡ ReadStripe))
+
+-- An operation has marks; or its stripe is one of its group's, and it counts every member or these bricks: a synchronisation of a group without stripes reads one
+-- that there is not, and nobody answers it.
+abbrev pub HasStripe : Setting → Operation → Coordinator → List BrickId → Type 0
+HasStripe setting o c bricks =
+    (is_marked o ≡ true) ⊎ ((is_stripe (group_of setting.layout o.ask.group.0) o.ask.stripe.0 ≡ true) × CountsThese c bricks)
 
 -- After every schedule: an operation whose messages among these bricks alone are delivered is answered, where it is calm.
 abbrev pub CalmOperationsEnd : Type 0
 CalmOperationsEnd =
     (setting : Setting) (events : List Event) (n : ℕ) (bricks : List BrickId) → IsSound setting → EncodesBlocks setting
     → setting.layout.records ≤ most_records → (calm : IsCalm setting (run setting events (first_world setting.layout)) n bricks)
-    → HasStripe setting calm.operation → EndsAlone setting (run setting events (first_world setting.layout)) n bricks
+    → HasStripe setting calm.operation calm.coordinator bricks → EndsAlone setting (run setting events (first_world setting.layout)) n bricks
 
 -- the packet of this number is a Collect of version t, which brick me sent to this brick under the call of this coordinator, in some phase
 pub record IsCollect (w : World) (me : BrickId) (c : Coordinator) (t : Stamp) (brick : BrickId) (number : ℕ) : Type 0 where
@@ -94,5 +101,5 @@ abbrev pub CollectsLeaveOne : Type 0
 CollectsLeaveOne =
     (setting : Setting) (events : List Event) (n : ℕ) (bricks : List BrickId) → IsSound setting → EncodesBlocks setting
     → setting.layout.records ≤ most_records → (calm : IsCalm setting (run setting events (first_world setting.layout)) n bricks)
-    → HasStripe setting calm.operation → (alone : List Event) (last : World) → RunsAlone setting n bricks (run setting events (first_world setting.layout)) alone last
+    → HasStripe setting calm.operation calm.coordinator bricks → (alone : List Event) (last : World) → RunsAlone setting n bricks (run setting events (first_world setting.layout)) alone last
     → LeavesItsOwn setting (run setting events (first_world setting.layout)) n bricks calm last

@@ -1,11 +1,13 @@
 //! The laws of operations that run alone. The calls do nothing: their contracts are the laws.
 
 ghost use Rattle.calm_laws.specs.Laws.{CalmOperationsEnd, CollectsLeaveOne};
+ghost use Rattle.calm_laws.specs.LoneScrubs.{ScrubsEndAlone};
 
 /// An operation that runs alone comes to its end, and is answered data or that it is done, and not aborted: whatever had happened before, whatever else is open, and
 /// whatever view it is in.
 ///
-/// It was asked for; or it is a read of a synchronisation, of a stripe that its group has.
+/// It was asked for; or it is a read of a synchronisation, of a stripe that its group has; or it is a scrub, and these bricks are just the members that it names. It is
+/// clean then, or has repaired.
 ///
 /// It runs alone among some bricks where none of its messages was delivered before, and then those among these bricks are delivered one after
 /// another, in the order of sending, and nothing else happens. The bricks are distinct and up, the view of its group that they have learnt is the operation's, and they
@@ -33,4 +35,13 @@ pub fn calm_operations_end()
 /// ascends, and no stamp stands twice in it: so what is not below its newest version is that version.
 pub fn collects_leave_one()
     ensures { CollectsLeaveOne }
+{}
+
+/// A scrub that runs alone among the members that it names ends: it is reported clean, or repaired. It may run alone as it begins, and each event since was the
+/// delivery of its message that goes next. Then it is open, and has one more such message, or it has ended so. Its brick need be none of the members.
+///
+/// Why: it is an operation that counts these members alone, so it comes to its end, and is not aborted. Until it ends its brick has it open, and as it ends the brick
+/// reports it.
+pub fn scrubs_end_alone()
+    ensures { ScrubsEndAlone }
 {}

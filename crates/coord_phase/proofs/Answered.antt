@@ -16,9 +16,9 @@ use Rattle.protocol.specs.declared.phases.Counted.{Counted}
 use Rattle.protocol.specs.declared.phases.FullMember.{FullMember}
 use Rattle.protocol.specs.declared.phases.Mover.{Mover}
 use Rattle.protocol.specs.declared.phases.Dropper.{Dropper}
-use Rattle.protocol.specs.Coordinators.{Next, Ignores, Waits, counts_at, lowest_full, aborted_full, lowest_mover, aborted_moved, lowest_dropper, aborted_gone, decided, on_reply, counted_at}
+use Rattle.protocol.specs.Coordinators.{Next, Ignores, Waits, counts_at, lowest_full, aborted_full, lowest_mover, aborted_moved, lowest_dropper, aborted_gone, needed, decided, on_reply, counted_at}
 use Rattle.stripe_code.specs.Codes.{block_code}
-use Rattle.coord_phase.specs.Operations.{Operation, StaysAsked, with_state, without_last, telling, needed, seat_told, counts, heard, heard_at}
+use Rattle.coord_phase.specs.Operations.{Operation, StaysAsked, with_state, without_last, telling, seat_told, counts, heard, heard_at}
 use Rattle.coord_phase.specs.Decisions.{decided_on, decision, Answers, AsksRecovery, HasBlocks, SendsPhase, IsWait}
 
 -- what is decided, by whether the message counts, and whether a quorum then counts
@@ -57,7 +57,7 @@ heard_reply fresh op from call reply None is =
       heard = λ some. absurd (false≢true some);
       unchanged = λ none. refl;
       uncounted = λ some. absurd (false≢true some);
-      stays = record { block = refl; group = refl; prior = refl; ask = refl };
+      stays = record { block = refl; group = refl; prior = refl; only = refl; ask = refl };
     }
 heard_reply fresh op from call reply (Some seat) is =
     let after = heard_at op from (messages.Reply call reply) (Some seat) in
@@ -68,7 +68,7 @@ heard_reply fresh op from call reply (Some seat) is =
           (decided op.block (block_code op.block) fresh after.state);
       unchanged = λ none. absurd (false≢true (sym none));
       uncounted = λ some. ap (λ (counted : List Counted). with_state op (record op.state { counted = counted })) (all_but_last op.state.counted _);
-      stays = record { block = refl; group = refl; prior = refl; ask = refl };
+      stays = record { block = refl; group = refl; prior = refl; only = refl; ask = refl };
     }
 
 heard_message : (fresh : Option Stamp) (op : Operation) (from : BrickId) (message : Message)
@@ -81,7 +81,7 @@ heard_message fresh op from message =
       heard = λ some. absurd (false≢true some);
       unchanged = λ none. refl;
       uncounted = λ some. absurd (false≢true some);
-      stays = record { block = refl; group = refl; prior = refl; ask = refl };
+      stays = record { block = refl; group = refl; prior = refl; only = refl; ask = refl };
     }
 
 -- a message that does not count changes nothing, and the machine leaves it out
@@ -108,7 +108,7 @@ heard_stays op from message = (heard_message None op from message).stays
 -- what is asked stays so from one step to the next
 pub stays_both : (a b c : Operation) → StaysAsked a b → StaysAsked b c → StaysAsked a c
 stays_both a b c first second =
-    record { block = second.block ∙ first.block; group = second.group ∙ first.group; prior = second.prior ∙ first.prior; ask = second.ask ∙ first.ask }
+    record { block = second.block ∙ first.block; group = second.group ∙ first.group; prior = second.prior ∙ first.prior; only = second.only ∙ first.only; ask = second.ask ∙ first.ask }
 
 stays_telling : (mid after : Operation) (news : News) → after ≡ telling mid mid.state news → StaysAsked mid after
 stays_telling mid after news is =
@@ -116,6 +116,7 @@ stays_telling mid after news is =
       block = ap (λ (op : Operation). op.block) is;
       group = ap (λ (op : Operation). op.state.group) is;
       prior = ap (λ (op : Operation). op.state.prior) is;
+      only = ap (λ (op : Operation). op.state.only) is;
       ask = ap (λ (op : Operation). op.state.ask) is;
     }
 

@@ -1,8 +1,10 @@
 -- An operation in a phase, at its coordinator.
-use Rattle.std.specs.Prelude.{◌≡◌, ℕ, ◌-◌, ◌*◌, ◌<◌, Bool, true, false, not, nat_lt, ◌&&◌, List, [], ◌∷◌, length, take, Option, Some, None, is_some}
+use Rattle.std.specs.Prelude.{◌≡◌, ℕ, ◌-◌, ◌*◌, ◌<◌, Bool, true, false, not, ◌&&◌, nat_lt, List, [], ◌∷◌, length, take, Option, Some, None, is_some}
 use Rattle.std.specs.List.{list_all, list_any}
 use Rattle.fab_base.specs.declared.identities.BrickId.{BrickId}
 use Rattle.fab_base.specs.declared.identities.CallId.{CallId}
+use Rattle.fab_base.specs.declared.identities.GroupId.{GroupId}
+use Rattle.fab_base.specs.declared.identities.StripeNo.{StripeNo}
 use Rattle.fab_base.specs.declared.identities.ViewNo.{ViewNo}
 use Rattle.fab_base.specs.declared.stamps.Stamp.{Stamp}
 use Rattle.fab_base.specs.Stamps.{first_stamp}
@@ -15,13 +17,14 @@ use Rattle.coord_phase.specs.declared.operations.Stage.{Stage}
 use Rattle.coord_phase.specs.declared.operations.OnBase.{OnBase}
 use Rattle.coord_phase.specs.declared.operations.News.{News}
 use Rattle.fab_base.specs.Layouts.{Layout, Group}
-use Rattle.quorum.specs.Quorums.{IsWithinLimits, quorum_of}
+use Rattle.quorum.specs.Quorums.{IsWithinLimits}
 use Rattle.protocol.specs.Views.{group_kept}
 use Rattle.protocol.specs.declared.phases.Phase.{Phase}
 use Rattle.protocol.specs.declared.phases.Phase.TheVariants.{Looks, LooksAt, Orders, OrdersAt, Recovers, Descends, LooksBack, Modifies, Bases, Stores}
 use Rattle.protocol.specs.declared.phases.Counted.{Counted}
-use Rattle.protocol.specs.Coordinators.{Coordinator, answers_phase, asked_group, block_written, counts_at, has_seat, with_reply}
+use Rattle.protocol.specs.Coordinators.{Coordinator, AreEnough, answers_phase, asked_group, block_written, counts_at, has_seat, with_reply}
 use Rattle.protocol.specs.Nodes.{has_block, has_length, first_phase, given_content}
+use Rattle.protocol.specs.Scrubs.{scrub_ask}
 
 -- an operation: the bytes of a block, how far the machine's coordinator is, and what the last reply that it heard made new of a version
 pub record Operation : Type 0 where
@@ -51,23 +54,16 @@ stored_in News.Made stamp = None
 stored_in (News.Seen version) stamp = None
 stored_in News.Stored stamp = Some stamp
 
--- how many replies decide a phase: a quorum of those who are asked
-abbrev pub needed : Coordinator → ℕ
-needed c = quorum_of (asked_group c)
-
--- a reply of this seat may count: none of it does yet
-abbrev pub may_count : Coordinator → ℕ → Bool
-may_count c seat = not (has_seat seat c.counted)
-
 -- the coordinator without the last reply that counts
 abbrev pub without_last : Coordinator → Coordinator
 without_last c = record c { counted = take (length c.counted - 1) c.counted }
 
--- an operation stays what it is: its blocks' length, its group, the members before these, and what it is asked
+-- an operation stays what it is: its blocks' length, its group, the members before these, those that alone count, and what it is asked
 pub record StaysAsked (before after : Operation) : Type 0 where
   pub block : after.block ≡ before.block
   pub group : after.state.group ≡ before.state.group
   pub prior : after.state.prior ≡ before.state.prior
+  pub only : after.state.only ≡ before.state.only
   pub ask : after.state.ask ≡ before.state.ask
 
 -- a group, or one without data blocks
@@ -95,20 +91,22 @@ abbrev pub call_in : CallId → ℕ → Ask → ViewNo → Call
 call_in call number ask view =
     record { boot = call.boot; seq = call.seq; phase = number; group = ask.group; view = view; stripe = ask.stripe }
 
--- an operation in its first round, in this phase of its call, asked of the members of a view: it has found no base
-abbrev pub opened_op : Layout → View → Call → Ask → Stamp → Phase → Operation
-opened_op layout view call ask stamp phase =
+-- an operation in its first round, in the first phase of its call, which is this one, asked of the members of a view, of whom these alone count, or all: it has
+-- found no base
+abbrev pub opened_op : Layout → View → CallId → Ask → Stamp → Phase → Option (List BrickId) → Operation
+opened_op layout view call ask stamp phase only =
     record {
       block = layout.block;
       state = record {
         group = group_in_view layout view.members ask.group.0;
         prior = view.prior;
+        only = only;
         ask = ask;
         stamp = stamp;
         round = 1;
         base = None;
         content = given_content ask.op;
-        call = call;
+        call = call_in call 1 ask view.number;
         phase = phase;
         counted = [];
       };
@@ -117,7 +115,11 @@ opened_op layout view call ask stamp phase =
 
 -- a new operation, asked of the members of a view
 abbrev pub first_op : Layout → View → CallId → Ask → Stamp → Operation
-first_op layout view call ask stamp = opened_op layout view (call_in call 1 ask view.number) ask stamp (first_phase ask.op)
+first_op layout view call ask stamp = opened_op layout view call ask stamp (first_phase ask.op) None
+
+-- a new scrub of these members of a stripe, asked of all members of a view
+abbrev pub scrub_op : Layout → View → CallId → GroupId → StripeNo → Stamp → List BrickId → Operation
+scrub_op layout view call group stripe stamp only = opened_op layout view call (scrub_ask group stripe) stamp Looks (Some only)
 
 -- the coordinator as it begins a stage, in which no reply counts yet
 abbrev pub at_stage : Coordinator → Stage → Coordinator
@@ -183,14 +185,15 @@ MayAsk view (LooksBack bound) = 1 < view.0
 MayAsk view phase = Unit {0}
 
 -- What is true of an operation in each phase: the data block that it asks for is one of m, and what it is given to write has its length; what it
--- stores is m blocks; there are members whom the phase asks; and each reply that counts is of a seat of these, answers the phase, and is its seat's
--- only one.
+-- stores is m blocks; there are members whom the phase asks, and enough of them count; and each reply that counts is of a seat of these, answers the phase, and is
+-- its seat's only one.
 pub record IsInPhase (block : ℕ) (c : Coordinator) : Type 0 where
   pub fits : has_block c.group.m c.ask.op ≡ true
   pub long : has_length c.group.m block c.ask.op ≡ true
   pub content : StoresBlocks block c.group.m c.ask.op c.content c.phase
   pub prior : PriorIsWithinLimits c.group.m c.stamp.view c.prior
   pub asks : MayAsk c.stamp.view c.phase
+  pub enough : AreEnough c.group c.only
   pub seats : list_all (λ reply. nat_lt reply.seat (length (asked_group c).members)) c.counted ≡ true
   pub answers : list_all (λ reply. answers_phase block c.stamp reply.seat c.phase reply.reply) c.counted ≡ true
   pub apart : are_apart c.counted ≡ true

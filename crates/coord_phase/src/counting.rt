@@ -1,15 +1,23 @@
 //! Which replies count.
 
-ghost use Rattle.std.specs.Prelude.{◌≡◌, ◌≤◌, ◌<◌, length, IfSome};
+ghost use Rattle.std.specs.Prelude.{◌≡◌, ◌≤◌, ◌<◌, nat_eq, length, IfSome};
+ghost use Rattle.std.specs.List.{list_any};
 ghost use Rattle.fab_base.specs.Layouts.{seat_in};
 ghost use Rattle.protocol.specs.Coordinators.{call_same, may_be_found, may_be_base, told_length, old_bound, answers_phase};
 ghost use Rattle.protocol.specs.Views.{floor_of};
 
-use crate::operations::Operation;
+use crate::operations::{Operation, looks_back};
 use fab_base::{BrickId, NoMem, Stamp, ViewNo};
 use messages::{Call, Message, Reply, Version};
 use protocol::{Counted, Phase};
 use std::alloc::Global;
+
+/// Whether a brick is one of these members.
+fn stands_in(members: &[BrickId], brick: BrickId) -> bool
+    ensures { result ≡ list_any (λ member. nat_eq member.0 brick.0) members.now }
+{
+    members.iter().any(|member| member.0 == brick.0)
+}
 
 /// Whether two calls are the same, phase and all.
 fn is_same_call(left: Call, right: Call) -> bool
@@ -115,9 +123,10 @@ fn answers(block: u16, stamp: Stamp, seat: u8, phase: Phase, reply: &Reply) -> b
 
 impl Operation {
     ghost use Rattle.std.specs.Prelude.{◌≡◌, ◌-◌, ◌<◌, ◌≤◌, ◌^◌, not, nat_lt, true, None, Some, IfSome, IfOk, OnOk, OnErr, length};
-    ghost use Rattle.protocol.specs.Coordinators.{asked_group, has_seat, counts_at};
+    ghost use Rattle.std.specs.List.{list_all};
+    ghost use Rattle.protocol.specs.Coordinators.{answers_phase, asked_group, needed, may_count, has_seat, counts_at};
     ghost use Rattle.protocol.specs.Nodes.{has_length};
-    ghost use Rattle.coord_phase.specs.Operations.{with_state, without_last, needed, may_count, counts, heard};
+    ghost use Rattle.coord_phase.specs.Operations.{with_state, without_last, counts, heard};
 
     /// Whether the member at a seat has a reply that counts.
     pub(crate) fn has_reply(&self, seat: u8) -> bool
@@ -127,15 +136,17 @@ impl Operation {
         self.replies.has_reply(seat)
     }
 
-    /// Whether a reply of this seat may count: none of it does yet.
-    fn may_count(&self, seat: u8) -> bool
-        requires { seat < length (asked_group self.now.state).members }
-        ensures { result ≡ may_count self.now.state seat }
+    /// Whether a member's reply may count in the present phase: where some members alone count, it is one of them, or the phase looks back.
+    fn may_count(&self, brick: BrickId) -> bool
+        ensures { result ≡ may_count self.now.state brick.0 }
     {
-        !self.has_reply(seat)
+        match &self.only {
+            None => true,
+            Some(only) => looks_back(self.stage.phase) || stands_in(only.as_slice(), brick),
+        }
     }
 
-    /// The seat at which a reply counts: it is to this very phase, answers it, and is its seat's first.
+    /// The seat at which a reply counts: it may count, is to this very phase, answers it, and is its seat's first.
     #[tactic(auto, unfolding(protocol::specs::Coordinators::counts_at))]
     fn seat_to_count(&self, from: BrickId, call: Call, reply: &Reply) -> Option<u8>
         ensures seat { result ≡ counts_at self.now.block self.now.state from.0 call reply.now }
@@ -144,9 +155,12 @@ impl Operation {
         if !is_same_call(call, self.stage.call) || self.stage.call.phase == u32::MAX {
             return None;
         }
+        if !self.may_count(from) {
+            return None;
+        }
         let seat = self.asked().seat_of(from)?;
         if !answers(self.block, self.stage.stamp, seat, self.stage.phase, reply)
-            || !self.may_count(seat)
+            || self.has_reply(seat)
         {
             return None;
         }
@@ -166,12 +180,7 @@ impl Operation {
 
     /// Counts a reply, if it counts, and says whether it did. Where memory runs out nothing has changed.
     #[tactic(auto, unfolding(crate::specs::Operations::seat_told))]
-    pub(crate) fn count(
-        &mut self,
-        alloc: Global,
-        from: BrickId,
-        message: &Message,
-    ) -> Result<bool, NoMem>
+    pub fn count(&mut self, alloc: Global, from: BrickId, message: &Message) -> Result<bool, NoMem>
         ensures counted { IfOk result (λ counted. counted ≡ counts self.old from message.now) }
         ensures heard { OnOk result (self.new ≡ heard self.old from message.now) }
         ensures stamp { self.new.state.stamp ≡ self.old.state.stamp }
@@ -200,13 +209,14 @@ impl Operation {
     }
 
     /// Whether as many replies count as decide the phase.
-    pub(crate) fn is_full(&self) -> bool
+    pub fn is_full(&self) -> bool
         ensures full { result ≡ not (nat_lt (length self.now.state.counted) (needed self.now.state)) }
         ensures enough { result ≡ true → self.now.state.group.m ≤ length self.now.state.counted }
         ensures long { has_length self.now.state.group.m self.now.block self.now.state.ask.op ≡ true }
+        ensures answers { list_all (λ reply. answers_phase self.now.block self.now.state.stamp reply.seat self.now.state.phase reply.reply) self.now.state.counted ≡ true }
     {
         // The use of a field tells the proof what is always true of an operation.
         let _ = &self.block;
-        self.counted().len() >= self.needed() as usize
+        self.counted().len() >= self.needed()
     }
 }

@@ -4,7 +4,7 @@ ghost use Rattle.std.specs.Prelude.{◌≡◌};
 ghost use Rattle.protocol.specs.Nodes.{first_phase};
 
 use crate::deciding::Decide;
-use crate::operations::{Operation, call_in};
+use crate::operations::Operation;
 use fab_base::{Ask, BrickId, CallId, NoMem, Op, Stamp, View};
 use layout::Layout;
 use messages::{Message, Next};
@@ -87,9 +87,8 @@ impl<K: Decide> Coordinated<K> {
         ensures send { IfOk result (λ begun. IsSend begun.1) }
         ensures sent { IfOk result (λ begun. SendsPhase begun.0 begun.1) }
     {
-        let call = call_in(call, 1, &ask, view.number);
         let phase = first_phase(&ask.op);
-        let op = Operation::opened(alloc, layout, &view, call, ask, stamp, phase);
+        let op = Operation::opened(alloc, layout, &view, call, ask, stamp, phase, None);
         let messages = op.messages(alloc)?;
         Ok((Coordinated::new(alloc, op), Next::Send(messages)))
     }

@@ -18,3 +18,4 @@ pub use deciding::Decide;
 pub use kinds::Coordinated;
 pub use operations::{News, Operation, Stage};
 pub use stages::MOST_ROUNDS;
+pub use versions::told_stamp;

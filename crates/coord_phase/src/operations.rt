@@ -3,7 +3,7 @@
 ghost use Rattle.std.specs.Prelude.{◌≡◌, IfOk, length};
 ghost use Rattle.quorum.specs.Quorums.{IsWithinLimits};
 ghost use Rattle.coord_phase.specs.Operations.{group_in_view, call_in};
-ghost use Rattle.protocol.specs.Coordinators.{looks_back};
+ghost use Rattle.protocol.specs.Coordinators.{looks_back, asks_each};
 
 use crate::replies::Replies;
 use fab_base::{Ask, Bytes, CallId, GroupId, Members, NoMem, Op, Stamp, View, ViewNo};
@@ -46,13 +46,14 @@ pub enum News {
     Stored,
 }
 
-/// An open operation: the bytes of a block, the group of its view, the members of the view before that, what is asked, how far the operation
-/// is, the base that it found, where it did, the replies that count in its phase, and what is new of a version.
+/// An open operation: the bytes of a block, the group of its view, the members of the view before that, those of its view that alone count, of a scrub, what is
+/// asked, how far the operation is, the base that it found, where it did, the replies that count in its phase, and what is new of a version.
 #[derive(Drop)]
 pub struct Operation {
     pub(crate) block: u16,
     pub(crate) group: Group,
     pub(crate) prior: Members,
+    pub(crate) only: Option<Members>,
     pub(crate) ask: Ask,
     pub(crate) stage: Stage,
     pub(crate) on_base: Option<OnBase>,
@@ -69,14 +70,14 @@ impl Model for Operation {
 
     ghost view = { λ op. record {
       block = op.block;
-      state = record { group = op.group; prior = op.prior; ask = op.ask; stamp = op.stage.stamp; round = op.stage.round; base = base_in op.on_base; content = content_in op.ask.op op.on_base; call = op.stage.call; phase = op.stage.phase; counted = op.replies.list.items };
+      state = record { group = op.group; prior = op.prior; only = op.only; ask = op.ask; stamp = op.stage.stamp; round = op.stage.round; base = base_in op.on_base; content = content_in op.ask.op op.on_base; call = op.stage.call; phase = op.stage.phase; counted = op.replies.list.items };
       news = op.news;
     } };
 
     ghost invariant = { λ op. IsInPhase op.block
-        (record { group = op.group; prior = op.prior; ask = op.ask; stamp = op.stage.stamp; round = op.stage.round; base = base_in op.on_base; content = content_in op.ask.op op.on_base; call = op.stage.call; phase = op.stage.phase; counted = op.replies.list.items })
+        (record { group = op.group; prior = op.prior; only = op.only; ask = op.ask; stamp = op.stage.stamp; round = op.stage.round; base = base_in op.on_base; content = content_in op.ask.op op.on_base; call = op.stage.call; phase = op.stage.phase; counted = op.replies.list.items })
         × (op.replies.tally.n ≡ length (asked_group
-        (record { group = op.group; prior = op.prior; ask = op.ask; stamp = op.stage.stamp; round = op.stage.round; base = base_in op.on_base; content = content_in op.ask.op op.on_base; call = op.stage.call; phase = op.stage.phase; counted = op.replies.list.items })).members) };
+        (record { group = op.group; prior = op.prior; only = op.only; ask = op.ask; stamp = op.stage.stamp; round = op.stage.round; base = base_in op.on_base; content = content_in op.ask.op op.on_base; call = op.stage.call; phase = op.stage.phase; counted = op.replies.list.items })).members) };
 }
 
 /// A group of these members, within the limits of a quorum.
@@ -91,7 +92,7 @@ fn group_of_members(members: Members, m: u8, stripes: u32) -> Group
 }
 
 /// The group of this number, kept by the members of a view, which are within the limits of a quorum of its data blocks.
-pub(crate) fn group_in_view(layout: &Layout, view: &View, group: GroupId) -> Group
+fn group_in_view(layout: &Layout, view: &View, group: GroupId) -> Group
     requires { IsWithinLimits (group_in_view layout.now view.now.members group.0).m (length view.now.members) }
     ensures { result ≡ group_in_view layout.now view.now.members group.0 }
 {
@@ -102,7 +103,7 @@ pub(crate) fn group_in_view(layout: &Layout, view: &View, group: GroupId) -> Gro
 }
 
 /// The phase of this number of a call, in a view.
-pub(crate) fn call_in(call: CallId, number: u32, ask: &Ask, view: ViewNo) -> Call
+fn call_in(call: CallId, number: u32, ask: &Ask, view: ViewNo) -> Call
     ensures { result ≡ call_in call number ask.now view }
 {
     Call {
@@ -122,6 +123,23 @@ pub(crate) fn looks_back(phase: Phase) -> bool
     matches!(phase, Phase::LooksBack(_))
 }
 
+/// Whether a phase is for each member whom a scrub brings to one version.
+fn asks_each(phase: Phase) -> bool
+    ensures { result ≡ asks_each phase }
+{
+    matches!(phase, Phase::Looks | Phase::Recovers | Phase::Stores)
+}
+
+/// A copy of the members that alone count, where some do.
+fn copy_only(only: &Option<Members>) -> Option<Members>
+    ensures { result ≡ only.now }
+{
+    match only {
+        None => None,
+        Some(members) => Some(members.copy()),
+    }
+}
+
 /// A copy of the base that an operation found, if it did.
 fn copy_on_base(alloc: Global, on_base: &Option<OnBase>) -> Result<Option<OnBase>, NoMem>
     ensures { IfOk result (λ made. made ≡ on_base.now) }
@@ -137,40 +155,44 @@ fn copy_on_base(alloc: Global, on_base: &Option<OnBase>) -> Result<Option<OnBase
 
 impl Operation {
     ghost use Rattle.std.specs.Prelude.{◌≡◌, ◌≤◌, ◌<◌, true, false, Some, IfOk, length};
-    ghost use Rattle.protocol.specs.Coordinators.{looks_back, asked_group, block_written, forgetting, may_look_back};
-    ghost use Rattle.protocol.specs.Nodes.{has_block, has_length, given_content};
+    ghost use Rattle.protocol.specs.Coordinators.{AreEnough, looks_back, asked_group, needed, block_written, forgetting, may_look_back};
+    ghost use Rattle.protocol.specs.Nodes.{has_block, has_length, given_content, view_in};
     ghost use Rattle.coord_phase.specs.declared.operations.News.TheVariants as news;
-    ghost use Rattle.coord_phase.specs.Operations.{StoresBlocks, PriorIsWithinLimits, MayAsk, needed, opened_op, is_storing, seen_in, stored_in, telling};
+    ghost use Rattle.coord_phase.specs.Operations.{StoresBlocks, PriorIsWithinLimits, MayAsk, opened_op, is_storing, seen_in, stored_in, telling};
 
-    /// An operation in its first round, in this phase of its call, asked of the members of a view, whose number and that of the group's
-    /// data blocks are within the limits of a quorum; so are those before them, where there is a view before. Its stamp is of the view, and the phase does not look
-    /// back. The data block that it asks for is one of them. What it is given to write is one block, or m blocks; and where the phase makes ready to store
+    /// An operation in its first round, in the first phase of its call, which is this one, asked of the members of a view, whose number and that of the group's
+    /// data blocks are within the limits of a quorum; so are those before them, where there is a view before. These of them alone count, at least a quorum, or all
+    /// do. Its stamp is of the view, and the phase does not look back. The data block that it asks for is one of them. What it is given to write is one block, or m blocks; and where the phase makes ready to store
     /// that, it is given that.
     #[tactic(auto, using(crate::proofs::Asked::asked_own, crate::proofs::Asked::may_ask_own))]
-    pub(crate) fn opened(
+    pub fn opened(
         alloc: Global,
         layout: &Layout,
         view: &View,
-        call: Call,
+        call: CallId,
         ask: Ask,
         stamp: Stamp,
         phase: Phase,
+        only: Option<Members>,
     ) -> Operation
         requires limits { IsWithinLimits (group_in_view layout.now view.now.members ask.group.0).m (length view.now.members) }
         requires prior { PriorIsWithinLimits (group_in_view layout.now view.now.members ask.group.0).m view.now.number view.now.prior }
         requires view { stamp.view ≡ view.now.number }
         requires own { looks_back phase ≡ false }
+        requires enough { AreEnough (group_in_view layout.now view.now.members ask.group.0) only }
         requires fits { has_block (group_in_view layout.now view.now.members ask.group.0).m ask.op ≡ true }
         requires length { has_length (group_in_view layout.now view.now.members ask.group.0).m layout.now.block ask.op ≡ true }
         requires content { StoresBlocks layout.now.block (group_in_view layout.now view.now.members ask.group.0).m ask.op (given_content ask.op) phase }
-        ensures { result ≡ opened_op layout.now view.now call ask stamp phase }
+        ensures { result ≡ opened_op layout.now view.now call ask stamp phase only }
     {
         let group = group_in_view(layout, view, ask.group);
         let replies = Replies::new(alloc, group.policy());
+        let call = call_in(call, 1, &ask, view.number);
         Operation {
             block: layout.block(),
             group,
             prior: view.prior.copy(),
+            only,
             ask,
             stage: Stage {
                 stamp,
@@ -192,6 +214,7 @@ impl Operation {
             block: self.block,
             group: self.group.copy(),
             prior: self.prior.copy(),
+            only: copy_only(&self.only),
             ask: self.ask.copy(alloc)?,
             stage: self.stage,
             on_base: copy_on_base(alloc, &self.on_base)?,
@@ -205,6 +228,24 @@ impl Operation {
         ensures { result.now ≡ self.now.state.group }
     {
         &self.group
+    }
+
+    /// The view that it belongs to.
+    pub fn view(&self) -> View
+        ensures { result ≡ view_in self.now.state }
+    {
+        View {
+            number: self.stage.stamp.view,
+            members: self.group.members().copy(),
+            prior: self.prior.copy(),
+        }
+    }
+
+    /// The members that alone count of its view, of a scrub. None where all do.
+    pub fn only(&self) -> Option<Members>
+        ensures { result ≡ self.now.state.only }
+    {
+        copy_only(&self.only)
     }
 
     /// The group as the members keep it that a phase asks: those of the operation's view, or those before them where it looks back.
@@ -235,12 +276,18 @@ impl Operation {
         self.asked_in(self.stage.phase)
     }
 
-    /// How many replies decide the phase, at least as many as there are data blocks: a quorum of those who are asked.
-    pub(crate) fn needed(&self) -> u8
+    /// How many replies decide the phase, at least as many as there are data blocks: a quorum of those who are asked; or all members that alone count, where the
+    /// phase is for each of them.
+    pub fn needed(&self) -> usize
         ensures value { result ≡ needed self.now.state }
         ensures enough { self.now.state.group.m ≤ result }
     {
-        self.asked().policy().q()
+        // The call tells the proof that a quorum is as many as there are data blocks.
+        let _ = self.group.policy().q();
+        match &self.only {
+            Some(only) if asks_each(self.stage.phase) => only.as_slice().len(),
+            _ => usize::from(self.asked().policy().q()),
+        }
     }
 
     /// What is asked.

@@ -189,7 +189,7 @@ impl Operation {
 
     /// The member of the lowest seat that told a later view, if one did.
     #[tactic(auto, using(crate::proofs::Foremost::lowest_mover_is))]
-    pub(crate) fn mover(&self) -> Option<Mover>
+    pub fn mover(&self) -> Option<Mover>
         ensures { result ≡ lowest_mover self.now.state.counted }
     {
         foremost::<Mover>(self.counted())

@@ -11,7 +11,7 @@ use protocol::Counted;
 use std::alloc::Global;
 
 /// The stamp of the version that a reply tells, if it tells one.
-pub(crate) fn told_stamp(reply: &Reply) -> Option<Stamp>
+pub fn told_stamp(reply: &Reply) -> Option<Stamp>
     ensures { result ≡ told_stamp reply.now }
 {
     match reply {

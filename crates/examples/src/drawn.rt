@@ -92,6 +92,18 @@ fn line_text(alloc: Global, line: &Line) -> Result<String, AllocError> {
             format!(in alloc; "view {brick} {group}{members}")
         }
         Line::Sync { brick, group } => format!(in alloc; "sync {brick} {group}"),
+        Line::Scrub {
+            brick,
+            group,
+            stripe,
+            members,
+        } => {
+            let members = bricks_text(alloc, members.as_slice())?;
+            format!(in alloc; "scrub {brick} {group} {stripe}{members}")
+        }
+        Line::Suspect { by, brick } => format!(in alloc; "suspect {by} {brick}"),
+        Line::Trust { by, brick } => format!(in alloc; "trust {by} {brick}"),
+        Line::Spare { brick, group } => format!(in alloc; "spare {brick} {group}"),
         Line::Calm { operation, bricks } => {
             let bricks = bricks_text(alloc, bricks.as_slice())?;
             format!(in alloc; "calm {operation}{bricks}")

@@ -76,13 +76,13 @@ pub enum Refusal {
     Down,
     /// There is no such group or stripe.
     NoStripe,
-    /// The bricks named are not distinct members of the view, or fewer than a quorum. Nothing asks for named bricks yet.
+    /// The bricks that a scrub names are not distinct members of the brick's view, or fewer than a quorum.
     NoQuorum,
     /// There is no such data block.
     NoBlock,
     /// The bytes to write are not one block, or not m blocks.
     Length,
-    /// The brick has 64 operations open.
+    /// The brick has 64 operations open; or, for a proposal, a synchronisation or a scrub, it has one of these open already.
     Busy,
     /// The brick has no later time, or no further call number.
     Spent,

@@ -3,13 +3,15 @@ use Rattle.std.proofs.Common.{◌≡◌, ◌⊎◌, inl, inr, ℕ, ◌+◌, ◌-
 use Rattle.std.proofs.Math.Nat.{mul-le-mul_left}
 use Rattle.fab_disk.specs.declared.disk.Disk as on_disk
 use Rattle.fab_disk.specs.Disk.{written, Torn}
-use Rattle.fab_disk.specs.Changing.{End, NotBegun, Still, Run}
+use Rattle.fab_disk.specs.Changing.{End, NotBegun, Still, Run, Change}
 use Rattle.fab_disk.proofs.Changing.{widen, still, same, behind}
 use Rattle.frame_store.specs.declared.frames.Frame.{Frame}
 use Rattle.frame_store.specs.declared.shapes.Shape.{Shape}
+use Rattle.frame_store.specs.declared.shapes.Form.{Form}
+use Rattle.frame_store.specs.declared.shapes.Form.TheVariants.{Old, New, Moved}
 use Rattle.frame_store.specs.declared.shapes.Half.{Half}
 use Rattle.frame_store.specs.declared.shapes.Half.TheVariants.{A, B}
-use Rattle.frame_store.specs.Layouts.{IsShape, header_at, header_rest, half_at, half_size, slot_at, store_end}
+use Rattle.frame_store.specs.Layouts.{IsShape, is_old, start_in, header_at, header_rest, half_at, half_size, index_half_size, slot_at, store_end}
 use Rattle.frame_store.specs.Listed.{size_of, line_of, closed_list, Fits}
 use Rattle.frame_store.specs.Laid.{other, Laid, IsCounted}
 use Rattle.frame_store.specs.Images.{OpensAs, Lists, ListsWith}
@@ -20,36 +22,49 @@ use Rattle.frame_store.proofs.Runs.{torn_same}
 use Rattle.frame_store.proofs.Stopping.{staged_none}
 use Rattle.frame_store.proofs.Parts.{length-written}
 use Rattle.frame_store.proofs.Listing.{size_of-append}
-use Rattle.frame_store.proofs.Slots.{slot_before_half}
+use Rattle.frame_store.proofs.Slots.{half_behind, half_is, first_is, slot_before_half}
 use Rattle.frame_store.proofs.Indexes.{Index}
 use Rattle.frame_store.proofs.Openings.{opens_once}
 use Rattle.frame_store.proofs.Appending.{Rooted, length-line, index_of, rooted_of, appended_laid}
 use Rattle.frame_store.proofs.Headers.{header_within}
-use Rattle.frame_store.proofs.Rewriting.{length-closed_list, rewrite_first, rewrite_before, rewrite_then, rewritten_laid, rewrite_after}
+use Rattle.frame_store.proofs.Shutting.{length-closed_list}
+use Rattle.frame_store.proofs.Rewriting.{rewrite_first, rewrite_before, rewrite_then, rewritten_laid, rewrite_after}
 use Rattle.frame_store.proofs.Changes.{laid_opens, append_before, append_moment, append_after, put_before, put_moment, put_after, rooted_put}
 
 -- the whole store lies below 2^48
+start_small : (form : Form) (shape : Shape) → IsShape shape → start_in form shape ≤ 2 ^ 36
+start_small form shape limits =
+    let wide : (2 * shape.records + 512) * (shape.block + 256) ≤ (2 * shape.records + 512) * 4352 =
+    mul-le-mul_left {m = shape.block + 256} {n = 4352} (2 * shape.records + 512) (omega (arith, limits.few_bytes)) in
+    each form wide
+  where
+    each : (form : Form) → (2 * shape.records + 512) * (shape.block + 256) ≤ (2 * shape.records + 512) * 4352 → start_in form shape ≤ 2 ^ 36
+    each Old wide = omega (arith, wide, limits.few_slots)
+    each New wide = omega arith
+    each Moved wide = omega (arith, wide, limits.few_slots)
+
 pub end_small : (shape : Shape) → IsShape shape → store_end shape ≤ 2 ^ 40
 end_small shape limits =
     let wide : shape.records * shape.block ≤ shape.records * 4096 = mul-le-mul_left {m = shape.block} {n = 4096} shape.records limits.few_bytes in
-    omega (arith, wide, limits.few_slots, limits.near)
+    omega (arith, wide, limits.few_slots, start_small shape.form shape limits)
 
--- each half ends within it
-pub half_within : (shape : Shape) (half : Half) → half_at shape half + half_size shape ≤ store_end shape
-half_within shape A = omega arith
-half_within shape B = omega arith
+-- each half of the new format ends within it
+pub half_within : (shape : Shape) (half : Half) → is_old shape ≡ false → half_at shape half + half_size shape ≤ store_end shape
+half_within shape A slotted = omega (arith, first_is shape slotted, half_is shape slotted)
+half_within shape B slotted = omega (arith, first_is shape slotted, half_is shape slotted)
 
 -- a list that fits in its half, as a clause sees the store, ends within it
-pub list_within : {D : Type 0} (held s : Held D) (half : Half) (frames : List Frame) (line : List ℕ) (at : ℕ) → held ≡ s
-    → size_of frames + 1 ≤ half_size s.shape → line ≡ closed_list frames → at ≡ half_at held.shape half → at + length line ≤ store_end held.shape
-list_within held s half frames line at view fits line_is at_is =
-    let here = subst (λ h. size_of frames + 1 ≤ half_size h.shape) (sym view) fits in
-    omega (arith, at_is, half_within held.shape half, here, ap length line_is, length-closed_list frames)
+pub list_within : {D : Type 0} (held s : Held D) (half : Half) (frames : List Frame) (line : List ℕ) (at : ℕ) → held ≡ s → is_old s.shape ≡ false
+    → size_of frames + 1 ≤ index_half_size s.shape → line ≡ closed_list frames → at ≡ half_at held.shape half → at + length line ≤ store_end held.shape
+list_within held s half frames line at view slotted fits line_is at_is =
+    let here = subst (λ h. size_of frames + 1 ≤ index_half_size h.shape) (sym view) fits in
+    let new = subst (λ h. is_old h.shape ≡ false) (sym view) slotted in
+    omega (arith, at_is, half_within held.shape half new, half_is held.shape new, here, ap length line_is, length-closed_list frames)
 
--- what shuts a gate is a byte at most
-pub closing_short : (b : Bool) → length (closing b) ≤ 1
-closing_short true = omega arith
-closing_short false = omega arith
+-- shutting a gate makes the content no longer
+pub size_shut : (half : Half) (b : Bool) (content : List ℕ) → 64 ≤ length content → length (written (header_at half) (closing b) content) ≡ length content
+size_shut half true content whole = refl
+size_shut half false content whole = omega (arith, length-written (header_at half) (0 ∷ []) content (omega arith), header_within half)
 
 -- the index of a closed list
 pub index_now : (shape : Shape) (half : Half) (number : ℕ) (other_shut : Bool) (frames : List Frame) (closed : Bool) (content : List ℕ)
@@ -92,21 +107,43 @@ module _ {D : Type 0} (d : on_disk.Ghosts D) where
     pub rest : Still d s.disk mid ⊥
 
   module _ (s : Held D) (half : Half) (number : ℕ) (other_shut : Bool) (used : ℕ) (mid new : D) (ready : Ready half number other_shut used mid s) where
-    laid : d.tells → Laid s.shape half number other_shut s.frames s.closed (d.seen s.disk)
+    pub laid : d.tells → Laid s.shape half number other_shut s.frames s.closed (d.seen s.disk)
     laid told = (ready.invariant told ready.runs).0
 
-    size : d.tells → length (d.seen s.disk) ≡ s.size
+    pub size : d.tells → length (d.seen s.disk) ≡ s.size
     size told = (ready.invariant told ready.runs).1
 
-    rooted : d.tells → Rooted s.shape half number other_shut s.frames (d.seen s.disk)
+    pub rooted : d.tells → Rooted s.shape half number other_shut s.frames (d.seen s.disk)
     rooted told = rooted_of s.shape half number other_shut s.frames s.closed (d.seen s.disk) (laid told)
 
-    content_same : d.seen mid ≡ d.seen s.disk
+    pub content_same : d.seen mid ≡ d.seen s.disk
     content_same = ready.rest.untouched.content
 
     module _ (only_now : (disk : D) (image : List ℕ) → d.left_since disk (d.moment disk) image → d.may_leave disk image)
         (counts : (disk : D) (t : ℕ) (image : List ℕ) → t ≤ d.moment disk → d.may_leave disk image → d.left_since disk t image) (end : End) where
       -- a run that began once room was made, by what it means for the content from before it
+      pub change_by : (calls : ℕ) (Before After : List ℕ → Type 0) (Q W : List ℕ → List ℕ → Type 0) (R : List ℕ → List ℕ)
+          → ((image : List ℕ) → Before image → OpensAs s.shape s.frames true image)
+          → ((content : List ℕ) → Q content content)
+          → (d.tells → Index s.shape half s.frames (d.seen s.disk) → (image : List ℕ) → Q (d.seen s.disk) image → Before image)
+          → (d.tells → Index s.shape half s.frames (d.seen s.disk) → (image : List ℕ) → W (d.seen s.disk) image → Before image ⊎ After image)
+          → (d.tells → After (R (d.seen s.disk)))
+          → Run d calls (Q (d.seen mid)) (W (d.seen mid)) (λ image. image ≡ R (d.seen mid)) mid new end → Change d calls Before After s.disk new end
+      change_by calls Before After Q W R opens begun before during done run =
+          behind d only_now Before _ (λ image is. inl is) s.disk mid ⊥ ready.rest counts calls After new end
+          (widen d calls _ _ _ Before _ After mid new end
+          (λ told here. begun (d.seen mid))
+          (λ told here image is. before told (index told here) image (subst (λ (c : List ℕ). Q c image) content_same is))
+          (λ told here image is. during told (index told here) image (subst (λ (c : List ℕ). W c image) content_same is))
+          (λ told image is. subst After (sym (is ∙ ap R content_same)) (done told))
+          run)
+        where
+          index : d.tells → Before (d.seen mid) → Index s.shape half s.frames (d.seen s.disk)
+          index told here =
+              index_now s.shape half number other_shut s.frames s.closed (d.seen s.disk) (laid told)
+              (closed_is s.shape half number other_shut s.frames s.closed (d.seen s.disk) (laid told)
+              (subst (OpensAs s.shape s.frames true) content_same (opens (d.seen mid) here)))
+
       list_change : (calls : ℕ) (after : List Frame) (put : Option (ℕ × List ℕ)) (Q W : List ℕ → List ℕ → Type 0) (R : List ℕ → List ℕ)
           → ((content : List ℕ) → Q content content)
           → (d.tells → Index s.shape half s.frames (d.seen s.disk) → (image : List ℕ) → Q (d.seen s.disk) image → Lists s.shape s.frames put (d.seen s.disk) image)
@@ -115,22 +152,10 @@ module _ {D : Type 0} (d : on_disk.Ghosts D) where
           → (d.tells → ListsWith s.shape after put (d.seen s.disk) (R (d.seen s.disk)))
           → Run d calls (Q (d.seen mid)) (W (d.seen mid)) (λ image. image ≡ R (d.seen mid)) mid new end → ListChange d calls s after put new end
       list_change calls after put Q W R begun before during done run =
-          behind d only_now (Lists s.shape s.frames put (d.seen s.disk)) _ (λ image is. inl is) s.disk mid ⊥ ready.rest counts calls
-          (ListsWith s.shape after put (d.seen s.disk)) new end
-          (widen d calls _ _ _ (Lists s.shape s.frames put (d.seen s.disk)) _ (ListsWith s.shape after put (d.seen s.disk)) mid new end
-          (λ told here. begun (d.seen mid))
-          (λ told here image is. before told (index told put here) image (subst (λ (c : List ℕ). Q c image) content_same is))
-          (λ told here image is. during told (index told put here) image (subst (λ (c : List ℕ). W c image) content_same is))
-          (λ told image is. subst (ListsWith s.shape after put (d.seen s.disk)) (sym (is ∙ ap R content_same)) (done told))
-          run)
-        where
-          index : d.tells → (put : Option (ℕ × List ℕ)) → Lists s.shape s.frames put (d.seen s.disk) (d.seen mid) → Index s.shape half s.frames (d.seen s.disk)
-          index told put here =
-              index_now s.shape half number other_shut s.frames s.closed (d.seen s.disk) (laid told)
-              (closed_is s.shape half number other_shut s.frames s.closed (d.seen s.disk) (laid told)
-              (subst (OpensAs s.shape s.frames true) content_same here.opens))
+          change_by calls (Lists s.shape s.frames put (d.seen s.disk)) (ListsWith s.shape after put (d.seen s.disk)) Q W R (λ image is. is.opens)
+          begun before during done run
 
-    module _ (p : ℕ) (frame : Frame) (line : List ℕ) (place : p ≡ half_at s.shape half + used) (fits : Fits s.shape s.frames (length frame.body))
+    module _ (slotted : is_old s.shape ≡ false) (p : ℕ) (frame : Frame) (line : List ℕ) (place : p ≡ half_at s.shape half + used) (fits : Fits s.shape s.frames (length frame.body))
         (line_is : line ≡ line_of frame) where
       gate_is : p ≡ half_at s.shape half + size_of s.frames
       gate_is = omega (arith, place, ready.counted.used_is)
@@ -147,9 +172,9 @@ module _ {D : Type 0} (d : on_disk.Ghosts D) where
       append_change only_now counts end run =
           list_change only_now counts end 4 (s.frames ++ frame ∷ []) None (Torn (p + 1) (length (line_of frame))) (IsGated (p + 1) (line_of frame) p)
           (λ c. written p (165 ∷ []) (written (p + 1) (line_of frame) c)) (torn_same (p + 1) (length (line_of frame)))
-          (λ told index image torn. append_before s.shape half s.frames frame p ready.counted.limits gate_is fits (d.seen s.disk) image index torn)
-          (λ told index image gated. append_moment s.shape half s.frames frame p ready.counted.limits gate_is fits (d.seen s.disk) image index gated)
-          (λ told. append_after s.shape half s.frames frame p ready.counted.limits gate_is fits (d.seen s.disk) number other_shut (rooted told))
+          (λ told index image torn. append_before s.shape half s.frames frame p ready.counted.limits slotted gate_is fits (d.seen s.disk) image index torn)
+          (λ told index image gated. append_moment s.shape half s.frames frame p ready.counted.limits slotted gate_is fits (d.seen s.disk) image index gated)
+          (λ told. append_after s.shape half s.frames frame p ready.counted.limits slotted gate_is fits (d.seen s.disk) number other_shut (rooted told))
           (subst (λ (l : List ℕ). Run d 4 (Torn (p + 1) (length l) (d.seen mid)) (IsGated (p + 1) l p (d.seen mid))
           (λ image. image ≡ written p (165 ∷ []) (written (p + 1) l (d.seen mid))) mid new end) line_is run)
 
@@ -159,7 +184,7 @@ module _ {D : Type 0} (d : on_disk.Ghosts D) where
         subst (λ (c : List ℕ). Laid s.shape half number other_shut (s.frames ++ frame ∷ []) true c)
             (sym (is told ∙ ap (λ (c : List ℕ). written p (165 ∷ []) (written (p + 1) line c)) content_same
             ∙ ap (λ (l : List ℕ). written p (165 ∷ []) (written (p + 1) l (d.seen s.disk))) line_is))
-            (appended_laid s.shape half s.frames frame p ready.counted.limits gate_is fits number other_shut (d.seen s.disk) (rooted told)),
+            (appended_laid s.shape half s.frames frame p ready.counted.limits slotted gate_is fits number other_shut (d.seen s.disk) (rooted told)),
         omega (arith, ap length (is told), appended_size p line (d.seen mid) some, ap length content_same, size told),
       )
 
@@ -169,7 +194,7 @@ module _ {D : Type 0} (d : on_disk.Ghosts D) where
           record {
             limits = ready.counted.limits;
             used_is = omega (arith, long, ready.counted.used_is, ap length line_is, length-line frame);
-            within = omega (arith, long);
+            within = omega (arith, long, half_is s.shape slotted);
           }
 
       -- an append with a block
@@ -191,9 +216,9 @@ module _ {D : Type 0} (d : on_disk.Ghosts D) where
             (IsBothGated (slot_at s.shape slot) block (p + 1) (line_of frame) p)
             (λ c. written p (165 ∷ []) (both_written (slot_at s.shape slot) block (p + 1) (line_of frame) c))
             (staged_none (slot_at s.shape slot) (length block) (p + 1) (length (line_of frame)))
-            (λ told index image staged. put_before s.shape half s.frames frame p ready.counted.limits gate_is fits (d.seen s.disk) slot block is_slot whole image index staged)
-            (λ told index image gated. put_moment s.shape half s.frames frame p ready.counted.limits gate_is fits (d.seen s.disk) slot block is_slot whole image index gated)
-            (λ told. put_after s.shape half s.frames frame p ready.counted.limits gate_is fits (d.seen s.disk) slot block is_slot whole number other_shut (rooted told))
+            (λ told index image staged. put_before s.shape half s.frames frame p ready.counted.limits slotted gate_is fits (d.seen s.disk) slot block is_slot whole image index staged)
+            (λ told index image gated. put_moment s.shape half s.frames frame p ready.counted.limits slotted gate_is fits (d.seen s.disk) slot block is_slot whole image index gated)
+            (λ told. put_after s.shape half s.frames frame p ready.counted.limits slotted gate_is fits (d.seen s.disk) slot block is_slot whole number other_shut (rooted told))
             (subst (λ (l : List ℕ). Put (slot_at s.shape slot) l end) line_is (subst (λ (a : ℕ). Put a line end) at_is run))
 
         put_is : (d.tells → d.seen new ≡ written p (165 ∷ []) (both_written at block (p + 1) line (d.seen mid))) → d.tells
@@ -208,9 +233,9 @@ module _ {D : Type 0} (d : on_disk.Ghosts D) where
                   (sym (put_is is told
                   ∙ ap (λ (c : List ℕ). written p (165 ∷ []) (written (p + 1) line (written (slot_at s.shape slot) block c))) content_same
                   ∙ ap (λ (l : List ℕ). written p (165 ∷ []) (written (p + 1) l (written (slot_at s.shape slot) block (d.seen s.disk)))) line_is))
-                  (appended_laid s.shape half s.frames frame p ready.counted.limits gate_is fits number other_shut
+                  (appended_laid s.shape half s.frames frame p ready.counted.limits slotted gate_is fits number other_shut
                   (written (slot_at s.shape slot) block (d.seen s.disk))
-                  (rooted_put s.shape half s.frames frame p ready.counted.limits gate_is fits (d.seen s.disk) slot block is_slot whole number other_shut
+                  (rooted_put s.shape half s.frames frame p ready.counted.limits slotted gate_is fits (d.seen s.disk) slot block is_slot whole number other_shut
                   (rooted told))),
               omega (
                 arith,
@@ -219,14 +244,14 @@ module _ {D : Type 0} (d : on_disk.Ghosts D) where
                 before,
                 ap length content_same,
                 size told,
-                slot_before_half s.shape half slot is_slot,
+                slot_before_half s.shape half slot slotted is_slot,
                 whole,
                 gate_is,
               ),
             )
 
     -- a rewrite
-    module _ (fs : List Frame) (gate at : ℕ) (shut rest line : List ℕ) (fits : size_of fs + 1 ≤ half_size s.shape) (small : number < 2 ^ 64)
+    module _ (slotted : is_old s.shape ≡ false) (fs : List Frame) (gate at : ℕ) (shut rest line : List ℕ) (fits : size_of fs + 1 ≤ index_half_size s.shape) (small : number < 2 ^ 64)
         (gate_is : gate ≡ header_at (other half)) (at_is : at ≡ half_at s.shape (other half)) (shut_is : shut ≡ closing other_shut)
         (rest_is : rest ≡ header_rest s.shape (next_of number)) (line_is : line ≡ closed_list fs) where
       abbrev Rewritten : ℕ → ℕ → List ℕ → List ℕ → List ℕ → End → Type 0
@@ -244,9 +269,9 @@ module _ {D : Type 0} (d : on_disk.Ghosts D) where
           (closed_list fs) (d.seen s.disk) image
           → Lists s.shape s.frames None (d.seen s.disk) image ⊎ ListsWith s.shape fs None (d.seen s.disk) image
       rewrite_means told index image (inl first) =
-          rewrite_first s.shape half number other_shut s.frames fs (d.seen s.disk) ready.counted.limits small fits (rooted told) index image first
+          rewrite_first s.shape half number other_shut s.frames fs (d.seen s.disk) ready.counted.limits slotted small fits (rooted told) index image first
       rewrite_means told index image (inr then) =
-          rewrite_then s.shape half number other_shut s.frames fs (d.seen s.disk) ready.counted.limits small fits (rooted told) index image then
+          rewrite_then s.shape half number other_shut s.frames fs (d.seen s.disk) ready.counted.limits slotted small fits (rooted told) index image then
 
       pub rewrite_change : ((disk : D) (image : List ℕ) → d.left_since disk (d.moment disk) image → d.may_leave disk image)
           → ((disk : D) (t : ℕ) (image : List ℕ) → t ≤ d.moment disk → d.may_leave disk image → d.left_since disk t image) → (end : End)
@@ -258,9 +283,9 @@ module _ {D : Type 0} (d : on_disk.Ghosts D) where
           (IsShutFirst (header_at (other half)) (closing other_shut) (header_rest s.shape (next_of number)) (half_at s.shape (other half)) (closed_list fs))
           (IsRewritten (header_at (other half)) (closing other_shut) (header_rest s.shape (next_of number)) (half_at s.shape (other half)) (closed_list fs))
           content_after (λ content. inl (torn_same (header_at (other half)) (length (closing other_shut)) content))
-          (λ told index. rewrite_before s.shape half number other_shut s.frames fs (d.seen s.disk) ready.counted.limits small fits (rooted told) index)
+          (λ told index. rewrite_before s.shape half number other_shut s.frames fs (d.seen s.disk) ready.counted.limits slotted small fits (rooted told) index)
           rewrite_means
-          (λ told. rewrite_after s.shape half number other_shut s.frames fs (d.seen s.disk) ready.counted.limits small fits (rooted told))
+          (λ told. rewrite_after s.shape half number other_shut s.frames fs (d.seen s.disk) ready.counted.limits slotted small fits (rooted told))
           (subst (λ (l : List ℕ). Rewritten (header_at (other half)) (half_at s.shape (other half)) (closing other_shut) (header_rest s.shape (next_of number)) l end) line_is
           (subst (λ (r : List ℕ). Rewritten (header_at (other half)) (half_at s.shape (other half)) (closing other_shut) r line end) rest_is
           (subst (λ (x : List ℕ). Rewritten (header_at (other half)) (half_at s.shape (other half)) x rest line end) shut_is
@@ -281,17 +306,12 @@ module _ {D : Type 0} (d : on_disk.Ghosts D) where
           (both_written (header_at (other half) + 1) (header_rest s.shape (next_of number)) (half_at s.shape (other half)) x
           (written (header_at (other half)) (closing other_shut) content))) line_is
 
-      size_shut : (b : Bool) (content : List ℕ) → 64 ≤ length content → length (written (header_at (other half)) (closing b) content) ≡ length content
-      size_shut true content whole = refl
-      size_shut false content whole =
-          omega (arith, length-written (header_at (other half)) (0 ∷ []) content (omega arith), header_within (other half))
-
       pub rewrite_laid : (d.tells → d.seen new ≡ written gate (165 ∷ []) (both_written (gate + 1) rest at line (written gate shut (d.seen mid)))) → d.tells
           → Laid s.shape (other half) (next_of number) false fs true (d.seen new) × (length (d.seen new) ≡ max s.size (at + length line))
       rewrite_laid is told =
           let is_content : d.seen new ≡ content_after (d.seen s.disk) = is told ∙ same_content (d.seen mid) ∙ ap content_after content_same in
           let shut_content = written (header_at (other half)) (closing other_shut) (d.seen s.disk) in
-          let first = size_shut other_shut (d.seen s.disk) (rooted told).whole in
+          let first = size_shut (other half) other_shut (d.seen s.disk) (rooted told).whole in
           let rest_content = written (header_at (other half) + 1) (header_rest s.shape (next_of number)) shut_content in
           let second = length-written (header_at (other half) + 1) (header_rest s.shape (next_of number)) shut_content (omega arith) in
           let list = closed_list fs in
@@ -299,7 +319,7 @@ module _ {D : Type 0} (d : on_disk.Ghosts D) where
           let third = length-written (half_at s.shape (other half)) list rest_content (omega (arith, long)) in
           let fourth = length-written (header_at (other half)) (165 ∷ []) (written (half_at s.shape (other half)) list rest_content) (omega arith) in (
             subst (λ (c : List ℕ). Laid s.shape (other half) (next_of number) false fs true c) (sym is_content)
-                (rewritten_laid s.shape half number other_shut s.frames fs (d.seen s.disk) ready.counted.limits small fits (rooted told)),
+                (rewritten_laid s.shape half number other_shut s.frames fs (d.seen s.disk) ready.counted.limits slotted small fits (rooted told)),
             omega (
               arith,
               ap length is_content,
@@ -312,8 +332,9 @@ module _ {D : Type 0} (d : on_disk.Ghosts D) where
               (rooted told).whole,
               at_is,
               ap length line_is,
+              half_behind s.shape (other half),
             ),
           )
 
       pub rewrite_counted : IsCounted s.shape fs (length line - 1)
-      rewrite_counted = record { limits = ready.counted.limits; used_is = omega (arith, ap length line_is, length-closed_list fs); within = omega arith }
+      rewrite_counted = record { limits = ready.counted.limits; used_is = omega (arith, ap length line_is, length-closed_list fs); within = omega (arith, half_is s.shape slotted) }

@@ -1,5 +1,5 @@
 -- Runs of writes that are synced, one after another.
-use Rattle.std.proofs.Common.{◌≡◌, ◌≢◌, ℕ, ◌+◌, ◌≤◌, List, Result, Err, refl, sym, ◌∙◌, ap, subst}
+use Rattle.std.proofs.Common.{◌≡◌, ◌≢◌, ℕ, ◌+◌, ◌≤◌, List, length, Result, Err, refl, sym, ◌∙◌, ap, subst}
 use Rattle.std.specs.Result.{IsOk, IsOkUnless, OnOk}
 use Rattle.fab_disk.specs.declared.disk.Disk as on_disk
 use Rattle.fab_disk.specs.Disk.{LeavesOnly, StopsEarly, Kept}
@@ -10,6 +10,7 @@ use Rattle.fab_disk.proofs.Plans.{run_as, run_cut}
 use Rattle.frame_store.specs.declared.faults.FrameFault.{FrameFault}
 use Rattle.frame_store.specs.declared.faults.FrameFault.TheVariants.{Disk}
 use Rattle.frame_store.specs.Ends.{end_of}
+use Rattle.frame_store.specs.Steps.{IsStaged, IsStagedThrice, both_written, thrice_written}
 use Rattle.frame_store.proofs.Ends.{begun, whole_ok, ok_whole, cut_disk, of_cut, at_cut, on_whole}
 
 module _ {D : Type 0} (d : on_disk.Ghosts D) where
@@ -54,6 +55,18 @@ module _ {D : Type 0} (d : on_disk.Ghosts D) where
       never = λ sound is. cause.never sound failed;
     };
   }
+
+  -- the runs of three writes, and of two, that are synced
+  abbrev pub ThriceRun : ℕ → List ℕ → ℕ → List ℕ → ℕ → List ℕ → D → D → End → Type 0
+  ThriceRun start first from second at third old new end =
+      Run d 4 (IsStagedThrice start (length first) from (length second) at (length third) (d.seen old))
+      (IsStagedThrice start (length first) from (length second) at (length third) (d.seen old))
+      (λ image. image ≡ thrice_written start first from second at third (d.seen old)) old new end
+
+  abbrev pub BothRun : ℕ → List ℕ → ℕ → List ℕ → D → D → End → Type 0
+  BothRun from first at second old new end =
+      Run d 3 (IsStaged from (length first) at (length second) (d.seen old)) (IsStaged from (length first) at (length second) (d.seen old))
+      (λ image. image ≡ both_written from first at second (d.seen old)) old new end
 
   -- a run that makes this content, and then a run on it
   pub then_on : (first second calls : ℕ) (B C : List ℕ → Type 0) (content : List ℕ) (Q W : List ℕ → List ℕ → Type 0) (R : List ℕ → List ℕ)

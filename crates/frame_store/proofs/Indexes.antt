@@ -5,31 +5,29 @@ use Rattle.std.proofs.lemmas.List.{places, drop_more}
 use Rattle.fab_disk.specs.Disk.{Torn}
 use Rattle.frame_store.specs.declared.frames.Frame.{Frame}
 use Rattle.frame_store.specs.declared.shapes.Shape.{Shape}
+use Rattle.frame_store.specs.declared.shapes.Form.{Form}
 use Rattle.frame_store.specs.declared.shapes.Half.{Half}
 use Rattle.frame_store.specs.declared.shapes.Half.TheVariants.{A, B}
-use Rattle.frame_store.specs.Layouts.{IsShape, header_at, half_at, half_size}
-use Rattle.frame_store.specs.Listed.{spelled, size_of, frames_of}
+use Rattle.frame_store.specs.Layouts.{IsShape, formed, header_at, half_at, half_size, index_half_size}
+use Rattle.frame_store.specs.Listed.{spelled, size_of, AreShort, frames_of}
 use Rattle.frame_store.specs.Laid.{other}
 use Rattle.frame_store.specs.Images.{part, IsOpen, InForce, EndsClosed, OpensAs, half_bytes}
 use Rattle.frame_store.proofs.Parts.{IsClear, below, above, part_get, part_kept, byte_kept}
 use Rattle.frame_store.proofs.Listing.{frames_of-spelled}
 use Rattle.frame_store.proofs.Headers.{header_within, in_force_kept}
+use Rattle.frame_store.proofs.Slots.{half_behind}
 
 -- An image is read by this half and holds these frames there, with a closed gate after them.
 pub record Index (shape : Shape) (half : Half) (frames : List Frame) (image : List ℕ) : Type 0 where
   pub whole : 64 ≤ length image
   pub in_force : InForce shape half image
+  pub short : AreShort frames
   pub stands : part (half_at shape half) (size_of frames) image ≡ spelled frames
   pub ends : EndsClosed shape half frames image
 
--- a half is small
-pub half_small : (shape : Shape) → IsShape shape → half_size shape < 2 ^ 32
+-- a half of the index is small
+pub half_small : (shape : Shape) → IsShape shape → index_half_size shape < 2 ^ 32
 half_small shape limits = omega (arith, limits.few_slots)
-
--- a half lies behind the headers
-pub half_behind : (shape : Shape) (half : Half) → IsShape shape → 64 ≤ half_at shape half
-half_behind shape A limits = omega (arith, limits.behind)
-half_behind shape B limits = omega (arith, limits.behind)
 
 -- the frames and the closed gate, in the half's bytes
 half_split : (at size : ℕ) (length_of : ℕ) (image : List ℕ) → length_of < size → at + length_of < length image
@@ -48,24 +46,22 @@ half_split at size n image within inside =
         (λ k lt. grind (arith, places))
 
 -- what is read of a half with a closed gate after its frames
-pub listed_closed : (shape : Shape) (half : Half) (frames : List Frame) (image : List ℕ) → IsShape shape
+pub listed_closed : (shape : Shape) (half : Half) (frames : List Frame) (image : List ℕ) → AreShort frames
     → part (half_at shape half) (size_of frames) image ≡ spelled frames
     → EndsClosed shape half frames image → frames_of (half_bytes shape half image) ≡ frames
-listed_closed shape half frames image limits stands ends =
+listed_closed shape half frames image short stands ends =
     let at = half_at shape half in
     let gate = get_or image (at + size_of frames) 0 in
     let rest = drop (size_of frames + 1) (part at (half_size shape) image) in
     let split : half_bytes shape half image ≡ spelled frames ++ gate ∷ rest =
     half_split at (half_size shape) (size_of frames) image ends.within_half ends.within_file ∙ ap (λ (l : List ℕ). l ++ gate ∷ rest) stands in
-    let small = half_small shape limits in
-    ap frames_of split ∙ frames_of-spelled frames gate rest (omega (arith, ends.within_half)) ends.shut
+    ap frames_of split ∙ frames_of-spelled frames gate rest short ends.shut
 
-pub index_opens : (shape : Shape) (half : Half) (frames : List Frame) (image : List ℕ) → IsShape shape → Index shape half frames image
-    → OpensAs shape frames true image
-index_opens shape half frames image limits index = record {
+pub index_opens : (shape : Shape) (half : Half) (frames : List Frame) (image : List ℕ) → Index shape half frames image → OpensAs shape frames true image
+index_opens shape half frames image index = record {
   half = half;
   in_force = index.in_force;
-  listed = listed_closed shape half frames image limits index.stands index.ends;
+  listed = listed_closed shape half frames image index.short index.stands index.ends;
   ended = λ is. index.ends;
   not_ended = λ ends. refl;
 }
@@ -92,29 +88,31 @@ pub index_kept : (shape : Shape) (half : Half) (frames : List Frame) (old new : 
 index_kept shape half frames old new from k torn behind clear clear_gate index = record {
   whole = omega (arith, index.whole, torn.no_shorter);
   in_force = in_force_kept shape half old new index.whole (omega (arith, index.whole, torn.no_shorter))
-      (part_kept from k old new (header_at half) 25 torn (omega (arith, header_within half, index.whole)) (below (omega (arith, header_within half))))
-      (λ other_open. part_kept from k old new (header_at (other half)) 25 torn (omega (arith, header_within (other half), index.whole))
+      (part_kept from k old new (header_at half) 26 torn (omega (arith, header_within half, index.whole)) (below (omega (arith, header_within half))))
+      (λ form other_open. part_kept from k old new (header_at (other half)) 26 torn (omega (arith, header_within (other half), index.whole))
       (below (omega (arith, header_within (other half)))))
       index.in_force;
+  short = index.short;
   stands = stands_kept shape half frames old new from k torn clear (omega (arith, index.ends.within_file)) index.stands;
   ends = ends_kept shape half frames old new from k torn clear_gate index.ends;
 }
 
 -- a write before the halves, in a header that is the other's, after which that is not open or as it was
-pub index_kept_header : (shape : Shape) (half : Half) (frames : List Frame) (old new : List ℕ) (from k : ℕ) → IsShape shape → Torn from k old new
+pub index_kept_header : (shape : Shape) (half : Half) (frames : List Frame) (old new : List ℕ) (from k : ℕ) → Torn from k old new
     → header_at (other half) ≤ from → from + k ≤ header_at (other half) + 32
-    → (IsOpen shape (other half) new → part (header_at (other half)) 25 new ≡ part (header_at (other half)) 25 old)
+    → ((form : Form) → IsOpen (formed form shape) (other half) new → part (header_at (other half)) 26 new ≡ part (header_at (other half)) 26 old)
     → Index shape half frames old → Index shape half frames new
-index_kept_header shape half frames old new from k limits torn low high same_other index = record {
+index_kept_header shape half frames old new from k torn low high same_other index = record {
   whole = omega (arith, index.whole, torn.no_shorter);
   in_force = in_force_kept shape half old new index.whole (omega (arith, index.whole, torn.no_shorter))
-      (part_kept from k old new (header_at half) 25 torn (omega (arith, header_within half, index.whole)) (apart half low high))
+      (part_kept from k old new (header_at half) 26 torn (omega (arith, header_within half, index.whole)) (apart half low high))
       same_other index.in_force;
-  stands = stands_kept shape half frames old new from k torn (above (omega (arith, high, header_within (other half), half_behind shape half limits)))
+  short = index.short;
+  stands = stands_kept shape half frames old new from k torn (above (omega (arith, high, header_within (other half), half_behind shape half)))
       (omega (arith, index.ends.within_file)) index.stands;
-  ends = ends_kept shape half frames old new from k torn (above (omega (arith, high, header_within (other half), half_behind shape half limits))) index.ends;
+  ends = ends_kept shape half frames old new from k torn (above (omega (arith, high, header_within (other half), half_behind shape half))) index.ends;
 }
   where
-    apart : (half : Half) → header_at (other half) ≤ from → from + k ≤ header_at (other half) + 32 → IsClear from k (header_at half) 25
+    apart : (half : Half) → header_at (other half) ≤ from → from + k ≤ header_at (other half) + 32 → IsClear from k (header_at half) 26
     apart A low high = below (omega arith)
     apart B low high = above (omega arith)

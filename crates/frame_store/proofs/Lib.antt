@@ -1,6 +1,7 @@
 pub mod Standing
 pub mod Parts
 pub mod Listing
+pub mod Rooms
 pub mod Runs
 pub mod Stopping
 pub mod Ends
@@ -10,7 +11,9 @@ pub mod Indexes
 pub mod Slots
 pub mod Appending
 pub mod Changes
+pub mod Shutting
 pub mod Rewriting
+pub mod Bringing
 pub mod Exits
 pub mod Openings
 pub mod Pieces
@@ -18,3 +21,4 @@ pub mod Stills
 pub mod Formatting
 pub mod Words
 pub mod Writes
+pub mod Brought

@@ -5,7 +5,7 @@ use Rattle.std.proofs.lemmas.List.{take_at, drop_at}
 use Rattle.std.proofs.lemmas.Nat.{from_be_bytes-to_be_bytes_4}
 use Rattle.std.specs.Int.{w32, to_be_bytes, from_be_bytes}
 use Rattle.frame_store.specs.declared.frames.Frame.{Frame}
-use Rattle.frame_store.specs.Listed.{frame_rest, spelled, size_of, frame_at, onto, frames_in, frames_of}
+use Rattle.frame_store.specs.Listed.{frame_rest, spelled, size_of, AreShort, frame_at, onto, frames_in, frames_of}
 
 -- how many bytes a list of frames is
 pub length-spelled : (frames : List Frame) → length (spelled frames) ≡ size_of frames
@@ -20,6 +20,15 @@ pub spelled-append : (a b : List Frame) → spelled (a ++ b) ≡ spelled a ++ sp
 spelled-append [] b = refl
 spelled-append (f ∷ a) b = ap (λ (l : List ℕ). 165 ∷ l) (ap (λ (l : List ℕ). frame_rest f ++ l) (spelled-append a b)
     ∙ sym (append_assoc (frame_rest f) (spelled a) (spelled b)))
+
+-- frames of few bytes have short bodies
+pub are_short : (frames : List Frame) → size_of frames < 2 ^ 32 → AreShort frames
+are_short [] few = tt
+are_short (f ∷ frames) few = (omega arith, are_short frames (omega arith))
+
+pub are_short-append : (a b : List Frame) → AreShort a → AreShort b → AreShort (a ++ b)
+are_short-append [] b none short = short
+are_short-append (f ∷ a) b (first, rest) short = (first, are_short-append a b rest short)
 
 -- each frame takes some bytes
 pub length_le-size_of : (frames : List Frame) → length frames ≤ size_of frames
@@ -51,18 +60,18 @@ unfolding frame_at
 frame_at-nil = refl
 
 -- frames and a gate that is not open are read as these frames
-pub frames_in-spelled : (n : ℕ) (frames : List Frame) (gate : ℕ) (rest : List ℕ) → length frames ≤ n → size_of frames < 2 ^ 32 → gate ≢ 165
+pub frames_in-spelled : (n : ℕ) (frames : List Frame) (gate : ℕ) (rest : List ℕ) → length frames ≤ n → AreShort frames → gate ≢ 165
     → frames_in n (spelled frames ++ gate ∷ rest) ≡ frames
 unfolding frames_in
 frames_in-spelled zero [] gate rest enough short shut = refl
 frames_in-spelled (suc n) [] gate rest enough short shut = ap (λ (x : Option (Frame × List ℕ)). onto x (frames_in n)) (frame_at-shut gate rest shut)
 frames_in-spelled zero (f ∷ frames) gate rest enough short shut = absurd (omega arith)
-frames_in-spelled (suc n) (f ∷ frames) gate rest enough short shut =
+frames_in-spelled (suc n) (f ∷ frames) gate rest enough (first, short) shut =
     let split : spelled (f ∷ frames) ++ gate ∷ rest ≡ 165 ∷ (frame_rest f ++ (spelled frames ++ gate ∷ rest)) = ap (λ (l : List ℕ). 165 ∷ l)
     (append_assoc (frame_rest f) (spelled frames) (gate ∷ rest)) in
     ap (λ (l : List ℕ). onto (frame_at l) (frames_in n)) split
-    ∙ ap (λ (x : Option (Frame × List ℕ)). onto x (frames_in n)) (frame_at-spelled f (spelled frames ++ gate ∷ rest) (omega arith))
-    ∙ ap (λ (l : List Frame). f ∷ l) (frames_in-spelled n frames gate rest (omega arith) (omega arith) shut)
+    ∙ ap (λ (x : Option (Frame × List ℕ)). onto x (frames_in n)) (frame_at-spelled f (spelled frames ++ gate ∷ rest) first)
+    ∙ ap (λ (l : List Frame). f ∷ l) (frames_in-spelled n frames gate rest (omega arith) short shut)
 
 -- what stands after a frame is shorter
 pub rest_shorter : (bytes : List ℕ) (found : Frame × List ℕ) → frame_at bytes ≡ Some found → length found.1 < length bytes
@@ -110,7 +119,7 @@ frames_of-none [] is = refl
 frames_of-none (b ∷ bytes) is = ap (λ (x : Option (Frame × List ℕ)). onto x (frames_in (length bytes))) is
 
 -- frames and a gate that is not open, in as many turns as there are bytes
-pub frames_of-spelled : (frames : List Frame) (gate : ℕ) (rest : List ℕ) → size_of frames < 2 ^ 32 → gate ≢ 165
+pub frames_of-spelled : (frames : List Frame) (gate : ℕ) (rest : List ℕ) → AreShort frames → gate ≢ 165
     → frames_of (spelled frames ++ gate ∷ rest) ≡ frames
 frames_of-spelled frames gate rest short shut =
     let long = length-append (spelled frames) (gate ∷ rest) in

@@ -6,15 +6,16 @@ use Rattle.std.proofs.lemmas.List.{places}
 use Rattle.fab_disk.specs.Disk.{IsUntouched}
 use Rattle.frame_store.specs.declared.frames.Frame.{Frame}
 use Rattle.frame_store.specs.declared.shapes.Shape.{Shape}
+use Rattle.frame_store.specs.declared.shapes.Form.{Form}
 use Rattle.frame_store.specs.declared.shapes.Half.{Half}
 use Rattle.frame_store.specs.declared.shapes.Half.TheVariants.{A, B}
-use Rattle.frame_store.specs.Layouts.{header_at, half_at, half_size}
+use Rattle.frame_store.specs.Layouts.{formed, header_at, half_at, half_size}
 use Rattle.frame_store.specs.Listed.{size_of, frames_of}
 use Rattle.frame_store.specs.Laid.{other, Laid}
 use Rattle.frame_store.specs.Reading.{IsListOf}
 use Rattle.frame_store.specs.Images.{part, InForce, EndsClosed, OpensAs, IsNoStore, half_bytes, generation_at}
 use Rattle.frame_store.proofs.Parts.{part_get, length-part, part_of_part}
-use Rattle.frame_store.proofs.Headers.{header_within, in_force_kept, generation_kept, open_back}
+use Rattle.frame_store.proofs.Headers.{header_within, in_force_kept, generation_kept, open_back, form_once}
 
 -- calls that changed nothing, one after the other
 pub untouched_both : {D : Type 0} (seen : D → List ℕ) (may_leave : D → List ℕ → Type 0) (moment : D → ℕ) (left_since : D → ℕ → List ℕ → Type 0)
@@ -45,18 +46,18 @@ module _ (shape : Shape) (image headers : List ℕ) (whole : 64 ≤ length image
   size : length headers ≡ 64
   size = ap length are ∙ length-part 0 64 image (omega arith)
 
-  same : (half : Half) → part (header_at half) 25 image ≡ part (header_at half) 25 headers
+  same : (half : Half) → part (header_at half) 26 image ≡ part (header_at half) 26 headers
   same half =
-      sym (ap (part (header_at half) 25) are ∙ part_of_part 0 64 (header_at half) 25 (header_at half) image (omega (arith, header_within half))
+      sym (ap (part (header_at half) 26) are ∙ part_of_part 0 64 (header_at half) 26 (header_at half) image (omega (arith, header_within half))
       (omega arith) (omega arith))
 
   pub headers_in_force : (half : Half) → InForce shape half headers → InForce shape half image
-  headers_in_force half is = in_force_kept shape half headers image (omega (arith, size)) whole (same half) (λ other_open. same (other half)) is
+  headers_in_force half is = in_force_kept shape half headers image (omega (arith, size)) whole (same half) (λ form other_open. same (other half)) is
 
   pub headers_none : IsNoStore shape headers → IsNoStore shape image
   headers_none none = record {
-    first = λ is. none.first (open_back shape A headers image (omega (arith, size)) whole (same A) is);
-    second = λ is. none.second (open_back shape B headers image (omega (arith, size)) whole (same B) is);
+    first = λ form is. none.first form (open_back (formed form shape) A headers image (omega (arith, size)) whole (same A) is);
+    second = λ form is. none.second form (open_back (formed form shape) B headers image (omega (arith, size)) whole (same B) is);
   }
 
   gate_same : (half : Half) → get_or headers (header_at half) 0 ≡ get_or image (header_at half) 0
@@ -78,6 +79,7 @@ module _ (shape : Shape) (image headers : List ℕ) (whole : 64 ≤ length image
         in_force = headers_in_force half in_force;
         generation = generation_kept shape half headers image (omega (arith, size)) whole (same half) ∙ generation;
         listed = list.listed;
+        short = list.short;
         stands = sym (take_twice (size_of frames) (half_size shape) (drop (half_at shape half) image) (omega (arith, list.within, used_is, long)))
             ∙ ap (λ (n : ℕ). take n (half_bytes shape half image)) (sym used_is) ∙ list.stands;
         shut = λ is is_open. shut_gate (get_or headers (header_at (other half)) 0) (sym shut_is ∙ is) (gate_same (other half) ∙ is_open);
@@ -132,5 +134,16 @@ opens_once shape image f g b c first second = at first.half second.half first.in
         → (EndsClosed shape k g image → c ≡ true) → (f ≡ g) × (b ≡ c)
     at A A x y lf lg ef eg nf ng = agree A lf lg ef eg nf ng
     at B B x y lf lg ef eg nf ng = agree B lf lg ef eg nf ng
-    at A B x y lf lg ef eg nf ng = absurd (x.1 y.0 (y.1 x.0))
-    at B A x y lf lg ef eg nf ng = absurd (y.1 x.0 (x.1 y.0))
+    at A B x y lf lg ef eg nf ng = absurd (x.1 shape.form y.0 (y.1 shape.form x.0))
+    at B A x y lf lg ef eg nf ng = absurd (y.1 shape.form x.0 (x.1 shape.form y.0))
+
+-- And in one form at most.
+pub opens_in_one_form : (shape : Shape) (f g : Form) (image : List ℕ) (fs gs : List Frame) (b c : Bool) → OpensAs (formed f shape) fs b image
+    → OpensAs (formed g shape) gs c image → f ≡ g
+opens_in_one_form shape f g image fs gs b c first second = at first.half second.half first.in_force second.in_force
+  where
+    at : (h k : Half) → InForce (formed f shape) h image → InForce (formed g shape) k image → f ≡ g
+    at A A x y = form_once shape f g A image x.0 y.0
+    at B B x y = form_once shape f g B image x.0 y.0
+    at A B x y = absurd (x.1 g y.0 (y.1 f x.0))
+    at B A x y = absurd (y.1 f x.0 (x.1 g y.0))

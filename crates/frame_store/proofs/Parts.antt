@@ -44,6 +44,20 @@ pub part_kept : (from k : ℕ) (old new : List ℕ) (at n : ℕ) → Torn from k
 part_kept from k old new at n torn fits clear =
     same_part at n old new fits (omega (arith, torn.no_shorter)) (λ i low high. torn.kept i (omega arith) (outside from k at n i clear low high))
 
+-- a part that is as long as was asked lies in the content
+pub part_inside : (at n : ℕ) (image : List ℕ) → 0 < n → length (part at n image) ≡ n → at + n ≤ length image
+part_inside at n image some size = omega (arith, size, shorter)
+  where
+    shorter : length (part at n image) ≤ length image - at
+    shorter = grind (arith, places)
+
+-- so bytes that stand there stay, none or some
+pub part_stays : (from k : ℕ) (old new : List ℕ) (at : ℕ) (bytes : List ℕ) → Torn from k old new → IsClear from k at (length bytes)
+    → part at (length bytes) old ≡ bytes → part at (length bytes) new ≡ bytes
+part_stays from k old new at [] torn clear is = refl
+part_stays from k old new at (b ∷ bytes) torn clear is =
+    part_kept from k old new at (length (b ∷ bytes)) torn (part_inside at (length (b ∷ bytes)) old (omega arith) (ap length is)) clear ∙ is
+
 -- so is a byte
 pub byte_kept : (from k : ℕ) (old new : List ℕ) (at : ℕ) → Torn from k old new → at < length old → IsClear from k at 1
     → get_or new at 0 ≡ get_or old at 0

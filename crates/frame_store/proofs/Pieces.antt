@@ -1,12 +1,12 @@
 -- A list of frames that is read piece by piece.
-use Rattle.std.proofs.Common.{◌≡◌, ◌⊎◌, inl, inr, ℕ, ◌+◌, ◌-◌, ◌^◌, ◌<◌, ◌≤◌, min, Bool, true, List, [], ◌∷◌, ◌++◌, length, get_or, take, drop, None, refl, sym, ◌∙◌, ap, arith, append_assoc, length-take, length-drop}
+use Rattle.std.proofs.Common.{◌≡◌, ◌⊎◌, inl, inr, ℕ, ◌+◌, ◌-◌, ◌<◌, ◌≤◌, min, Bool, true, List, [], ◌∷◌, ◌++◌, length, get_or, take, drop, None, refl, sym, ◌∙◌, ap, arith, append_assoc, length-take, length-drop}
 use Rattle.std.proofs.lemmas.Grind.{same_number_lists}
 use Rattle.std.proofs.lemmas.List.{take_at, drop_at, append-nil}
 use Rattle.frame_store.specs.declared.frames.Frame.{Frame}
-use Rattle.frame_store.specs.Listed.{frame_rest, spelled, size_of, frame_at, frames_of}
+use Rattle.frame_store.specs.Listed.{frame_rest, spelled, size_of, AreShort, frame_at, frames_of}
 use Rattle.frame_store.specs.Images.{part}
 use Rattle.frame_store.specs.Reading.{IsFront, IsShutAt, IsListOf}
-use Rattle.frame_store.proofs.Listing.{length-spelled, size_of-append, spelled-append, frame_at-spelled, frame_at-shut, frames_of-more, frames_of-none}
+use Rattle.frame_store.proofs.Listing.{length-spelled, size_of-append, are_short-append, spelled-append, frame_at-spelled, frame_at-shut, frames_of-more, frames_of-none}
 use Rattle.frame_store.proofs.Openings.{take_twice}
 use Rattle.frame_store.proofs.Parts.{part_get, length-part, part_join}
 
@@ -30,15 +30,15 @@ part_within at n size image long =
     index k lt = let same : min at size + k ≡ at + k = omega arith in ap (λ (i : ℕ). get_or image i 0) same
 
 -- whole frames, and then the list of what stands behind them
-pub frames_of-then : (frames : List Frame) (rest : List ℕ) → size_of frames < 2 ^ 32 → frames_of (spelled frames ++ rest) ≡ frames ++ frames_of rest
+pub frames_of-then : (frames : List Frame) (rest : List ℕ) → AreShort frames → frames_of (spelled frames ++ rest) ≡ frames ++ frames_of rest
 frames_of-then [] rest short = refl
-frames_of-then (f ∷ frames) rest short =
+frames_of-then (f ∷ frames) rest (first, short) =
     let split : spelled (f ∷ frames) ++ rest ≡ 165 ∷ (frame_rest f ++ (spelled frames ++ rest)) = ap (λ (l : List ℕ). 165 ∷ l)
     (append_assoc (frame_rest f) (spelled frames) rest) in
     ap frames_of split
     ∙ frames_of-more (165 ∷ (frame_rest f ++ (spelled frames ++ rest))) (f, spelled frames ++ rest)
-    (frame_at-spelled f (spelled frames ++ rest) (omega arith))
-    ∙ ap (λ (l : List Frame). f ∷ l) (frames_of-then frames rest (omega arith))
+    (frame_at-spelled f (spelled frames ++ rest) first)
+    ∙ ap (λ (l : List Frame). f ∷ l) (frames_of-then frames rest short)
 
 -- no frame stands where a gate is not open
 pub frame_at-closed : (bytes : List ℕ) → IsShutAt bytes 0 → frame_at bytes ≡ None
@@ -47,7 +47,7 @@ frame_at-closed (gate ∷ rest) shut = frame_at-shut gate rest shut.shut
 
 -- The bytes from `from` to `limit` are those of a list. Its first frames end at `at`. A piece of n bytes begins there, and more frames of it are at its front.
 module _ (image : List ℕ) (from limit at n used : ℕ) (frames more : List Frame) (low : from ≤ at) (high : at ≤ limit) (inside : limit ≤ length image)
-    (short : limit - from < 2 ^ 32) (piece : n ≤ limit - at) (place : from + size_of frames ≡ at)
+    (short : AreShort frames) (piece : n ≤ limit - at) (place : from + size_of frames ≡ at)
     (read : part from (limit - from) image ≡ spelled frames ++ part at (limit - at) image) (front : IsFront (part at n image) more used) where
   size : length (part at n image) ≡ n
   size = length-part at n image (omega arith)
@@ -121,9 +121,10 @@ module _ (image : List ℕ) (from limit at n used : ℕ) (frames more : List Fra
     -- the list of what was read, where a gate that is not open stands behind it, or all was read
     pub list_read : IsListOf (part from (limit - from) image) (frames ++ more) (at + used - from) closed
     list_read = record {
-      listed = ap frames_of read_on ∙ frames_of-then (frames ++ more) (part (at + used) (limit - (at + used)) image) (omega (arith, counted_on, fits))
+      listed = ap frames_of read_on ∙ frames_of-then (frames ++ more) (part (at + used) (limit - (at + used)) image) (are_short-append frames more short front.short)
           ∙ ap (λ (l : List Frame). (frames ++ more) ++ l) (frames_of-none (part (at + used) (limit - (at + used)) image) none)
           ∙ append-nil (frames ++ more);
+      short = are_short-append frames more short front.short;
       stands = ap (take (at + used - from)) read_on ∙ take_at (spelled (frames ++ more)) (part (at + used) (limit - (at + used)) image) (at + used - from)
           (omega (arith, length-spelled (frames ++ more), counted_on));
       within = omega (arith, whole, fits);

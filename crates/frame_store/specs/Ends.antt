@@ -1,9 +1,9 @@
 -- How a change of a store ended.
-use Rattle.std.specs.Prelude.{ℕ, List, Option, Result, Ok, Err}
+use Rattle.std.specs.Prelude.{ℕ, true, List, Option, Result, Ok, Err}
 use Rattle.fab_disk.specs.declared.disk.Disk as on_disk
 use Rattle.fab_disk.specs.Changing.{End, Whole, Cut, NotBegun, Change}
 use Rattle.frame_store.specs.declared.frames.Frame.{Frame}
-use Rattle.frame_store.specs.Images.{Lists, ListsWith}
+use Rattle.frame_store.specs.Images.{OpensAs, Lists, ListsWith, IsBroughtOver}
 use Rattle.frame_store.specs.Stores.{Held}
 use Rattle.frame_store.specs.declared.faults.FrameFault.{FrameFault}
 use Rattle.frame_store.specs.declared.faults.FrameFault.TheVariants.{Disk}
@@ -18,3 +18,7 @@ end_of (Err fault) = NotBegun
 abbrev pub ListChange : {D : Type 0} → on_disk.Ghosts D → ℕ → Held D → List Frame → Option (ℕ × List ℕ) → D → End → Type 0
 ListChange d calls s after put new end =
     Change d calls (Lists s.shape s.frames put (d.seen s.disk)) (ListsWith s.shape after put (d.seen s.disk)) s.disk new end
+
+-- An old store is brought over with these frames and blocks, by one change of its disk of eight calls: until then the disk opens as the old list.
+abbrev pub BringsOver : {D : Type 0} → on_disk.Ghosts D → Held D → List Frame → List ℕ → D → End → Type 0
+BringsOver d s after blocks new end = Change d 8 (OpensAs s.shape s.frames true) (IsBroughtOver s.shape after blocks) s.disk new end

@@ -1,21 +1,31 @@
 -- What the bytes of a disk stand for as a store.
-use Rattle.std.specs.Prelude.{◌≡◌, ◌≢◌, ℕ, ◌+◌, ◌-◌, ◌%◌, ◌^◌, ◌<◌, ◌≤◌, List, [], ◌∷◌, length, get_or, take, drop, Bool, true, Option, Some, None}
+use Rattle.std.specs.Prelude.{◌≡◌, ◌≢◌, ℕ, ◌+◌, ◌-◌, ◌*◌, ◌%◌, ◌^◌, ◌<◌, ◌≤◌, List, [], ◌∷◌, length, get_or, take, drop, Bool, true, false, Option, Some, None}
 use Rattle.std.specs.Int.{w64, from_be_bytes}
 use Rattle.frame_store.specs.declared.frames.Frame.{Frame}
 use Rattle.frame_store.specs.declared.shapes.Shape.{Shape}
+use Rattle.frame_store.specs.declared.shapes.Form.{Form}
+use Rattle.frame_store.specs.declared.shapes.Form.TheVariants.{Old, New, Moved}
 use Rattle.frame_store.specs.declared.shapes.Half.{Half}
 use Rattle.frame_store.specs.declared.shapes.Half.TheVariants.{A, B}
-use Rattle.frame_store.specs.Layouts.{headers_size, open_gate, header_at, slot_at, half_at, half_size, identity}
+use Rattle.frame_store.specs.Layouts.{headers_size, formed, is_old, open_gate, header_at, slot_at, half_at, half_size, identity}
 use Rattle.frame_store.specs.Listed.{frames_of, size_of}
 
 -- n bytes from a place on
 abbrev pub part : ℕ → ℕ → List ℕ → List ℕ
 part at n image = take n (drop at image)
 
--- a header is open: both headers are there, its gate is open, and it is of this store
+-- The place byte of a header is one of this form: 1 tells of a store that was brought over, and any other of one that was not. In the old format it
+-- tells nothing.
+abbrev pub Tells : Form → ℕ → Type 0
+Tells Old place = Unit {0}
+Tells New place = place ≢ 1
+Tells Moved place = place ≡ 1
+
+-- a header is open: both headers are there, its gate is open, and it is of this store in this form
 pub record IsOpen (shape : Shape) (half : Half) (image : List ℕ) : Type 0 where
   pub whole : headers_size ≤ length image
   pub front : part (header_at half) 17 image ≡ open_gate ∷ identity shape
+  pub place : Tells shape.form (get_or image (header_at half + 25) 0)
 
 -- how often the index had been rewritten when the header was
 abbrev pub generation_at : Half → List ℕ → ℕ
@@ -30,10 +40,11 @@ pub record IsLater (first second : ℕ) : Type 0 where
   pub ahead_some : 1 ≤ ahead first second
   pub ahead_less : ahead first second < 2 ^ 63
 
--- The half that an image is read by: that of the open header; of two, B's where its generation is the later, else A's.
+-- The half that an image is read by: that of the open header, whichever form that has; of two, B's where its generation is the later, else A's.
 abbrev pub InForce : Shape → Half → List ℕ → Type 0
-InForce shape A image = IsOpen shape A image × (IsOpen shape B image → IsLater (generation_at A image) (generation_at B image) → ⊥)
-InForce shape B image = IsOpen shape B image × (IsOpen shape A image → IsLater (generation_at A image) (generation_at B image))
+InForce shape A image =
+    IsOpen shape A image × ((form : Form) → IsOpen (formed form shape) B image → IsLater (generation_at A image) (generation_at B image) → ⊥)
+InForce shape B image = IsOpen shape B image × ((form : Form) → IsOpen (formed form shape) A image → IsLater (generation_at A image) (generation_at B image))
 
 abbrev pub half_bytes : Shape → Half → List ℕ → List ℕ
 half_bytes shape half image = part (half_at shape half) (half_size shape) image
@@ -56,10 +67,10 @@ pub record OpensAs (shape : Shape) (frames : List Frame) (closed : Bool) (image 
   pub ended : closed ≡ true → EndsClosed shape half frames image
   pub not_ended : EndsClosed shape half frames image → closed ≡ true
 
--- no header is open
+-- no header is open, in whichever form
 pub record IsNoStore (shape : Shape) (image : List ℕ) : Type 0 where
-  pub first : IsOpen shape A image → ⊥
-  pub second : IsOpen shape B image → ⊥
+  pub first : (form : Form) → IsOpen (formed form shape) A image → ⊥
+  pub second : (form : Form) → IsOpen (formed form shape) B image → ⊥
 
 -- a file of this size has this slot
 pub record HasSlot (shape : Shape) (size slot : ℕ) : Type 0 where
@@ -96,7 +107,20 @@ pub record ListsWith (shape : Shape) (frames : List Frame) (put : Option (ℕ ×
   pub stands : StandsIn shape put image
   pub slots : KeepsSlots shape put content image
 
--- The image is that of a store with no frames and all its slots.
+-- The image is that of a store with no frames, and in the new format with all its slots.
 pub record IsEmptyStore (shape : Shape) (image : List ℕ) : Type 0 where
   pub opens : OpensAs shape [] true image
-  pub slots : (slot : ℕ) → slot < shape.records → HasSlot shape (length image) slot
+  pub slots : is_old shape ≡ false → (slot : ℕ) → slot < shape.records → HasSlot shape (length image) slot
+
+-- The bytes are a whole number of blocks, no more than so many, and no more than there are slots.
+pub record AreBlocks (shape : Shape) (most : ℕ) (blocks : List ℕ) : Type 0 where
+  pub count : ℕ
+  pub long : length blocks ≡ count * shape.block
+  pub few : count ≤ most
+  pub slots : count ≤ shape.records
+
+-- The image is that of an old store that was brought over: it opens as these frames in the new format, and these blocks lie in its slots, one after the other
+-- from slot 0 on.
+pub record IsBroughtOver (shape : Shape) (frames : List Frame) (blocks image : List ℕ) : Type 0 where
+  pub opens : OpensAs (formed Moved shape) frames true image
+  pub stand : part (slot_at (formed Moved shape) 0) (length blocks) image ≡ blocks

@@ -5,7 +5,7 @@ use Rattle.frame_store.specs.declared.shapes.Shape.{Shape}
 use Rattle.frame_store.specs.declared.shapes.Half.{Half}
 use Rattle.frame_store.specs.declared.shapes.Half.TheVariants.{A, B}
 use Rattle.frame_store.specs.Layouts.{IsShape, open_gate, header_at, half_at, half_size}
-use Rattle.frame_store.specs.Listed.{frames_of, size_of, spelled}
+use Rattle.frame_store.specs.Listed.{frames_of, size_of, spelled, AreShort}
 use Rattle.frame_store.specs.Steps.{next_of}
 use Rattle.frame_store.specs.Images.{part, InForce, IsShut, EndsClosed, generation_at, half_bytes}
 
@@ -24,6 +24,7 @@ pub record Laid (shape : Shape) (half : Half) (number : ℕ) (other_shut : Bool)
   pub in_force : InForce shape half image
   pub generation : generation_at half image ≡ number
   pub listed : frames_of (half_bytes shape half image) ≡ frames
+  pub short : AreShort frames
   pub stands : part (half_at shape half) (size_of frames) image ≡ spelled frames
   pub shut : other_shut ≡ true → IsShut (header_at (other half)) image
   pub unshut : other_shut ≡ false → get_or image (header_at (other half)) 0 ≡ open_gate

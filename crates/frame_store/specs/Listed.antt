@@ -1,9 +1,9 @@
 -- A list of frames as bytes: each an open gate, a kind, the body's length and the body.
-use Rattle.std.specs.Prelude.{ℕ, zero, suc, ◌+◌, ◌≤◌, ◌&&◌, nat_le, ◌==◌, if◌then◌else◌, List, [], ◌∷◌, ◌++◌, length, take, drop, Option, Some, None}
+use Rattle.std.specs.Prelude.{ℕ, zero, suc, ◌+◌, ◌^◌, ◌<◌, ◌≤◌, ◌&&◌, nat_le, ◌==◌, if◌then◌else◌, List, [], ◌∷◌, ◌++◌, length, take, drop, Option, Some, None}
 use Rattle.std.specs.Int.{w32, to_be_bytes, from_be_bytes}
 use Rattle.frame_store.specs.declared.frames.Frame.{Frame}
 use Rattle.frame_store.specs.declared.shapes.Shape.{Shape}
-use Rattle.frame_store.specs.Layouts.{half_size, open_gate}
+use Rattle.frame_store.specs.Layouts.{index_half_size, open_gate}
 
 -- a frame after its gate
 abbrev pub frame_rest : Frame → List ℕ
@@ -27,9 +27,14 @@ abbrev pub size_of : List Frame → ℕ
 size_of [] = 0
 size_of (frame ∷ frames) = 6 + length frame.body + size_of frames
 
--- after these frames, one with a body of this length and a closed gate fit in a half
+-- the length of each body fits its field
+abbrev pub AreShort : List Frame → Type 0
+AreShort [] = Unit {0}
+AreShort (frame ∷ frames) = (length frame.body < 2 ^ 32) × AreShort frames
+
+-- after these frames, one with a body of this length and a closed gate fit in a half of the index
 abbrev pub Fits : Shape → List Frame → ℕ → Type 0
-Fits shape frames len = size_of frames + 6 + len + 1 ≤ half_size shape
+Fits shape frames len = size_of frames + 6 + len + 1 ≤ index_half_size shape
 
 abbrev pub frame_of : ℕ → List ℕ → Frame
 frame_of kind body = record { kind = kind; body = body }

@@ -2,11 +2,12 @@
 use Rattle.std.specs.Prelude.{◌≡◌, ◌≢◌, ℕ, ◌<◌, ◌≤◌, Bool, true, List, length, get_or, drop, take, None}
 use Rattle.frame_store.specs.declared.frames.Frame.{Frame}
 use Rattle.frame_store.specs.Layouts.{open_gate}
-use Rattle.frame_store.specs.Listed.{spelled, size_of, frame_at, frames_of}
+use Rattle.frame_store.specs.Listed.{spelled, size_of, AreShort, frame_at, frames_of}
 
 -- these frames stand at the front of the bytes, and no whole frame behind them
 pub record IsFront (bytes : List ℕ) (frames : List Frame) (used : ℕ) : Type 0 where
   pub size : used ≡ size_of frames
+  pub short : AreShort frames
   pub within : used ≤ length bytes
   pub stands : take used bytes ≡ spelled frames
   pub ended : frame_at (drop used bytes) ≡ None
@@ -25,6 +26,7 @@ pub record IsPiece (bytes : List ℕ) (frames : List Frame) (used : ℕ) (closed
 -- The list of these bytes has these frames, which are so many bytes; closed says whether a gate that is not open stands behind them.
 pub record IsListOf (bytes : List ℕ) (frames : List Frame) (used : ℕ) (closed : Bool) : Type 0 where
   pub listed : frames_of bytes ≡ frames
+  pub short : AreShort frames
   pub stands : take used bytes ≡ spelled frames
   pub within : used ≤ length bytes
   pub ended : closed ≡ true → IsShutAt bytes used

@@ -1,10 +1,12 @@
 -- What a clause sees of a store.
-use Rattle.std.specs.Prelude.{◌≡◌, ℕ, ◌≤◌, Bool, true, false, List, length, Result, Ok, Err}
+use Rattle.std.specs.Prelude.{◌≡◌, ℕ, ◌+◌, ◌*◌, ◌≤◌, min, max, if◌then◌else◌, Bool, true, false, List, length, Result, Ok, Err}
 use Rattle.frame_store.specs.declared.faults.FrameFault.{FrameFault}
 use Rattle.frame_store.specs.declared.faults.FrameFault.TheVariants.{Disk, Halted}
 use Rattle.frame_store.specs.declared.frames.Frame.{Frame}
 use Rattle.frame_store.specs.declared.shapes.Shape.{Shape}
-use Rattle.frame_store.specs.Layouts.{store_end}
+use Rattle.frame_store.specs.declared.shapes.Form.TheVariants.{Moved}
+use Rattle.frame_store.specs.Layouts.{formed, is_old, store_end}
+use Rattle.frame_store.specs.Listed.{size_of}
 use Rattle.frame_store.specs.Images.{OpensAs}
 
 -- room in memory, for the bytes of a write
@@ -44,6 +46,13 @@ pub record HasNow {D : Type 0} (listed : List Frame) (old new : Held D) : Type 0
   pub closed : new.closed ≡ true
   pub size : old.size ≤ new.size
 
+-- an old store was brought over: it has these frames now, and a closed gate after them
+pub record HasCome {D : Type 0} (listed : List Frame) (old new : Held D) : Type 0 where
+  pub shape : new.shape ≡ formed Moved old.shape
+  pub frames : new.frames ≡ listed
+  pub closed : new.closed ≡ true
+  pub size : old.size ≤ new.size
+
 -- a store is halted once a call of it answered Disk
 abbrev pub halted_after : {T : Type 0} → Bool → Result T FrameFault → Bool
 halted_after halted (Err Disk) = true
@@ -60,3 +69,17 @@ pub record IsAnswer {T : Type 0} (halted halted_now : Bool) (result : Result T F
 pub record HasRoom {D : Type 0} (has_room : D → ℕ → ℕ → ℕ → Type 0) (store : Held D) (calls bytes written : ℕ) : Type 0 where
   pub disk : has_room store.disk calls bytes (store_end store.shape)
   pub line : written ≤ store.room.line
+
+-- how many calls a sync, a list in the place of the one that is there, and an append with a block make; an old store is brought over in the list's place
+abbrev pub calls_ahead : Shape → ℕ
+calls_ahead shape = if is_old shape then 14 else 13
+
+-- the bytes of the blocks that are written with so many frames as an old store is brought over: as many blocks as frames, and no more than slots
+abbrev pub blocks_ahead : Shape → ℕ → ℕ
+blocks_ahead shape frames = if is_old shape then (min frames shape.records * shape.block) else 0
+
+-- room for all of them, for this list and a body of this length
+abbrev pub HasRoomAhead : {D : Type 0} → (D → ℕ → ℕ → ℕ → Type 0) → Held D → List Frame → ℕ → Type 0
+HasRoomAhead has_room store frames body =
+    HasRoom has_room store (calls_ahead store.shape)
+    (blocks_ahead store.shape (length frames) + (size_of frames + 34) + (store.shape.block + body + 7)) (max (size_of frames + 1) (body + 6))

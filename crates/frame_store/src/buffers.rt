@@ -16,11 +16,12 @@ pub(crate) const OPEN: u8 = 0xA5;
 pub(crate) fn identity(shape: Shape) -> [u8; 16]
     ensures { result ≡ identity shape }
 {
+    let format = shape.form.format();
     let [m0, m1] = shape.me.to_be_bytes();
     let [b0, b1] = shape.block.to_be_bytes();
     let [r0, r1, r2, r3] = shape.records.to_be_bytes();
     [
-        70, 65, 66, 83, 84, 79, 82, 2, m0, m1, b0, b1, r0, r1, r2, r3,
+        70, 65, 66, 83, 84, 79, 82, format, m0, m1, b0, b1, r0, r1, r2, r3,
     ]
 }
 
@@ -47,9 +48,10 @@ pub(crate) fn header_rest(shape: Shape, generation: u64) -> [u8; 31]
         i15,
     ] = identity(shape);
     let [g0, g1, g2, g3, g4, g5, g6, g7] = generation.to_be_bytes();
+    let place = shape.form.place();
     [
         i0, i1, i2, i3, i4, i5, i6, i7, i8, i9, i10, i11, i12, i13, i14, i15, g0, g1, g2, g3, g4,
-        g5, g6, g7, 0, 0, 0, 0, 0, 0, 0,
+        g5, g6, g7, place, 0, 0, 0, 0, 0, 0,
     ]
 }
 

@@ -36,7 +36,11 @@ impl Collected {
 impl TakesFrames for Collected {
     ghost use Rattle.std.specs.Prelude.{◌≡◌, ◌++◌};
 
-    ghost makes = { λ first frames now. now.frames.items ≡ first.frames.items ++ frames };
+    ghost makes = { λ first old frames now. now.frames.items ≡ first.frames.items ++ frames };
+
+    fn begin(&mut self, _old: bool) -> Result<(), NoMem> {
+        Ok(())
+    }
 
     fn take(&mut self, kind: u8, body: &[u8]) -> Result<(), NoMem> {
         let body = Bytes::from_slice(self.alloc, body)?;

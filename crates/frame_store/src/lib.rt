@@ -1,4 +1,5 @@
-//! A store over a disk: a list of frames, each appended whole or not at all, and slots for blocks.
+//! A store over a disk: a list of frames, each appended whole or not at all, and slots for blocks. A store of the old format, which
+//! has blocks among its frames, is read, and brought over.
 //!
 //! The index, which is the list of frames, stands in one of two halves. An append writes a frame behind a closed gate, syncs,
 //! opens the gate and syncs. A rewrite writes a new list in the other half, and then opens that half's header. So whatever a
@@ -20,6 +21,6 @@ mod takers;
 pub use collected::Collected;
 pub use faults::{FrameFault, OpenFault};
 pub use frames::Frame;
-pub use shapes::{Half, Shape};
-pub use stores::{FrameStore, format, open_store};
+pub use shapes::{Form, Half, Shape};
+pub use stores::{FrameStore, format, format_one, open_store};
 pub use takers::TakesFrames;

@@ -1,10 +1,11 @@
 //! What is read of a disk when a store is opened.
 
-ghost use Rattle.std.specs.Prelude.{◌≡◌, ◌≢◌, ℕ, ◌+◌, ◌*◌, ◌^◌, ◌<◌, ◌≤◌, ◌++◌, ◌∷◌, [], List, ◌↔◌, ◌⊎◌, ◌-◌, min, length, slice_range, take, vec_len, IsTrue, IsOk, IfOk, IfErr, OnOk, IfSome, IfNone, Some, None};
+ghost use Rattle.std.specs.Prelude.{Bool, ◌≡◌, ◌≢◌, ℕ, ◌+◌, ◌*◌, ◌^◌, ◌<◌, ◌≤◌, ◌++◌, ◌∷◌, [], List, ◌↔◌, ◌⊎◌, ◌-◌, min, length, slice_range, take, vec_len, IsTrue, IsOk, IfOk, IfErr, OnOk, IfSome, IfNone, Some, None};
 ghost use Rattle.std.specs.Int.{w64, from_be_bytes};
 ghost use Rattle.fab_disk.specs.Changing.{Still};
 ghost use Rattle.frame_store.specs.declared.frames.Frame.{Frame};
-ghost use Rattle.frame_store.specs.Layouts.{IsShape, headers_size, open_gate, identity};
+ghost use Rattle.frame_store.specs.declared.shapes.Form.{Form};
+ghost use Rattle.frame_store.specs.Layouts.{IsShape, headers_size, formed, is_old, header_at, open_gate, identity};
 ghost use Rattle.frame_store.specs.Listed.{frame_at, frame_of, frame_rest, size_of};
 ghost use Rattle.frame_store.specs.Images.{part, IsOpen, IsLater, InForce, IsNoStore, generation_at};
 ghost use Rattle.frame_store.specs.Laid.{Laid, IsCounted};
@@ -13,7 +14,7 @@ ghost use Rattle.frame_store.specs.Reading.{IsFront, IsShutAt, IsPiece, IsListOf
 use crate::buffers::{OPEN, identity};
 use crate::faults::OpenFault;
 use crate::listings::Listing;
-use crate::shapes::{Half, Shape};
+use crate::shapes::{Form, Half, Shape};
 use crate::takers::TakesFrames;
 use fab_base::NoMem;
 use fab_disk::{Disk, IoFault};
@@ -71,18 +72,51 @@ fn front_of(shape: Shape) -> [u8; 17]
     [OPEN, a, b, c, d, e, f, g, h, i, j, k, l, m, n, o, p]
 }
 
-// The generation of a header, if it is open.
-fn generation_of(shape: Shape, half: Half, headers: &[u8]) -> Option<u64>
+// Whether a header begins as an open one of this store and form.
+fn is_front(shape: Shape, half: Half, headers: &[u8]) -> bool
     requires { length headers.now ≡ headers_size }
-    ensures open { IfSome result (λ n. IsOpen shape half headers.now × (generation_at half headers.now ≡ n)) }
-    ensures shut { IfNone result (IsOpen shape half headers.now → ⊥) }
+    ensures { IsTrue result ↔ (part (header_at half) 17 headers.now ≡ open_gate ∷ identity shape) }
 {
     let at = half.header_at() as usize;
-    let front = front_of(shape);
-    if headers[at..at + 17] != front[..] {
+    headers[at..at + 17] == front_of(shape)[..]
+}
+
+// The form that a header tells, if it is open.
+fn form_of(shape: Shape, half: Half, headers: &[u8]) -> Option<Form>
+    requires { length headers.now ≡ headers_size }
+    ensures open { IfSome result (λ form. IsOpen (formed form shape) half headers.now) }
+    ensures shut { IfNone result ((form : Form) → IsOpen (formed form shape) half headers.now → ⊥) }
+{
+    if is_front(shape.formed(Form::Old), half, headers) {
+        return Some(Form::Old);
+    }
+    if !is_front(shape.formed(Form::New), half, headers) {
         return None;
     }
-    Some(number_of(&headers[at + 17..at + 25]))
+    if headers[half.header_at() as usize + 25] == 1 {
+        Some(Form::Moved)
+    } else {
+        Some(Form::New)
+    }
+}
+
+// What an open header tells.
+#[derive(Clone, Copy)]
+pub(crate) struct Header {
+    pub(crate) form: Form,
+    pub(crate) generation: u64,
+}
+
+// What a header tells, if it is open.
+fn header_of(shape: Shape, half: Half, headers: &[u8]) -> Option<Header>
+    requires { length headers.now ≡ headers_size }
+    ensures open { IfSome result (λ h. IsOpen (formed h.form shape) half headers.now × (generation_at half headers.now ≡ h.generation)) }
+    ensures shut { IfNone result ((form : Form) → IsOpen (formed form shape) half headers.now → ⊥) }
+{
+    let form = form_of(shape, half, headers)?;
+    let at = half.header_at() as usize;
+    let generation = number_of(&headers[at + 17..at + 25]);
+    Some(Header { form, generation })
 }
 
 // Whether the second generation comes after the first.
@@ -93,14 +127,14 @@ fn is_later(first: u64, second: u64) -> bool
     1 <= ahead && ahead < 1 << 63
 }
 
-// The half that a disk is read by, and its generation.
-fn choose(shape: Shape, headers: &[u8]) -> Option<(Half, u64)>
+// The half that a disk is read by, and what its header tells.
+fn choose(shape: Shape, headers: &[u8]) -> Option<(Half, Header)>
     requires { length headers.now ≡ headers_size }
-    ensures found { IfSome result (λ f. InForce shape f.0 headers.now × (generation_at f.0 headers.now ≡ f.1)) }
+    ensures found { IfSome result (λ f. InForce (formed f.1.form shape) f.0 headers.now × (generation_at f.0 headers.now ≡ f.1.generation)) }
     ensures none { IfNone result (IsNoStore shape headers.now) }
 {
-    let first = generation_of(shape, Half::A, headers);
-    let second = generation_of(shape, Half::B, headers);
+    let first = header_of(shape, Half::A, headers);
+    let second = header_of(shape, Half::B, headers);
     match first {
         None => match second {
             None => None,
@@ -109,7 +143,7 @@ fn choose(shape: Shape, headers: &[u8]) -> Option<(Half, u64)>
         Some(a) => match second {
             None => Some((Half::A, a)),
             Some(b) => {
-                if is_later(a, b) {
+                if is_later(a.generation, b.generation) {
                     Some((Half::B, b))
                 } else {
                     Some((Half::A, a))
@@ -124,6 +158,7 @@ fn choose(shape: Shape, headers: &[u8]) -> Option<(Half, u64)>
 fn frame_at(bytes: &[u8]) -> Option<(u8, &[u8], &[u8])>
     ensures found { IfSome result (λ f. frame_at bytes.now ≡ Some (frame_of f.0 f.1.now, f.2.now)) }
     ensures spelled { IfSome result (λ f. bytes.now ≡ open_gate ∷ (frame_rest (frame_of f.0 f.1.now) ++ f.2.now)) }
+    ensures short { IfSome result (λ f. length f.1.now < 2 ^ 32) }
     ensures none { IfNone result (frame_at bytes.now ≡ None) }
 {
     let [gate, kind, a, b, c, d, rest @ ..] = bytes else {
@@ -143,7 +178,7 @@ fn take_frames<T: TakesFrames>(
     listing: Listing,
     bytes: &[u8],
 ) -> Result<(usize, Listing), NoMem>
-    ensures makes { IfOk result (λ made. (first : _) → T.makes first listing.frames taker.old → T.makes first made.1.frames taker.new) }
+    ensures makes { IfOk result (λ made. (first : _) (old : Bool) → T.makes first old listing.frames taker.old → T.makes first old made.1.frames taker.new) }
     ensures front { IfOk result (λ made. (frames : List Frame) × IsFront bytes.now frames made.0
         × (made.1.frames ≡ listing.frames ++ frames)) }
 {
@@ -229,7 +264,7 @@ fn next_piece<D: Disk, T: TakesFrames>(
     requires below { at ≤ limit }
     requires reach { limit ≤ 2 ^ 48 }
     requires within { D.tells → limit ≤ length (D.seen disk.old) }
-    ensures makes { IfOk result (λ taken. (first : _) → T.makes first listing.frames taker.old → T.makes first taken.listing.frames taker.new) }
+    ensures makes { IfOk result (λ taken. (first : _) (old : Bool) → T.makes first old listing.frames taker.old → T.makes first old taken.listing.frames taker.new) }
     ensures count { IfOk result (λ taken. taken.len ≡ min (limit - at) (vec_len piece.old)) }
     ensures front { IfOk result (λ taken. (frames : List Frame) × (taken.listing.frames ≡ listing.frames ++ frames)
         × (taken.used ≡ size_of frames) × (taken.used ≤ taken.len)
@@ -283,10 +318,8 @@ fn read_list<D: Disk, T: TakesFrames>(
 ) -> Result<Reading, OpenFault>
     requires below { from ≤ limit }
     requires reach { limit ≤ 2 ^ 48 }
-    requires short { limit - from < 2 ^ 32 }
     requires within { D.tells → limit ≤ length (D.seen disk.old) }
-    requires none { T.makes taker.old [] taker.old }
-    ensures makes { IfOk result (λ list. T.makes taker.old list.listing.frames taker.new) }
+    ensures makes { IfOk result (λ list. (first : _) (old : Bool) → T.makes first old [] taker.old → T.makes first old list.listing.frames taker.new) }
     ensures counted { IfOk result (λ list. (list.used ≡ size_of list.listing.frames) × (list.used ≤ limit - from)) }
     ensures read { D.tells → IfOk result (λ list. IsListOf (part from (limit - from) (D.seen disk.old)) list.listing.frames list.used list.closed) }
     ensures still { Still D.Disk disk.old disk.new (result ≡ Err OpenFault.Disk) }
@@ -321,7 +354,7 @@ fn read_list<D: Disk, T: TakesFrames>(
 #[derive(Drop)]
 pub(crate) struct Found {
     pub(crate) half: Half,
-    pub(crate) generation: u64,
+    pub(crate) header: Header,
     pub(crate) other_shut: bool,
     pub(crate) listing: Listing,
     pub(crate) used: u64,
@@ -350,11 +383,10 @@ pub(crate) fn read_store<D: Disk, T: TakesFrames>(
     taker: &mut T,
 ) -> Result<Found, OpenFault>
     requires limits { IsShape shape }
-    requires none { T.makes taker.old [] taker.old }
-    ensures makes { IfOk result (λ found. T.makes taker.old found.listing.frames taker.new) }
-    ensures counted { IfOk result (λ found. IsCounted shape found.listing.frames found.used) }
-    ensures laid { D.tells → IfOk result (λ found. Laid shape found.half found.generation found.other_shut found.listing.frames
-        found.closed (D.seen disk.old)) }
+    ensures makes { IfOk result (λ found. T.makes taker.old (is_old (formed found.header.form shape)) found.listing.frames taker.new) }
+    ensures counted { IfOk result (λ found. IsCounted (formed found.header.form shape) found.listing.frames found.used) }
+    ensures laid { D.tells → IfOk result (λ found. Laid (formed found.header.form shape) found.half found.header.generation found.other_shut
+        found.listing.frames found.closed (D.seen disk.old)) }
     ensures size { D.tells → IfOk result (λ found. length (D.seen disk.old) ≡ found.size) }
     ensures none { D.tells → result ≡ Err OpenFault.NotAStore → IsNoStore shape (D.seen disk.old) }
     ensures still { Still D.Disk disk.old disk.new (result ≡ Err OpenFault.Disk) }
@@ -365,9 +397,11 @@ pub(crate) fn read_store<D: Disk, T: TakesFrames>(
         return Err(OpenFault::NotAStore);
     }
     let headers = read_headers(disk)?;
-    let Some((half, generation)) = choose(shape, &headers) else {
+    let Some((half, header)) = choose(shape, &headers) else {
         return Err(OpenFault::NotAStore);
     };
+    let shape = shape.formed(header.form);
+    taker.begin(shape.is_old())?;
     let from = shape.half_at(half).min(size);
     let limit = from + shape.half_size().min(size - from);
     let Reading {
@@ -377,7 +411,7 @@ pub(crate) fn read_store<D: Disk, T: TakesFrames>(
     } = read_list(alloc, disk, from, limit, taker)?;
     Ok(Found {
         half,
-        generation,
+        header,
         other_shut: headers[half.other().header_at() as usize] != OPEN,
         listing,
         used,

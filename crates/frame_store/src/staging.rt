@@ -38,60 +38,65 @@ pub(crate) fn stage<D: Disk>(
     Ok(())
 }
 
-// Makes ready to put frames in the place of the list: their bytes, and the disk's room.
+// Makes ready to put frames in the place of the list by so many calls, and to write so many bytes of blocks before: the bytes of
+// the frames, and the disk's room.
 pub(crate) fn stage_list<D: Disk>(
     disk: &mut D,
     line: &mut Vec<u8>,
     frames: &[Frame],
+    calls: usize,
+    blocks: usize,
     end: u64,
 ) -> Result<(), FrameFault>
     requires end { end ≤ 2 ^ 48 }
     requires short { size_of frames.now < 2 ^ 31 }
+    requires few { blocks ≤ 2 ^ 40 }
     ensures line { OnOk result (line.new.items ≡ closed_list frames.now) }
     ensures wide { vec_capacity line.old ≤ vec_capacity line.new }
-    ensures made { OnOk result (D.has_room disk.new 7 (size_of frames.now + 34) end) }
+    ensures made { OnOk result (D.has_room disk.new calls (blocks + (size_of frames.now + 34)) end) }
     ensures only { IsOkUnless result FrameFault.NoMemory }
     ensures still { Still D.Disk disk.old disk.new ⊥ }
     ensures room { KeepsRoom (D.has_room disk.old) (D.has_room disk.new) }
-    ensures enough { D.has_room disk.old 7 (size_of frames.now + 34) end → size_of frames.now + 1 ≤ vec_capacity line.old → IsOk result }
+    ensures enough { D.has_room disk.old calls (blocks + (size_of frames.now + 34)) end → size_of frames.now + 1 ≤ vec_capacity line.old
+        → IsOk result }
 {
-    let bytes = size_of(frames) as usize + 34;
-    reserve(disk, 7, bytes, end)?;
+    let bytes = blocks + (size_of(frames) as usize + 34);
+    reserve(disk, calls, bytes, end)?;
     put_list(line, frames)?;
     Ok(())
 }
 
-// Makes room in memory for a sync, a rewrite of a list, and an append of a body with a block.
+// Makes room in memory for so many calls of the disk: for a sync, for a list in the place of the one that is there, with these
+// blocks before it, and for an append of a body with a block.
 pub(crate) fn make_room<D: Disk>(
     disk: &mut D,
     line: &mut Vec<u8>,
     sizes: Sizes,
+    calls: usize,
     end: u64,
 ) -> Result<(), FrameFault>
     requires end { end ≤ 2 ^ 48 }
+    requires blocks { sizes.blocks ≤ 2 ^ 40 }
     requires list { sizes.list < 2 ^ 31 }
     requires body { sizes.body < 2 ^ 31 }
     requires block { sizes.block < 2 ^ 31 }
-    ensures made { OnOk result (D.has_room disk.new 13 (sizes.list + 34 + (sizes.block + sizes.body + 7)) end) }
+    ensures made { OnOk result (D.has_room disk.new calls (sizes.blocks + (sizes.list + 34) + (sizes.block + sizes.body + 7)) end) }
     ensures line { OnOk result (max (sizes.list + 1) (sizes.body + 6) ≤ vec_capacity line.new) }
     ensures only { IsOkUnless result FrameFault.NoMemory }
     ensures still { Still D.Disk disk.old disk.new ⊥ }
     ensures certain { D.certain disk.new ≡ D.certain disk.old }
 {
-    reserve(
-        disk,
-        13,
-        sizes.list + 34 + (sizes.block + sizes.body + 7),
-        end,
-    )?;
+    let bytes = sizes.blocks + (sizes.list + 34) + (sizes.block + sizes.body + 7);
+    reserve(disk, calls, bytes, end)?;
     line.clear();
     line.reserve((sizes.list + 1).max(sizes.body + 6))?;
     Ok(())
 }
 
-// How many bytes a list, a block and a body have.
+// How many bytes the blocks that are written before a list have, the list, a block and a body.
 #[derive(Clone, Copy)]
 pub(crate) struct Sizes {
+    pub(crate) blocks: usize,
     pub(crate) list: usize,
     pub(crate) block: usize,
     pub(crate) body: usize,

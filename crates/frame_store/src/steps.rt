@@ -6,11 +6,18 @@ ghost use Rattle.fab_disk.specs.Changing.{Run};
 ghost use Rattle.fab_disk.specs.Plan.{IsRun, KeepsPlan};
 ghost use Rattle.frame_store.specs.Layouts.{open_gate};
 ghost use Rattle.frame_store.specs.Ends.{end_of};
-ghost use Rattle.frame_store.specs.Steps.{IsStaged, IsShutFirst, IsGated, IsBothGated, IsRewritten, both_written};
+ghost use Rattle.frame_store.specs.Steps.{IsStaged, IsStagedThrice, IsShutFirst, IsShutBefore, IsGated, IsBothGated, IsThriceGated, IsRewritten, IsBrought, both_written, thrice_written};
 
 use crate::buffers::OPEN;
 use crate::faults::FrameFault;
 use fab_disk::Disk;
+
+// Bytes, and where they are written.
+#[derive(Clone, Copy)]
+pub(crate) struct Placed<'a> {
+    pub(crate) at: u64,
+    pub(crate) bytes: &'a [u8],
+}
 
 // Makes room in memory for calls of the disk.
 pub(crate) fn reserve<D: Disk>(
@@ -183,4 +190,94 @@ pub(crate) fn rewrite_gated<D: Disk>(
 {
     write_synced(disk, gate, shut)?;
     write_both_gated(disk, gate + 1, rest, at, list, gate)
+}
+
+// Three writes that are synced.
+fn write_thrice_synced<D: Disk>(
+    disk: &mut D,
+    first: Placed<'_>,
+    second: Placed<'_>,
+    third: Placed<'_>,
+    end: u64,
+) -> Result<(), FrameFault>
+    requires reach { end ≤ 2 ^ 48 }
+    requires first { first.at + length first.bytes.now ≤ end }
+    requires second { second.at + length second.bytes.now ≤ end }
+    requires third { third.at + length third.bytes.now ≤ end }
+    requires room { D.has_room disk.old 4 (length first.bytes.now + (length second.bytes.now + length third.bytes.now)) end }
+    ensures change { Run D.Disk 4
+        (IsStagedThrice first.entry.at (length first.entry.bytes.now) second.entry.at (length second.entry.bytes.now) third.entry.at (length third.entry.bytes.now) (D.seen disk.old))
+        (IsStagedThrice first.entry.at (length first.entry.bytes.now) second.entry.at (length second.entry.bytes.now) third.entry.at (length third.entry.bytes.now) (D.seen disk.old))
+        (λ image. image ≡ thrice_written first.entry.at first.entry.bytes.now second.entry.at second.entry.bytes.now third.entry.at third.entry.bytes.now (D.seen disk.old))
+        disk.old disk.new (end_of result) }
+    ensures left { OnOk result ((calls room : ℕ) → D.has_room disk.old (calls + 4)
+        (room + (length first.entry.bytes.now + (length second.entry.bytes.now + length third.entry.bytes.now))) end → D.has_room disk.new calls room end) }
+    ensures only { IsOkUnless result FrameFault.Disk }
+{
+    write(disk, first.at, first.bytes)?;
+    write(disk, second.at, second.bytes)?;
+    write(disk, third.at, third.bytes)?;
+    sync(disk)
+}
+
+// Three writes that are synced, and then an open gate.
+fn write_thrice_gated<D: Disk>(
+    disk: &mut D,
+    first: Placed<'_>,
+    second: Placed<'_>,
+    third: Placed<'_>,
+    gate: u64,
+    end: u64,
+) -> Result<(), FrameFault>
+    requires reach { end ≤ 2 ^ 48 }
+    requires first { first.at + length first.bytes.now ≤ end }
+    requires second { second.at + length second.bytes.now ≤ end }
+    requires third { third.at + length third.bytes.now ≤ end }
+    requires gate { gate + 1 ≤ end }
+    requires room { D.has_room disk.old 6 (length first.bytes.now + (length second.bytes.now + length third.bytes.now) + 1) end }
+    ensures change { Run D.Disk 6
+        (IsStagedThrice first.entry.at (length first.entry.bytes.now) second.entry.at (length second.entry.bytes.now) third.entry.at (length third.entry.bytes.now) (D.seen disk.old))
+        (IsThriceGated first.entry.at first.entry.bytes.now second.entry.at second.entry.bytes.now third.entry.at third.entry.bytes.now gate (D.seen disk.old))
+        (λ image. image ≡ written gate (open_gate ∷ [])
+        (thrice_written first.entry.at first.entry.bytes.now second.entry.at second.entry.bytes.now third.entry.at third.entry.bytes.now (D.seen disk.old)))
+        disk.old disk.new (end_of result) }
+    ensures left { OnOk result ((calls room : ℕ) → D.has_room disk.old (calls + 6)
+        (room + (length first.entry.bytes.now + (length second.entry.bytes.now + length third.entry.bytes.now) + 1)) end → D.has_room disk.new calls room end) }
+    ensures only { IsOkUnless result FrameFault.Disk }
+{
+    write_thrice_synced(disk, first, second, third, end)?;
+    write_synced(disk, gate, &[OPEN])
+}
+
+// Shuts a gate, writes blocks, a list and what stands behind the gate, and opens it.
+pub(crate) fn bring_gated<D: Disk>(
+    disk: &mut D,
+    gate: u64,
+    shut: &[u8],
+    blocks: Placed<'_>,
+    list: Placed<'_>,
+    rest: &[u8],
+    end: u64,
+) -> Result<(), FrameFault>
+    requires reach { end ≤ 2 ^ 48 }
+    requires shut { gate + length shut.now ≤ end }
+    requires blocks { blocks.at + length blocks.bytes.now ≤ end }
+    requires list { list.at + length list.bytes.now ≤ end }
+    requires rest { gate + 1 + length rest.now ≤ end }
+    requires room { D.has_room disk.old 8 (length shut.now + (length blocks.bytes.now + (length list.bytes.now + length rest.now) + 1)) end }
+    ensures change { Run D.Disk 8 (IsShutBefore gate shut.now blocks.entry.at blocks.entry.bytes.now list.entry.at list.entry.bytes.now rest.now (D.seen disk.old))
+        (IsBrought gate shut.now blocks.entry.at blocks.entry.bytes.now list.entry.at list.entry.bytes.now rest.now (D.seen disk.old))
+        (λ image. image ≡ written gate (open_gate ∷ [])
+        (thrice_written blocks.entry.at blocks.entry.bytes.now list.entry.at list.entry.bytes.now (gate + 1) rest.now (written gate shut.now (D.seen disk.old))))
+        disk.old disk.new (end_of result) }
+    ensures left { OnOk result ((calls room : ℕ) → D.has_room disk.old (calls + 8)
+        (room + (length shut.now + (length blocks.entry.bytes.now + (length list.entry.bytes.now + length rest.now) + 1))) end → D.has_room disk.new calls room end) }
+    ensures only { IsOkUnless result FrameFault.Disk }
+{
+    write_synced(disk, gate, shut)?;
+    let header = Placed {
+        at: gate + 1,
+        bytes: rest,
+    };
+    write_thrice_gated(disk, blocks, list, header, gate, end)
 }

@@ -4,20 +4,20 @@ ghost use Rattle.std.specs.Prelude.{max, ◌≡◌, ◌≢◌, ◌⊎◌, ◌↔
 ghost use Rattle.fab_disk.specs.Changing.{Run, Still, IsAny};
 ghost use Rattle.fab_disk.specs.Disk.{Elapses, IsUntouched, Kept, KeepsRoom, Only};
 ghost use Rattle.fab_disk.specs.Plan.{IsRun, KeepsPlan};
-ghost use Rattle.frame_store.specs.Layouts.{shape_of, half_size};
+ghost use Rattle.frame_store.specs.Layouts.{IsShape, shape_of, formed, is_old, index_half_size};
 ghost use Rattle.frame_store.specs.Listed.{Fits, size_of, frame_of};
-ghost use Rattle.frame_store.specs.Images.{IsNoStore, IsEmptyStore, HasSlot, block_in};
-ghost use Rattle.frame_store.specs.Ends.{end_of, ListChange};
-ghost use Rattle.frame_store.specs.Stores.{Shows, IsRead, IsSame, HasNow, IsAnswer, HasRoom};
+ghost use Rattle.frame_store.specs.Images.{IsNoStore, IsEmptyStore, HasSlot, AreBlocks, block_in};
+ghost use Rattle.frame_store.specs.Ends.{end_of, ListChange, BringsOver};
+ghost use Rattle.frame_store.specs.Stores.{Shows, IsRead, IsSame, HasNow, HasCome, IsAnswer, HasRoom, HasRoomAhead, blocks_ahead};
 
 use crate::buffers::{closing, header_rest, shut_headers, size_of};
 use crate::faults::{FrameFault, OpenFault};
 use crate::frames::Frame;
 use crate::listings::{Listing, listing_of};
 use crate::reading::read_store;
-use crate::shapes::{Half, Shape};
+use crate::shapes::{Form, Half, Shape};
 use crate::staging::{Sizes, make_room, stage, stage_list};
-use crate::steps::{reserve, rewrite_gated, write_both_gated, write_gated};
+use crate::steps::{Placed, bring_gated, reserve, rewrite_gated, write_both_gated, write_gated};
 use crate::takers::TakesFrames;
 use fab_disk::{Armed, Disk, IoFault, Plan};
 use std::alloc::Global;
@@ -75,20 +75,55 @@ pub fn format<D: Disk>(
     ensures change { Run D.Disk 5 IsAny IsAny (IsEmptyStore (shape_of me block records)) disk.old disk.new (end_of result) }
     ensures only { OnErr result ((result ≡ Err FrameFault.Disk) ⊎ (result ≡ Err FrameFault.NoMemory)) }
 {
-    let shape = Shape {
-        me,
-        block,
-        records,
-        start: 64,
-    };
+    make(disk, new_shape(me, block, records))
+}
+
+/// Makes an empty store of the old format, in the place of whatever the disk holds. It makes five calls of `write_at` and `sync`.
+/// What the disk opens as after a format that did not succeed is not told.
+///
+/// # Errors
+/// [`FrameFault::Disk`]: the disk failed. [`FrameFault::NoMemory`]: memory was refused, and the disk is as it was.
+pub fn format_one<D: Disk>(
+    _alloc: Global,
+    disk: &mut D,
+    me: u16,
+    block: u16,
+    records: u32,
+) -> Result<(), FrameFault>
+    requires block_range { (1 ≤ block) × (block ≤ 4096) }
+    requires records_range { (1 ≤ records) × (records ≤ 1048576) }
+    ensures change { Run D.Disk 5 IsAny IsAny (IsEmptyStore (formed Form.Old (shape_of me block records))) disk.old disk.new (end_of result) }
+    ensures only { OnErr result ((result ≡ Err FrameFault.Disk) ⊎ (result ≡ Err FrameFault.NoMemory)) }
+{
+    make(disk, new_shape(me, block, records).formed(Form::Old))
+}
+
+// Makes an empty store of this shape and form.
+fn make<D: Disk>(disk: &mut D, shape: Shape) -> Result<(), FrameFault>
+    requires { IsShape shape }
+    ensures change { Run D.Disk 5 IsAny IsAny (IsEmptyStore shape) disk.old disk.new (end_of result) }
+    ensures only { OnErr result ((result ≡ Err FrameFault.Disk) ⊎ (result ≡ Err FrameFault.NoMemory)) }
+{
     let headers = shut_headers(shape);
     let first = shape.half_at(Half::A);
     reserve(disk, 5, 66, shape.end())?;
     write_both_gated(disk, 0, &headers, first, &[0], 0)
 }
 
-/// Opens the store that a disk holds for a brick, with these blocks and slots, and hands on its frames, one after another. It
-/// reads alone, as far as the first gate that is not open, and changes nothing.
+// What a new store is made for.
+fn new_shape(me: u16, block: u16, records: u32) -> Shape
+    ensures { result ≡ shape_of me block records }
+{
+    Shape {
+        me,
+        block,
+        records,
+        form: Form::New,
+    }
+}
+
+/// Opens the store that a disk holds for a brick, with these blocks and slots, in whichever form it is, and hands on its frames,
+/// one after another. It reads alone, as far as the first gate that is not open, and changes nothing.
 ///
 /// # Errors
 /// Each hands the disk back. [`OpenFault::NotAStore`]: neither header is open. [`OpenFault::Disk`]: the disk failed.
@@ -103,31 +138,25 @@ pub fn open_store<D: Disk, T: TakesFrames>(
 ) -> Result<FrameStore<D>, (OpenFault, D)>
     requires block_range { (1 ≤ block) × (block ≤ 4096) }
     requires records_range { (1 ≤ records) × (records ≤ 1048576) }
-    requires none { T.makes taker.old [] taker.old }
-    ensures shape { IfOk result (λ store. store.shape ≡ shape_of me block records) }
+    ensures shape { IfOk result (λ store. store.shape ≡ formed store.shape.form (shape_of me block records)) }
     ensures runs { IfOk result (λ store. store.halted ≡ false) }
     // The frames are those that the disk opens as, and those that the taker took.
     ensures read { IfOk result (λ store. IsRead D.tells D.seen store) }
-    ensures taken { IfOk result (λ store. T.makes taker.old store.frames taker.new) }
+    ensures taken { IfOk result (λ store. T.makes taker.old (is_old store.shape) store.frames taker.new) }
     ensures still { IfOk result (λ store. Still D.Disk disk store.disk ⊥) }
     ensures still_err { IfErr result (λ e. Still D.Disk disk e.1 (e.0 ≡ OpenFault.Disk)) }
     ensures certain { IfOk result (λ store. D.certain store.disk ≡ D.certain disk) }
     ensures certain_err { IfErr result (λ e. D.certain e.1 ≡ D.certain disk) }
     ensures not_a_store { IfErr result (λ e. e.0 ≡ OpenFault.NotAStore → D.tells → IsNoStore (shape_of me block records) (D.seen disk)) }
 {
-    let shape = Shape {
-        me,
-        block,
-        records,
-        start: 64,
-    };
+    let shape = new_shape(me, block, records);
     let mut disk = disk;
     match read_store(alloc, &mut disk, shape, taker) {
         Ok(found) => Ok(FrameStore {
             disk,
-            shape,
+            shape: shape.formed(found.header.form),
             half: found.half,
-            generation: found.generation,
+            generation: found.header.generation,
             other_shut: found.other_shut,
             list: found.listing,
             used: found.used,
@@ -150,6 +179,13 @@ impl<D: Disk> FrameStore<D> {
         self.shape
     }
 
+    /// Whether the store is of the old format. Such a store is read, and brought over: nothing is appended to it.
+    pub fn is_old(&self) -> bool
+        ensures { result ≡ is_old self.now.shape }
+    {
+        self.shape.is_old()
+    }
+
     /// Whether a call of this store answered [`FrameFault::Disk`].
     pub fn is_halted(&self) -> bool
         ensures { result ≡ self.now.halted }
@@ -166,7 +202,9 @@ impl<D: Disk> FrameStore<D> {
     }
 
     /// Whether a frame with a body of this length, and the next gate, fit in the half of the index.
+    #[tactic(auto, using(crate::proofs::Slots::half_is))]
     pub fn fits(&self, length: usize) -> bool
+        requires { is_old self.now.shape ≡ false }
         ensures { IsTrue result ↔ Fits self.now.shape self.now.frames length }
     {
         let left = self.shape.half_size() - self.used;
@@ -175,6 +213,7 @@ impl<D: Disk> FrameStore<D> {
 
     /// Whether there is a slot of this number inside the file.
     pub fn has_slot(&self, slot: u32) -> bool
+        requires { is_old self.now.shape ≡ false }
         ensures { IsTrue result ↔ HasSlot self.now.shape self.now.size slot }
     {
         slot < self.shape.records && self.shape.slot_at(slot + 1) <= self.size
@@ -185,6 +224,7 @@ impl<D: Disk> FrameStore<D> {
     /// # Errors
     /// [`FrameFault::Halted`], [`FrameFault::Disk`]; [`FrameFault::NoMemory`] where the disk answers it.
     pub fn read_slot(&mut self, slot: u32, into: &mut [u8]) -> Result<(), FrameFault>
+        requires new { is_old self.old.shape ≡ false }
         requires slot { HasSlot self.old.shape self.old.size slot }
         requires block { length into.old ≡ self.old.shape.block }
         ensures bytes { D.tells → OnOk result (into.new ≡ block_in self.old.shape slot (D.seen self.old.disk)) }
@@ -213,6 +253,7 @@ impl<D: Disk> FrameStore<D> {
     /// # Errors
     /// [`FrameFault::Halted`], [`FrameFault::Disk`]; [`FrameFault::NoMemory`], before the disk changed.
     pub fn append(&mut self, kind: u8, body: &[u8]) -> Result<(), FrameFault>
+        requires new { is_old self.old.shape ≡ false }
         requires fits { Fits self.old.shape self.old.frames (length body.now) }
         // One change of the list: each image shows it as it was before or as it is after.
         ensures change { ListChange D.Disk 4 self.old (self.old.frames ++ frame_of kind body.now ∷ []) None self.new.disk (end_of result) }
@@ -253,6 +294,7 @@ impl<D: Disk> FrameStore<D> {
     /// # Errors
     /// [`FrameFault::Halted`], [`FrameFault::Disk`]; [`FrameFault::NoMemory`], before the disk changed.
     pub fn append_with(&mut self, slot: u32, block: &[u8], frame: Frame) -> Result<(), FrameFault>
+        requires new { is_old self.old.shape ≡ false }
         requires fits { Fits self.old.shape self.old.frames (length frame.body) }
         requires slot { slot < self.old.shape.records }
         requires block { length block.now ≡ self.old.shape.block }
@@ -304,7 +346,8 @@ impl<D: Disk> FrameStore<D> {
     /// # Errors
     /// [`FrameFault::Halted`], [`FrameFault::Disk`]; [`FrameFault::NoMemory`], before the disk changed.
     pub fn rewrite(&mut self, frames: Vec<Frame>) -> Result<(), FrameFault>
-        requires fits { size_of frames.items + 1 ≤ half_size self.old.shape }
+        requires new { is_old self.old.shape ≡ false }
+        requires fits { size_of frames.items + 1 ≤ index_half_size self.old.shape }
         // One change of the list: each image shows it as it was before or as it is after.
         ensures change { ListChange D.Disk 7 self.old frames.items None self.new.disk (end_of result) }
         // It stands in the other half, one generation later.
@@ -324,7 +367,7 @@ impl<D: Disk> FrameStore<D> {
             return Err(FrameFault::Halted);
         }
         let end = self.shape.end();
-        stage_list(&mut self.disk, &mut self.line, &frames, end)?;
+        stage_list(&mut self.disk, &mut self.line, &frames, 7, 0, end)?;
         let other = self.half.other();
         let at = self.shape.half_at(other);
         let generation = self.generation.wrapping_add(1);
@@ -350,9 +393,80 @@ impl<D: Disk> FrameStore<D> {
         }
     }
 
+    /// Brings an old store over: puts these blocks in the slots of the new format from slot 0 on, and this list in the index. The old
+    /// list is left as it is, and counts until the new header's gate is open. It makes eight calls of `write_at` and `sync`.
+    ///
+    /// # Errors
+    /// [`FrameFault::Halted`], [`FrameFault::Disk`]; [`FrameFault::NoMemory`], before the disk changed.
+    pub fn bring_over(&mut self, blocks: &[u8], frames: Vec<Frame>) -> Result<(), FrameFault>
+        requires old { is_old self.old.shape ≡ true }
+        requires blocks { AreBlocks self.old.shape (length frames.items) blocks.now }
+        requires fits { size_of frames.items + 1 ≤ index_half_size self.old.shape }
+        // One change of the disk: each image opens as the old list, or as the new one with the blocks in their slots.
+        ensures change { BringsOver D.Disk self.old frames.items blocks.now self.new.disk (end_of result) }
+        ensures ok { OnOk result (HasCome frames.items self.old self.new) }
+        ensures answer { IsAnswer self.old.halted self.new.halted result }
+        ensures refused { OnErr result (IsSame self.old self.new) }
+        ensures no_call { result ≡ Err FrameFault.Halted → self.new ≡ self.old }
+        ensures read { IsRead D.tells D.seen self.new }
+        // Within what `reserve` made, memory is not refused, and what was made beyond this call is left.
+        ensures room { HasRoom D.has_room self.old 8 (length blocks.now + (size_of frames.items + 34)) (size_of frames.items + 1)
+            → result ≢ Err FrameFault.NoMemory }
+        ensures left { OnOk result ((calls bytes written : ℕ) → HasRoom D.has_room self.old (calls + 8)
+            (bytes + (length blocks.now + (size_of frames.items + 34))) written → HasRoom D.has_room self.new calls bytes written) }
+    {
+        if self.halted {
+            return Err(FrameFault::Halted);
+        }
+        let end = self.shape.end();
+        stage_list(
+            &mut self.disk,
+            &mut self.line,
+            &frames,
+            8,
+            blocks.len(),
+            end,
+        )?;
+        let shape = self.shape.formed(Form::Moved);
+        let other = self.half.other();
+        let at = shape.half_at(other);
+        let generation = self.generation.wrapping_add(1);
+        let rest = header_rest(shape, generation);
+        let shut = closing(self.other_shut);
+        let bytes = self.line.len() as u64;
+        let gate = other.header_at();
+        let start = shape.slot_at(0);
+        let blocks = Placed {
+            at: start,
+            bytes: blocks,
+        };
+        let list = Placed {
+            at,
+            bytes: &self.line,
+        };
+        match bring_gated(&mut self.disk, gate, shut, blocks, list, &rest, end) {
+            Ok(()) => {
+                self.shape = shape;
+                self.half = other;
+                self.generation = generation;
+                self.other_shut = false;
+                self.used = bytes - 1;
+                self.size = self.size.max(at + bytes);
+                self.closed = true;
+                self.list = listing_of(&frames);
+                Ok(())
+            }
+            Err(fault) => {
+                self.halted = true;
+                Err(fault)
+            }
+        }
+    }
+
     /// Makes room in memory for the next `sync`, the next `rewrite` of a list equal to this one, and the next append of a body
-    /// of this length with a block, made in this order with any of them left out: none of them then answers NoMemory. It makes
-    /// no call of `write_at` or `sync`.
+    /// of this length with a block, made in this order with any of them left out: none of them then answers NoMemory. Where the
+    /// store is old, `bring_over` takes the place of `rewrite`, with as many blocks as there are frames. It makes no call of
+    /// `write_at` or `sync`.
     ///
     /// # Errors
     /// [`FrameFault::Halted`], [`FrameFault::Disk`]; [`FrameFault::NoMemory`].
@@ -364,19 +478,31 @@ impl<D: Disk> FrameStore<D> {
         ensures answer { IsAnswer self.old.halted self.new.halted result }
         ensures no_call { result ≡ Err FrameFault.Halted → self.new ≡ self.old }
         ensures read { IsRead D.tells D.seen self.new }
-        ensures room { OnOk result (HasRoom D.has_room self.new 13 (size_of frames.now + 34 + (self.old.shape.block + body + 7))
-            (max (size_of frames.now + 1) (body + 6))) }
+        ensures room { OnOk result (HasRoomAhead D.has_room self.new frames.now body) }
     {
         if self.halted {
             return Err(FrameFault::Halted);
         }
         let sizes = Sizes {
+            blocks: self.blocks_ahead(frames.len()),
             list: size_of(frames) as usize,
             block: self.shape.block as usize,
             body,
         };
+        let calls = if self.shape.is_old() { 14 } else { 13 };
         let end = self.shape.end();
-        make_room(&mut self.disk, &mut self.line, sizes, end)
+        make_room(&mut self.disk, &mut self.line, sizes, calls, end)
+    }
+
+    // How many bytes the blocks have that are written with so many frames as an old store is brought over.
+    fn blocks_ahead(&self, frames: usize) -> usize
+        ensures { result ≡ blocks_ahead self.now.shape frames }
+    {
+        if self.shape.is_old() {
+            frames.min(self.shape.records as usize) * self.shape.block as usize
+        } else {
+            0
+        }
     }
 
     /// Syncs the disk: after it a crash leaves what a read gives.

@@ -10,8 +10,6 @@ use Rattle.toml.specs.Data.{Data, Members, as_integer, get_member}
 use Rattle.quorum.specs.Memberships.{stands_in, are_distinct, is_membership}
 use Rattle.layout.specs.Names.{key_text}
 use Rattle.layout.specs.declared.faults.Key.TheVariants as keys
-use Rattle.layout.specs.declared.faults.Reader.{Reader}
-use Rattle.layout.specs.declared.faults.Reader.TheVariants.{Program}
 use Rattle.layout.specs.declared.faults.LayoutFault.TheVariants.{Toml, Limit}
 use Rattle.layout.specs.declared.faults.FieldName.TheVariants.{OtherOfGroup}
 use Rattle.layout.specs.Limits.{IsGroup, IsLayout}
@@ -206,9 +204,9 @@ counted : (n tables : ℕ) → n ≡ tables → (1 ≤ tables) × (tables ≤ 64
 counted n tables same count = subst (λ (k : ℕ). (1 ≤ k) × (k ≤ 64)) (sym same) count
 
 -- an accepted layout is within the limits
-pub layout_is : (reader : Reader) (table : Members) (layout : Layout) → layout_in reader table ≡ Ok layout → IsLayout layout
-layout_is reader table layout is =
-    let (p, same) = parts_of reader table layout is in
+pub layout_is : (table : Members) (layout : Layout) → layout_in table ≡ Ok layout → IsLayout layout
+layout_is table layout is =
+    let (p, same) = parts_of table layout is in
     let bytes = within_range keys.Block 1 4096 (integer_at table keys.Block) p.block p.block_read in
     let disk = within_range keys.Bricks 1 64 (integer_at table keys.Bricks) p.bricks p.bricks_read in
     let room = within_range keys.Records 1 1048576 (integer_at table keys.Records) p.records p.records_read in
@@ -236,6 +234,6 @@ layout_is reader table layout is =
 pub accepted_is : (text : List ℕ) (layout : Layout) → layout_of text ≡ Ok layout → IsLayout layout
 accepted_is text layout is = by_document (document_of text) is
   where
-    by_document : (document : Option Members) → layout_or Program document ≡ Ok layout → IsLayout layout
+    by_document : (document : Option Members) → layout_or document ≡ Ok layout → IsLayout layout
     by_document None same = let never : Err Toml ≡ Ok layout = same in cc
-    by_document (Some table) same = layout_is Program table layout same
+    by_document (Some table) same = layout_is table layout same

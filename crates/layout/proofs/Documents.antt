@@ -7,7 +7,6 @@ use Rattle.quorum.specs.Memberships.{is_membership}
 use Rattle.toml.specs.Data.{Members, no_members, member, no_items, item, integer, array, table}
 use Rattle.toml.specs.Parse.{parse_document}
 use Rattle.toml.proofs.OnLiterals.{toml_on_literals}
-use Rattle.layout.specs.declared.faults.Reader.TheVariants.{Program}
 use Rattle.layout.specs.declared.texts.TheConstants.{THREE_COPIES}
 use Rattle.layout.specs.Texts.{document_of, layout_or, layout_of, three_copies}
 use Rattle.layout.specs.Checks.{layout_in}
@@ -41,12 +40,12 @@ three_copies-document : parse_document THREE_COPIES.now ≡ Some three_copies-ta
 unfolding toml_on_literals three_copies-table
 three_copies-document = refl
 
-three_copies-checks : layout_in Program three_copies-table ≡ Ok three_copies
+three_copies-checks : layout_in three_copies-table ≡ Ok three_copies
 unfolding three_copies-table is_membership
 three_copies-checks = refl
 
 -- what the text of three copies says
 pub three_copies-read : layout_of THREE_COPIES.now ≡ Ok three_copies
 three_copies-read =
-    ap (layout_or Program) (document_of-read THREE_COPIES.now three_copies-table (IsUtf8-from_is_utf8 THREE_COPIES.now three_copies-utf8) three_copies-document)
+    ap layout_or (document_of-read THREE_COPIES.now three_copies-table (IsUtf8-from_is_utf8 THREE_COPIES.now three_copies-utf8) three_copies-document)
     ∙ three_copies-checks

@@ -6,7 +6,6 @@ pub mod AcceptedVolumes
 pub mod Accepted
 pub mod Documents
 pub mod Soundness
-pub mod Readers
 pub mod Refusals
 pub mod TakenRuns
 pub mod PlaceLaws

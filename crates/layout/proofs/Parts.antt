@@ -4,13 +4,12 @@ use Rattle.fab_base.specs.declared.identities.BrickId.{BrickId}
 use Rattle.fab_base.specs.Layouts.{Group, Volume, Layout}
 use Rattle.toml.specs.Data.{Members}
 use Rattle.layout.specs.declared.faults.Key.TheVariants as keys
-use Rattle.layout.specs.declared.faults.Reader.{Reader}
 use Rattle.layout.specs.declared.faults.FieldName.TheVariants.{Other}
 use Rattle.layout.specs.Checks.{no_other, number_at, port_at, store_at, spares_at, tables_at, volume_tables_at, groups_in, volumes_in, top_keys, layout_with, layout_in}
 use Rattle.layout.proofs.Passing.{passed, made}
 
--- what each check gave to a reader
-pub record Parts (reader : Reader) (table : Members) : Type 0 where
+-- what each check gave
+pub record Parts (table : Members) : Type 0 where
   pub block : ℕ
   pub bricks : ℕ
   pub records : ℕ
@@ -26,33 +25,33 @@ pub record Parts (reader : Reader) (table : Members) : Type 0 where
   pub bricks_read : number_at table keys.Bricks 1 64 ≡ Ok bricks
   pub records_read : number_at table keys.Records 1 1048576 ≡ Ok records
   pub port_read : port_at table ≡ Ok port
-  pub store_read : store_at reader table ≡ Ok store
-  pub spares_read : spares_at reader bricks table ≡ Ok spares
+  pub store_read : store_at table ≡ Ok store
+  pub spares_read : spares_at bricks table ≡ Ok spares
   pub tables_read : tables_at table ≡ Ok tables
   pub volume_tables_read : volume_tables_at table ≡ Ok volume_tables
   pub groups_read : groups_in block bricks tables ≡ Ok groups
   pub volumes_read : volumes_in groups [] volume_tables ≡ Ok volumes
-  pub known_read : no_other Other (top_keys reader) table ≡ Ok known
+  pub known_read : no_other Other top_keys table ≡ Ok known
 
 -- the layout of what they gave
-abbrev pub said : (reader : Reader) (table : Members) → Parts reader table → Layout
-said reader table p = layout_with p.block p.bricks p.records p.port p.store p.spares p.groups p.volumes
+abbrev pub said : (table : Members) → Parts table → Layout
+said table p = layout_with p.block p.bricks p.records p.port p.store p.spares p.groups p.volumes
 
 -- where a table says a layout, each check passed, and the layout is what they gave
-pub parts_of : (reader : Reader) (table : Members) (layout : Layout) → layout_in reader table ≡ Ok layout
-    → (p : Parts reader table) × (said reader table p ≡ layout)
-parts_of reader table layout is =
+pub parts_of : (table : Members) (layout : Layout) → layout_in table ≡ Ok layout
+    → (p : Parts table) × (said table p ≡ layout)
+parts_of table layout is =
     let (block, block_read, after_block) = passed (number_at table keys.Block 1 4096) _ layout is in
     let (bricks, bricks_read, after_bricks) = passed (number_at table keys.Bricks 1 64) _ layout after_block in
     let (records, records_read, after_records) = passed (number_at table keys.Records 1 1048576) _ layout after_bricks in
     let (port, port_read, after_port) = passed (port_at table) _ layout after_records in
-    let (store, store_read, after_store) = passed (store_at reader table) _ layout after_port in
-    let (spares, spares_read, after_spares) = passed (spares_at reader bricks table) _ layout after_store in
+    let (store, store_read, after_store) = passed (store_at table) _ layout after_port in
+    let (spares, spares_read, after_spares) = passed (spares_at bricks table) _ layout after_store in
     let (tables, tables_read, after_tables) = passed (tables_at table) _ layout after_spares in
     let (volume_tables, volume_tables_read, after_volume_tables) = passed (volume_tables_at table) _ layout after_tables in
     let (groups, groups_read, after_groups) = passed (groups_in block bricks tables) _ layout after_volume_tables in
     let (volumes, volumes_read, after_volumes) = passed (volumes_in groups [] volume_tables) _ layout after_groups in
-    let (known, known_read, last) = passed (no_other Other (top_keys reader) table) _ layout after_volumes in
+    let (known, known_read, last) = passed (no_other Other top_keys table) _ layout after_volumes in
     let all : Layout = layout_with block bricks records port store spares groups volumes in (
       record {
         block = block;
@@ -82,7 +81,7 @@ parts_of reader table layout is =
     )
 
 -- where each check passes, the table says the layout of what they gave
-pub says_parts : (reader : Reader) (table : Members) (p : Parts reader table) → layout_in reader table ≡ Ok (said reader table p)
-says_parts reader table p =
+pub says_parts : (table : Members) (p : Parts table) → layout_in table ≡ Ok (said table p)
+says_parts table p =
     rw p.block_read (rw p.bricks_read (rw p.records_read (rw p.port_read (rw p.store_read (rw p.spares_read (rw p.tables_read
     (rw p.volume_tables_read (rw p.groups_read (rw p.volumes_read (rw p.known_read refl))))))))))

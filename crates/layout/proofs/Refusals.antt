@@ -4,8 +4,6 @@ use Rattle.std.specs.Option.{ok_or}
 use Rattle.toml.specs.Data.{Data, Members, as_integer, as_array, get_member}
 use Rattle.layout.specs.declared.faults.Key.{Key}
 use Rattle.layout.specs.declared.faults.Key.TheVariants as keys
-use Rattle.layout.specs.declared.faults.Reader.{Reader}
-use Rattle.layout.specs.declared.faults.Reader.TheVariants.{Program, Auditor}
 use Rattle.layout.specs.declared.faults.FieldName.{FieldName}
 use Rattle.layout.specs.declared.faults.FieldName.TheVariants.{Other, OtherOfGroup, OtherOfVolume}
 use Rattle.layout.specs.declared.faults.LayoutFault.{LayoutFault}
@@ -117,17 +115,15 @@ volume_tables_checks (Some value) =
     (or_checks (option_and_then tables_in (as_array value)) (no_field keys.Volume) tt)
     (λ (tables : List Members). or_checks (up_to_64 tables) (Limit keys.Volume) tt)
 
-store_checks : (reader : Reader) (table : Members) → ChecksTable (store_at reader table)
-store_checks Program table = tt
-store_checks Auditor table = by_value (get_member (key_text keys.Store) table)
+store_checks : (table : Members) → ChecksTable (store_at table)
+store_checks table = by_value (get_member (key_text keys.Store) table)
   where
     by_value : (o : Option Data) → ChecksTable (store_in o)
     by_value None = tt
     by_value (Some value) = within_checks keys.Store 1 2 (as_integer value)
 
-spares_checks : (reader : Reader) (bricks : ℕ) (table : Members) → ChecksTable (spares_at reader bricks table)
-spares_checks Program bricks table = tt
-spares_checks Auditor bricks table = by_value (get_member (key_text keys.Spares) table)
+spares_checks : (bricks : ℕ) (table : Members) → ChecksTable (spares_at bricks table)
+spares_checks bricks table = by_value (get_member (key_text keys.Spares) table)
   where
     by_value : (o : Option Data) → ChecksTable (spares_in bricks o)
     by_value None = tt
@@ -137,45 +133,45 @@ spares_checks Auditor bricks table = by_value (get_member (key_text keys.Spares)
         (λ (numbers : List ℤ). or_checks (option_and_then up_to_64_bricks (bricks_in bricks numbers)) (Limit keys.Spares) tt)
 
 -- the checks of a whole table
-pub layout_checks : (reader : Reader) (table : Members) → ChecksTable (layout_in reader table)
-layout_checks reader table =
+pub layout_checks : (table : Members) → ChecksTable (layout_in table)
+layout_checks table =
     then_checks (number_at table keys.Block 1 4096) _ (within_checks keys.Block 1 4096 (integer_at table keys.Block)) (λ (block : ℕ).
     then_checks (number_at table keys.Bricks 1 64) _ (within_checks keys.Bricks 1 64 (integer_at table keys.Bricks)) (λ (bricks : ℕ).
     then_checks (number_at table keys.Records 1 1048576) _ (within_checks keys.Records 1 1048576 (integer_at table keys.Records)) (λ (records : ℕ).
     then_checks (port_at table) _ (port_checks (get_member (key_text keys.Port) table)) (λ (port : ℕ).
-    then_checks (store_at reader table) _ (store_checks reader table) (λ (store : ℕ).
-    then_checks (spares_at reader bricks table) _ (spares_checks reader bricks table) (λ (spares : List BrickId).
+    then_checks (store_at table) _ (store_checks table) (λ (store : ℕ).
+    then_checks (spares_at bricks table) _ (spares_checks bricks table) (λ (spares : List BrickId).
     then_checks (tables_at table) _ (tables_checks table) (λ tables.
     then_checks (volume_tables_at table) _ (volume_tables_checks (get_member (key_text keys.Volume) table)) (λ volume_tables.
     then_checks (groups_in block bricks tables) _ (groups_checks block bricks tables) (λ groups.
     then_checks (volumes_in groups [] volume_tables) _ (volumes_checks groups [] volume_tables) (λ volumes.
-    then_checks (no_other Other (top_keys reader) table) _ (key_checks Other (least_other (top_keys reader) (keys_of table))) (λ known. tt)))))))))))
+    then_checks (no_other Other top_keys table) _ (key_checks Other (least_other top_keys (keys_of table))) (λ known. tt)))))))))))
 
 -- a fault of the checks is one of a field or a limit
-pub fault_of_table : (reader : Reader) (table : Members) (fault : LayoutFault) → layout_in reader table ≡ Err fault → IsOfTable fault
-fault_of_table reader table fault is = subst (λ (r : Result Layout LayoutFault). ChecksTable r) is (layout_checks reader table)
+pub fault_of_table : (table : Members) (fault : LayoutFault) → layout_in table ≡ Err fault → IsOfTable fault
+fault_of_table table fault is = subst (λ (r : Result Layout LayoutFault). ChecksTable r) is (layout_checks table)
 
 -- no document is what `Toml` says
 pub toml-none : (text : List ℕ) → layout_of text ≡ Err Toml → document_of text ≡ None
 toml-none text is = by_document (document_of text) is
   where
-    by_document : (document : Option Members) → layout_or Program document ≡ Err Toml → document ≡ None
+    by_document : (document : Option Members) → layout_or document ≡ Err Toml → document ≡ None
     by_document None same = refl
-    by_document (Some table) same = absurd (fault_of_table Program table Toml same)
+    by_document (Some table) same = absurd (fault_of_table table Toml same)
 
 -- no text says that memory ran out
 pub never_memory : (text : List ℕ) → layout_of text ≢ Err NoMemory
 never_memory text = by_document (document_of text)
   where
-    by_document : (document : Option Members) → layout_or Program document ≡ Err NoMemory → ⊥
+    by_document : (document : Option Members) → layout_or document ≡ Err NoMemory → ⊥
     by_document None same = let never : Err Toml ≡ Err NoMemory = same in cc
-    by_document (Some table) same = fault_of_table Program table NoMemory same
+    by_document (Some table) same = fault_of_table table NoMemory same
 
 -- the reading of a table does not say that the text is no document
-pub never_toml : (reader : Reader) (table : Members) (r : Result Layout LayoutFault)
-    → IfErr r (λ (fault : LayoutFault). fault ≢ NoMemory → layout_in reader table ≡ Err fault)
+pub never_toml : (table : Members) (r : Result Layout LayoutFault)
+    → IfErr r (λ (fault : LayoutFault). fault ≢ NoMemory → layout_in table ≡ Err fault)
     → r ≡ Err Toml → ⊥
-never_toml reader table r refused is =
+never_toml table r refused is =
     let read = subst (λ (x : Result Layout LayoutFault). IfErr x (λ (fault : LayoutFault). fault ≢ NoMemory
-    → layout_in reader table ≡ Err fault)) is refused in
-    fault_of_table reader table Toml (read (λ (same : Toml ≡ NoMemory). cc))
+    → layout_in table ≡ Err fault)) is refused in
+    fault_of_table table Toml (read (λ (same : Toml ≡ NoMemory). cc))

@@ -13,8 +13,6 @@ use Rattle.quorum.specs.Memberships.{are_distinct, is_membership}
 use Rattle.toml.specs.Data.{Data, Items, no_items, item, Members, no_members, member, get_member, as_str, as_integer, as_array, as_table}
 use Rattle.layout.specs.declared.faults.Key.{Key}
 use Rattle.layout.specs.declared.faults.Key.TheVariants as keys
-use Rattle.layout.specs.declared.faults.Reader.{Reader}
-use Rattle.layout.specs.declared.faults.Reader.TheVariants.{Program, Auditor}
 use Rattle.layout.specs.declared.faults.FieldName.{FieldName}
 use Rattle.layout.specs.declared.faults.FieldName.TheVariants.{Known, Other, OtherOfGroup, OtherOfVolume}
 use Rattle.layout.specs.declared.faults.LayoutFault.{LayoutFault}
@@ -129,10 +127,8 @@ abbrev pub store_in : Option Data → Result ℕ LayoutFault
 store_in None = Ok 2
 store_in (Some value) = within keys.Store 1 2 (as_integer value)
 
--- the same, as a reader knows it: a program has stores of form 2 alone
-abbrev pub store_at : Reader → Members → Result ℕ LayoutFault
-store_at Program table = Ok 2
-store_at Auditor table = store_in (get_member (key_text keys.Store) table)
+abbrev pub store_at : Members → Result ℕ LayoutFault
+store_at table = store_in (get_member (key_text keys.Store) table)
 
 -- the bricks, if there are at most 64 and none stands twice
 abbrev pub up_to_64_bricks : List BrickId → Option (List BrickId)
@@ -145,10 +141,8 @@ spares_in bricks (Some value) = do
   numbers ← ok_or (option_and_then integers_in (as_array value)) (no_field keys.Spares)
   ok_or (option_and_then up_to_64_bricks (bricks_in bricks numbers)) (Limit keys.Spares)
 
--- the same, as a reader knows it: a program has none
-abbrev pub spares_at : Reader → ℕ → Members → Result (List BrickId) LayoutFault
-spares_at Program bricks table = Ok []
-spares_at Auditor bricks table = spares_in bricks (get_member (key_text keys.Spares) table)
+abbrev pub spares_at : ℕ → Members → Result (List BrickId) LayoutFault
+spares_at bricks table = spares_in bricks (get_member (key_text keys.Spares) table)
 
 -- ---- groups
 
@@ -312,10 +306,9 @@ volume_tables_at table = volume_tables_in (get_member (key_text keys.Volume) tab
 
 -- ---- the whole table
 
--- the keys at the top, as a reader knows them
-abbrev pub top_keys : Reader → List Key
-top_keys Program = keys.Block ∷ (keys.Bricks ∷ (keys.Records ∷ (keys.Port ∷ (keys.Group ∷ (keys.Volume ∷ [])))))
-top_keys Auditor =
+-- the keys at the top
+abbrev pub top_keys : List Key
+top_keys =
     keys.Block ∷ (keys.Bricks ∷ (keys.Records ∷ (keys.Port ∷ (keys.Store ∷ (keys.Spares ∷ (keys.Group ∷ (keys.Volume ∷ [])))))))
 
 -- the layout with these values at its keys
@@ -332,18 +325,18 @@ layout_with block bricks records port store spares groups volumes =
       volumes = volumes;
     }
 
--- the layout that the table of a text says to a reader
-abbrev pub layout_in : Reader → Members → Result Layout LayoutFault
-layout_in reader table = do
+-- the layout that the table of a text says
+abbrev pub layout_in : Members → Result Layout LayoutFault
+layout_in table = do
   block ← number_at table keys.Block 1 4096
   bricks ← number_at table keys.Bricks 1 64
   records ← number_at table keys.Records 1 1048576
   port ← port_at table
-  store ← store_at reader table
-  spares ← spares_at reader bricks table
+  store ← store_at table
+  spares ← spares_at bricks table
   tables ← tables_at table
   volume_tables ← volume_tables_at table
   groups ← groups_in block bricks tables
   volumes ← volumes_in groups [] volume_tables
-  known ← no_other Other (top_keys reader) table
+  known ← no_other Other top_keys table
   Ok (layout_with block bricks records port store spares groups volumes)

@@ -6,8 +6,6 @@ use Rattle.toml.specs.Data.{Members}
 use Rattle.toml.specs.Parse.{parse_document}
 use Rattle.layout.specs.declared.faults.LayoutFault.{LayoutFault}
 use Rattle.layout.specs.declared.faults.LayoutFault.TheVariants.{Toml}
-use Rattle.layout.specs.declared.faults.Reader.{Reader}
-use Rattle.layout.specs.declared.faults.Reader.TheVariants.{Program, Auditor}
 use Rattle.layout.specs.Checks.{layout_with, layout_in}
 
 -- the table that a text is as a TOML document, if it is one
@@ -15,17 +13,13 @@ abbrev pub document_of : List ℕ → Option Members
 document_of text = if is_utf8 text then parse_document text else None
 
 -- a document, and then its checks
-abbrev pub layout_or : Reader → Option Members → Result Layout LayoutFault
-layout_or reader None = Err Toml
-layout_or reader (Some table) = layout_in reader table
+abbrev pub layout_or : Option Members → Result Layout LayoutFault
+layout_or None = Err Toml
+layout_or (Some table) = layout_in table
 
--- the layout that a text says to a program that runs it, or the fault of the first check that it fails
+-- the layout that a text says, or the fault of the first check that it fails
 abbrev pub layout_of : List ℕ → Result Layout LayoutFault
-layout_of text = layout_or Program (document_of text)
-
--- the same to one that only looks at what others ran: the text may say the form of their stores, and their spares
-abbrev pub audited_layout_of : List ℕ → Result Layout LayoutFault
-audited_layout_of text = layout_or Auditor (document_of text)
+layout_of text = layout_or (document_of text)
 
 -- one group of four stripes of one data block, whose members are the bricks 0, 1 and 2
 abbrev pub three_members : Group

@@ -97,15 +97,6 @@ impl fmt::Display for Key {
     }
 }
 
-/// Whose reading of a layout it is: the keys `store` and `spares` are known to an auditor alone.
-#[derive(Clone, Copy, Debug, PartialEq, Eq)]
-pub enum Reader {
-    /// A program that runs the disk. Its stores are of form 2, and it has no spares.
-    Program,
-    /// One that only looks at what others ran.
-    Auditor,
-}
-
 /// A key of a text, seen as the list of its bytes.
 #[derive(Debug, Drop)]
 pub struct KeyText {

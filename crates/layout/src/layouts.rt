@@ -168,7 +168,7 @@ impl Layout {
         self.store
     }
 
-    /// The bricks that may take a member's place, in the order in which they do.
+    /// The bricks that may take a member's place, in the order of the text.
     pub fn spares(&self) -> &[BrickId]
         ensures { result.now ≡ self.now.spares }
     {

@@ -12,7 +12,7 @@ pub mod texts;
 mod volume_tables;
 pub mod volumes;
 
-pub use faults::{FieldName, Key, KeyText, LayoutFault, Reader};
+pub use faults::{FieldName, Key, KeyText, LayoutFault};
 pub use groups::Group;
 pub use layouts::Layout;
 pub use places::Place;

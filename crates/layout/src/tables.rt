@@ -6,7 +6,7 @@ ghost use Rattle.toml.specs.View.{view, array_view, table_view};
 ghost use Rattle.layout.specs.Names.{key_text};
 ghost use Rattle.layout.specs.Checks.{integer_at, array_at, brick_in, natural, within, number_at, port_at, least_other, keys_of, no_other, top_keys, group_keys, integers_in, bricks_in, members_at, store_at, spares_in, spares_at, blocks_at, group_in, tables_in, tables_at, groups_in, is_known};
 
-use crate::faults::{FieldName, Key, KeyText, LayoutFault, Reader};
+use crate::faults::{FieldName, Key, KeyText, LayoutFault};
 use crate::groups::Group;
 use fab_base::{BrickId, Members, NoMem};
 use quorum::{are_distinct, is_membership};
@@ -14,17 +14,8 @@ use std::alloc::Global;
 use toml::value::Array;
 use toml::{Table, Value};
 
-// The keys at the top of a layout text, as a program knows them and as an auditor does, and those of a group.
-const PROGRAM_KEYS: [Key; 6] = [
-    Key::Block,
-    Key::Bricks,
-    Key::Records,
-    Key::Port,
-    Key::Group,
-    Key::Volume,
-];
-
-const AUDITOR_KEYS: [Key; 8] = [
+// The keys at the top of a layout text, and those of a group.
+const TOP_KEYS: [Key; 8] = [
     Key::Block,
     Key::Bricks,
     Key::Records,
@@ -179,31 +170,26 @@ fn members_at(alloc: Global, table: &Table, m: u8, bricks: u16) -> Result<Member
     Members::new(members).ok_or(limit(Key::GroupMembers))
 }
 
-// The form of the stores, as a reader knows it; 2 where the key is missing.
-pub fn store_at(table: &Table, reader: Reader) -> Result<u32, LayoutFault>
-    ensures value { result ≡ store_at reader (table_view table.now) }
+// The form of the stores; 2 where the key is missing.
+pub fn store_at(table: &Table) -> Result<u32, LayoutFault>
+    ensures value { result ≡ store_at (table_view table.now) }
     ensures range { IfOk result (λ store. (1 ≤ store) × (store ≤ 2)) }
 {
-    match (reader, value_at(table, Key::Store)) {
-        (Reader::Auditor, Some(value)) => within(Key::Store, 1, 2, value.as_integer()),
-        _ => Ok(2),
+    match value_at(table, Key::Store) {
+        None => Ok(2),
+        Some(value) => within(Key::Store, 1, 2, value.as_integer()),
     }
 }
 
-// The spares, as a reader knows them: a list of whole numbers, and then 0 to 64 distinct bricks of the disk; none where the key is missing.
-pub fn spares_at(
-    alloc: Global,
-    table: &Table,
-    reader: Reader,
-    bricks: u16,
-) -> Result<Vec<BrickId>, LayoutFault>
-    ensures ok { IfOk result (λ spares. spares_at reader bricks (table_view table.now) ≡ Ok spares.items) }
+// The spares: a list of whole numbers, and then 0 to 64 distinct bricks of the disk; none where the key is missing.
+pub fn spares_at(alloc: Global, table: &Table, bricks: u16) -> Result<Vec<BrickId>, LayoutFault>
+    ensures ok { IfOk result (λ spares. spares_at bricks (table_view table.now) ≡ Ok spares.items) }
     ensures err { IfErr result (λ fault. fault ≢ LayoutFault.NoMemory
-        → spares_at reader bricks (table_view table.now) ≡ Err fault) }
+        → spares_at bricks (table_view table.now) ≡ Err fault) }
 {
-    match (reader, value_at(table, Key::Spares)) {
-        (Reader::Auditor, Some(value)) => spares_in(alloc, bricks, value),
-        _ => Ok(Vec::new(alloc)),
+    match value_at(table, Key::Spares) {
+        None => Ok(Vec::new(alloc)),
+        Some(value) => spares_in(alloc, bricks, value),
     }
 }
 
@@ -261,17 +247,13 @@ pub fn other_key<'a>(table: &'a Table, known: &[Key]) -> Option<&'a str>
     None
 }
 
-// Refuses another key at the top than those that the reader knows.
-pub fn refuse_other(alloc: Global, table: &Table, reader: Reader) -> Result<(), LayoutFault>
-    ensures ok { IfOk result (λ known. no_other FieldName.Other (top_keys reader) (table_view table.now) ≡ Ok known) }
+// Refuses another key at the top than those of the format.
+pub fn refuse_other(alloc: Global, table: &Table) -> Result<(), LayoutFault>
+    ensures ok { IfOk result (λ known. no_other FieldName.Other top_keys (table_view table.now) ≡ Ok known) }
     ensures err { IfErr result (λ fault. fault ≢ LayoutFault.NoMemory
-        → no_other FieldName.Other (top_keys reader) (table_view table.now) ≡ Err fault) }
+        → no_other FieldName.Other top_keys (table_view table.now) ≡ Err fault) }
 {
-    let other = match reader {
-        Reader::Program => other_key(table, &PROGRAM_KEYS),
-        Reader::Auditor => other_key(table, &AUDITOR_KEYS),
-    };
-    match other {
+    match other_key(table, &TOP_KEYS) {
         None => Ok(()),
         Some(text) => Err(LayoutFault::Field {
             name: FieldName::Other(KeyText::from_str(alloc, text)?),

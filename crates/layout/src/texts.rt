@@ -2,10 +2,10 @@
 
 ghost use Rattle.std.specs.Prelude.{◌≡◌, ◌≢◌, Some, None, Ok, Err, IfOk, IfErr, IsErrOf};
 ghost use Rattle.toml.specs.View.{table_view};
-ghost use Rattle.layout.specs.Texts.{document_of, layout_of, audited_layout_of, three_copies};
+ghost use Rattle.layout.specs.Texts.{document_of, layout_of, three_copies};
 
 use crate::document_checks::layout_in;
-use crate::faults::{LayoutFault, Reader};
+use crate::faults::LayoutFault;
 use crate::layouts::Layout;
 use std::alloc::Global;
 use toml::Table;
@@ -45,7 +45,7 @@ fn document_of(alloc: Global, text: &[u8]) -> Result<Table, LayoutFault>
 impl Layout {
     ghost use Rattle.layout.specs.Limits.{IsLayout};
 
-    /// The layout that a text says to a program that runs it. The checks are those of the format in their order.
+    /// The layout that a text says. The checks are those of the format in their order.
     ///
     /// # Errors
     ///
@@ -54,29 +54,11 @@ impl Layout {
     /// memory was left.
     pub fn read(alloc: Global, text: &[u8]) -> Result<Layout, LayoutFault>
         ensures read { IfOk result (λ layout. layout_of text.now ≡ Ok layout) }
-        // An auditor reads it as a program does.
-        ensures audited { IfOk result (λ layout. audited_layout_of text.now ≡ Ok layout) }
         ensures refused { IfErr result (λ fault. fault ≢ LayoutFault.NoMemory → layout_of text.now ≡ Err fault) }
         ensures toml { IsErrOf result LayoutFault.Toml → document_of text.now ≡ None }
         ensures limits { IfOk result IsLayout }
     {
         let table = document_of(alloc, text)?;
-        layout_in(alloc, &table, Reader::Program)
-    }
-
-    /// The layout that a text says to one that only looks at what others ran. It may have the keys `store` and `spares`, which a
-    /// program refuses: 1 or 2, and 0 to 64 distinct bricks of the disk.
-    ///
-    /// # Errors
-    ///
-    /// As [`Layout::read`].
-    pub fn read_audited(alloc: Global, text: &[u8]) -> Result<Layout, LayoutFault>
-        ensures read { IfOk result (λ layout. audited_layout_of text.now ≡ Ok layout) }
-        ensures refused { IfErr result (λ fault. fault ≢ LayoutFault.NoMemory → audited_layout_of text.now ≡ Err fault) }
-        ensures toml { IsErrOf result LayoutFault.Toml → document_of text.now ≡ None }
-        ensures limits { IfOk result IsLayout }
-    {
-        let table = document_of(alloc, text)?;
-        layout_in(alloc, &table, Reader::Auditor)
+        layout_in(alloc, &table)
     }
 }

@@ -1,6 +1,6 @@
 -- What stands behind a line's first word, where there are so many words of it.
 use Rattle.std.proofs.Common.{◌≡◌, ◌≢◌, ◌-◌, ◌<◌, ◌≤◌, ℕ, List, [], ◌∷◌, length, map, take, drop, take_all, get_or, Bor, Some, None, refl, arith}
-use Rattle.lines.specs.Grammar.{write_block, read_block, write_all, read_all, fault, deliver, start, clock, one_brick, calm, propose, sync}
+use Rattle.lines.specs.Grammar.{write_block, read_block, write_all, read_all, fault, deliver, start, clock, one_brick, calm, propose, sync, scrub, two_bricks, spare}
 
 -- the words that stand in a slice
 abbrev pub words : List (Bor (List ℕ)) → List (List ℕ)
@@ -71,6 +71,13 @@ propose_none [] none = refl
 propose_none (b ∷ []) none = refl
 propose_none (b ∷ g ∷ behind) none = absurd (omega arith)
 
+pub scrub_none : (found : List (Bor (List ℕ))) → length found < 3 → None ≡ scrub (words found)
+unfolding scrub
+scrub_none [] none = refl
+scrub_none (b ∷ []) none = refl
+scrub_none (b ∷ g ∷ []) none = refl
+scrub_none (b ∷ g ∷ s ∷ behind) none = absurd (omega arith)
+
 -- the first word, and those behind it
 pub first_and_rest : (found : List (Bor (List ℕ))) → 1 ≤ length found
     → words found ≡ word_at found 0 ∷ words (take (length found - 1) (drop 1 found))
@@ -86,6 +93,16 @@ two_and_rest [] some = absurd (omega arith)
 two_and_rest (word ∷ []) some = absurd (omega arith)
 two_and_rest (word ∷ second ∷ rest) some =
     let behind : take (length (word ∷ second ∷ rest) - 2) rest ≡ rest = take_all _ _ (omega arith) in
+    rw behind refl
+
+-- the first three words, and those behind them
+pub three_and_rest : (found : List (Bor (List ℕ))) → 3 ≤ length found
+    → words found ≡ word_at found 0 ∷ word_at found 1 ∷ word_at found 2 ∷ words (take (length found - 3) (drop 3 found))
+three_and_rest [] some = absurd (omega arith)
+three_and_rest (word ∷ []) some = absurd (omega arith)
+three_and_rest (word ∷ second ∷ []) some = absurd (omega arith)
+three_and_rest (word ∷ second ∷ third ∷ rest) some =
+    let behind : take (length (word ∷ second ∷ third ∷ rest) - 3) rest ≡ rest = take_all _ _ (omega arith) in
     rw behind refl
 
 -- no word befalls nothing, and any count but 0, 2 and 4 is none
@@ -122,6 +139,20 @@ sync_count [] other = refl
 sync_count (b ∷ []) other = refl
 sync_count (b ∷ g ∷ []) other = absurd (other refl)
 sync_count (b ∷ g ∷ s ∷ more) other = refl
+
+pub two_bricks_count : (found : List (Bor (List ℕ))) → length found ≢ 2 → None ≡ two_bricks (words found)
+unfolding two_bricks
+two_bricks_count [] other = refl
+two_bricks_count (b ∷ []) other = refl
+two_bricks_count (b ∷ c ∷ []) other = absurd (other refl)
+two_bricks_count (b ∷ c ∷ a ∷ more) other = refl
+
+pub spare_count : (found : List (Bor (List ℕ))) → length found ≢ 2 → None ≡ spare (words found)
+unfolding spare
+spare_count [] other = refl
+spare_count (b ∷ []) other = refl
+spare_count (b ∷ g ∷ []) other = absurd (other refl)
+spare_count (b ∷ g ∷ s ∷ more) other = refl
 
 pub read_all_count : (found : List (Bor (List ℕ))) → length found ≢ 3 → None ≡ read_all (words found)
 unfolding read_all

@@ -5,7 +5,7 @@ use Rattle.std.specs.Option.{option_map}
 use Rattle.std.specs.Str.{bytes_eq}
 use Rattle.lines.specs.Tokens.{tokens, number, bytes_of_hex}
 use Rattle.lines.specs.declared.forms.Line.{Line}
-use Rattle.lines.specs.declared.forms.Line.TheVariants.{Nothing, Invoke, Deliver, SetClock, Tick, Crash, Start, Propose, Sync, Calm}
+use Rattle.lines.specs.declared.forms.Line.TheVariants.{Nothing, Invoke, Deliver, SetClock, Tick, Crash, Start, Propose, Sync, Scrub, Suspect, Trust, Spare, Calm}
 use Rattle.lines.specs.declared.forms.Access.{Access}
 use Rattle.lines.specs.declared.forms.Access.TheVariants.{WriteBlock, ReadBlock, WriteStripe, ReadStripe}
 use Rattle.lines.specs.declared.forms.Fault.{Fault}
@@ -149,6 +149,32 @@ sync (b ∷ g ∷ []) = do
   Some (Sync brick group)
 sync _ = None
 
+-- `scrub B G S M ..`, behind its first word: 1 to 64 members
+unfoldable pub scrub : List (List ℕ) → Option Line
+scrub (b ∷ g ∷ s ∷ tokens) = do
+  brick ← number b
+  group ← number g
+  stripe ← number s
+  members ← brick_list tokens
+  Some (Scrub brick group stripe members)
+scrub _ = None
+
+-- the two bricks of `suspect B C` and `trust B C`, behind the first word
+unfoldable pub two_bricks : List (List ℕ) → Option (ℕ × ℕ)
+two_bricks (b ∷ c ∷ []) = do
+  by ← number b
+  brick ← number c
+  Some (by, brick)
+two_bricks _ = None
+
+-- `spare B G`, behind its first word
+unfoldable pub spare : List (List ℕ) → Option Line
+spare (b ∷ g ∷ []) = do
+  brick ← number b
+  group ← number g
+  Some (Spare brick group)
+spare _ = None
+
 -- what a line says whose first word and the words behind it are these; nothing else is a line
 unfoldable pub form : List ℕ → List (List ℕ) → Option Line
 form word arguments =
@@ -163,6 +189,10 @@ form word arguments =
     else if bytes_eq word (codes "start") then start arguments
     else if bytes_eq word (codes "view") then propose arguments
     else if bytes_eq word (codes "sync") then sync arguments
+    else if bytes_eq word (codes "scrub") then scrub arguments
+    else if bytes_eq word (codes "suspect") then option_map (λ bricks. Suspect bricks.0 bricks.1) (two_bricks arguments)
+    else if bytes_eq word (codes "trust") then option_map (λ bricks. Trust bricks.0 bricks.1) (two_bricks arguments)
+    else if bytes_eq word (codes "spare") then spare arguments
     else if bytes_eq word (codes "calm") then calm arguments
     else None
 

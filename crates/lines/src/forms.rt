@@ -1,6 +1,6 @@
 // The forms of a line.
 ghost use Rattle.std.specs.Prelude.{◌≡◌, map, IfOk};
-ghost use Rattle.lines.specs.Grammar.{line_of, line_of_tokens, form, write_all, read_all, write_block, read_block, invoke, call_number, fail, cut, fault, deliver, start, clock, one_brick, numbers, brick_list, calm, propose, sync};
+ghost use Rattle.lines.specs.Grammar.{line_of, line_of_tokens, form, write_all, read_all, write_block, read_block, invoke, call_number, fail, cut, fault, deliver, start, clock, one_brick, numbers, brick_list, calm, propose, sync, scrub, two_bricks, spare};
 
 use crate::brick_lists::BrickList;
 use crate::tokens::{parse_hex, parse_number, split};
@@ -108,6 +108,38 @@ pub enum Line {
         /// The group.
         group: u64,
     },
+    /// A brick is to scrub a stripe, so that some members keep one version: `scrub B G S M ..`, with 1 to 64 members.
+    Scrub {
+        /// The brick that is asked.
+        brick: u64,
+        /// The group.
+        group: u64,
+        /// The stripe within the group.
+        stripe: u64,
+        /// The members.
+        members: BrickList,
+    },
+    /// A brick suspects another from now on: `suspect B C`.
+    Suspect {
+        /// The brick that suspects.
+        by: u64,
+        /// The one that it suspects.
+        brick: u64,
+    },
+    /// A brick no longer suspects another: `trust B C`.
+    Trust {
+        /// The brick that suspected.
+        by: u64,
+        /// The one that it trusts.
+        brick: u64,
+    },
+    /// A brick is to propose its members of a group, with spares in place of those that it suspects: `spare B G`.
+    Spare {
+        /// The brick that is asked.
+        brick: u64,
+        /// The group.
+        group: u64,
+    },
     /// An operation is to run alone among some bricks, until it ends: `calm N B ..`, with 1 to 64 bricks.
     Calm {
         /// The number of the operation, in the order of beginning.
@@ -173,6 +205,20 @@ fn parse_form(alloc: Global, word: &[u8], arguments: &[&[u8]]) -> Result<Option<
         parse_propose(alloc, arguments)
     } else if word == b"sync".as_slice() {
         Ok(parse_sync(arguments))
+    } else if word == b"scrub".as_slice() {
+        parse_scrub(alloc, arguments)
+    } else if word == b"suspect".as_slice() {
+        Ok(parse_two_bricks(arguments).map(|bricks| Line::Suspect {
+            by: bricks.0,
+            brick: bricks.1,
+        }))
+    } else if word == b"trust".as_slice() {
+        Ok(parse_two_bricks(arguments).map(|bricks| Line::Trust {
+            by: bricks.0,
+            brick: bricks.1,
+        }))
+    } else if word == b"spare".as_slice() {
+        Ok(parse_spare(arguments))
     } else if word == b"calm".as_slice() {
         parse_calm(alloc, arguments)
     } else {
@@ -412,6 +458,56 @@ fn parse_sync(arguments: &[&[u8]]) -> Option<Line>
         return None;
     }
     Some(Line::Sync {
+        brick: parse_number(arguments[0])?,
+        group: parse_number(arguments[1])?,
+    })
+}
+
+/// `scrub B G S M ..`, behind its first word: 1 to 64 members.
+fn parse_scrub(alloc: Global, arguments: &[&[u8]]) -> Result<Option<Line>, NoMem>
+    ensures { IfOk result (λ line. line ≡ scrub (map (λ token. token.now) arguments.now)) }
+{
+    let [brick, group, stripe, behind @ ..] = arguments else {
+        return Ok(None);
+    };
+    let Some(brick) = parse_number(brick) else {
+        return Ok(None);
+    };
+    let Some(group) = parse_number(group) else {
+        return Ok(None);
+    };
+    let Some(stripe) = parse_number(stripe) else {
+        return Ok(None);
+    };
+    let Some(members) = parse_bricks(alloc, behind)? else {
+        return Ok(None);
+    };
+    Ok(Some(Line::Scrub {
+        brick,
+        group,
+        stripe,
+        members,
+    }))
+}
+
+/// The two bricks of `suspect B C` and `trust B C`, behind the first word.
+fn parse_two_bricks(arguments: &[&[u8]]) -> Option<(u64, u64)>
+    ensures { result ≡ two_bricks (map (λ token. token.now) arguments.now) }
+{
+    if arguments.len() != 2 {
+        return None;
+    }
+    Some((parse_number(arguments[0])?, parse_number(arguments[1])?))
+}
+
+/// `spare B G`, behind its first word.
+fn parse_spare(arguments: &[&[u8]]) -> Option<Line>
+    ensures { result ≡ spare (map (λ token. token.now) arguments.now) }
+{
+    if arguments.len() != 2 {
+        return None;
+    }
+    Some(Line::Spare {
         brick: parse_number(arguments[0])?,
         group: parse_number(arguments[1])?,
     })

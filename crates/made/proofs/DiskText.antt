@@ -7,7 +7,6 @@ use Rattle.quorum.specs.Memberships.{is_membership}
 use Rattle.toml.specs.Data.{Members, no_members, member, no_items, item, integer, array, table}
 use Rattle.toml.specs.Parse.{parse_document}
 use Rattle.toml.proofs.OnLiterals.{toml_on_literals}
-use Rattle.layout.specs.declared.faults.Reader.TheVariants.{Program}
 use Rattle.layout.specs.Texts.{layout_or, layout_of}
 use Rattle.layout.specs.Checks.{layout_in}
 use Rattle.layout.proofs.Documents.{document_of-read}
@@ -32,10 +31,10 @@ disk-document : parse_document DISK.now ≡ Some disk-table
 unfolding toml_on_literals disk-table
 disk-document = refl
 
-disk-checks : layout_in Program disk-table ≡ Ok made_layout
+disk-checks : layout_in disk-table ≡ Ok made_layout
 unfolding disk-table is_membership
 disk-checks = refl
 
 -- what it says
 pub disk-read : layout_of DISK.now ≡ Ok made_layout
-disk-read = ap (layout_or Program) (document_of-read DISK.now disk-table (IsUtf8-from_is_utf8 DISK.now disk-utf8) disk-document) ∙ disk-checks
+disk-read = ap layout_or (document_of-read DISK.now disk-table (IsUtf8-from_is_utf8 DISK.now disk-utf8) disk-document) ∙ disk-checks

@@ -3,7 +3,7 @@ use Rattle.std.specs.Prelude.{ℕ, List, [], ◌∷◌, ◌++◌, map, codes, Op
 use Rattle.std.specs.Fmt.{decimal}
 use Rattle.hex.specs.Hex.{encode_lower}
 use Rattle.lines.specs.declared.forms.Line.{Line}
-use Rattle.lines.specs.declared.forms.Line.TheVariants.{Nothing, Invoke, Deliver, SetClock, Tick, Crash, Start, Propose, Sync, Calm}
+use Rattle.lines.specs.declared.forms.Line.TheVariants.{Nothing, Invoke, Deliver, SetClock, Tick, Crash, Start, Propose, Sync, Scrub, Suspect, Trust, Spare, Calm}
 use Rattle.lines.specs.declared.forms.Access.{Access}
 use Rattle.lines.specs.declared.forms.Access.TheVariants.{WriteBlock, ReadBlock, WriteStripe, ReadStripe}
 use Rattle.lines.specs.declared.forms.Fault.{Fault}
@@ -38,6 +38,10 @@ words_of (Crash b) = (codes "crash", decimal b ∷ [])
 words_of (Start b fault) = (codes "start", decimal b ∷ fault_words fault)
 words_of (Propose b g members) = (codes "view", decimal b ∷ decimal g ∷ map decimal members)
 words_of (Sync b g) = (codes "sync", decimal b ∷ decimal g ∷ [])
+words_of (Scrub b g s members) = (codes "scrub", decimal b ∷ decimal g ∷ decimal s ∷ map decimal members)
+words_of (Suspect b c) = (codes "suspect", decimal b ∷ decimal c ∷ [])
+words_of (Trust b c) = (codes "trust", decimal b ∷ decimal c ∷ [])
+words_of (Spare b g) = (codes "spare", decimal b ∷ decimal g ∷ [])
 words_of (Calm n bricks) = (codes "calm", decimal n ∷ map decimal bricks)
 
 -- a line as it is spelt, without a line feed

@@ -109,9 +109,9 @@ module _ (fresh : Option Stamp) (before : Operation) (from : BrickId) (message :
   entered_decides mid turn (Recover other) send = absurd send
 
   entered_stays : (mid : Operation) (turn : Turn) → StaysAsked before mid → StaysAsked before (entered mid turn)
-  entered_stays mid Turn.Order is = record { block = is.block; group = is.group; prior = is.prior; ask = is.ask }
-  entered_stays mid (Turn.Down bound) is = record { block = is.block; group = is.group; prior = is.prior; ask = is.ask }
-  entered_stays mid (Turn.Store base content) is = record { block = is.block; group = is.group; prior = is.prior; ask = is.ask }
+  entered_stays mid Turn.Order is = record { block = is.block; group = is.group; prior = is.prior; only = is.only; ask = is.ask }
+  entered_stays mid (Turn.Down bound) is = record { block = is.block; group = is.group; prior = is.prior; only = is.only; ask = is.ask }
+  entered_stays mid (Turn.Store base content) is = record { block = is.block; group = is.group; prior = is.prior; only = is.only; ask = is.ask }
 
   entered_answers : (mid : Operation) (turn : Turn) (next : Next) → Answers fresh before from message (Recover turn) mid → IsSend next
       → SendsPhase (entered mid turn) next → Answers fresh before from message next (entered mid turn)

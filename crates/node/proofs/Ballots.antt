@@ -14,18 +14,17 @@ use Rattle.stripe_code.specs.Codes.{coding}
 use Rattle.messages.specs.declared.calls.Call.{Call}
 use Rattle.messages.specs.declared.packets.Message.{Message}
 use Rattle.messages.specs.declared.packets.Message.TheVariants as message
-use Rattle.messages.specs.declared.packets.Packet.{Packet}
 use Rattle.messages.specs.declared.replies.Reply.{Reply}
 use Rattle.protocol.specs.declared.tellings.Report.TheVariants as report
 use Rattle.protocol.specs.declared.tellings.ViewAnswer.{ViewAnswer}
 use Rattle.protocol.specs.declared.tellings.ViewAnswer.TheVariants as answer
 use Rattle.protocol.specs.Coordinators.{call_same, new_seat}
-use Rattle.protocol.specs.Proposals.{Proposal, Voting, Ignored, Waited, Asks, Ended, ballot_decided, ballot_packets, ballot_quorum, ballot_request, begun_proposal, goes_on, next_ballot, round_used, once_voted, refused_by, seat_voting, unless_voted_down, voted, voted_at, voting_seat, with_voice}
+use Rattle.protocol.specs.Proposals.{Proposal, Voting, Ignored, Waited, Asks, Ended, ballot_decided, ballot_packets, ballot_quorum, ballot_request, begun_proposal, goes_on, next_ballot, round_used, refused_by, seat_voting, unless_voted_down, voted, voted_at, voting_seat, with_voice}
 use Rattle.protocol.specs.Nodes as machine
 use Rattle.protocol.specs.Nodes.{Node, NodeStep, ballot_resent, carried_ballot, ended_packets, replied_ballot, with_proposal}
 use Rattle.view_synod.specs.declared.answers.ViewNext.{ViewNext}
 use Rattle.view_synod.specs.declared.answers.ViewNext.TheVariants as next
-use Rattle.view_synod.specs.Proposers.{Proposing, SendsAgain, SendsPhase, StartsAs, started, GoesOn, ballot_messages, voting_in, voting_on, with_state}
+use Rattle.view_synod.specs.Proposers.{Proposing, SendsAgain, SendsPhase, StartsAs, started, GoesOn, ballot_messages, voting_in, voting_on}
 use Rattle.coord_phase.specs.Messages.{packets_from, without_sender}
 use Rattle.node.specs.declared.proposals.OpenProposal.{OpenProposal}
 use Rattle.node.specs.Outcomes.{Outcome}

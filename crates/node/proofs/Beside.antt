@@ -1,5 +1,5 @@
 -- What a brick does is the same where it has a synchronisation under way beside, whose read has another call.
-use Rattle.std.proofs.Common.{◌≡◌, ℕ, ◌+◌, Bool, true, false, cond, if◌then◌else◌, nat_eq, List, [], ◌∷◌, ◌++◌, Option, Some, None, refl, sym, ◌∙◌, ap, subst, arith}
+use Rattle.std.proofs.Common.{◌≡◌, ℕ, ◌+◌, Bool, true, false, cond, if◌then◌else◌, nat_eq, List, [], ◌++◌, Option, Some, None, refl, sym, ◌∙◌, ap, subst, arith}
 use Rattle.std.specs.Option.{option_map}
 use Rattle.std.proofs.lemmas.Bool.Decides.{nat_tests}
 use Rattle.std.proofs.lemmas.List.{append-nil, append_assoc}
@@ -13,12 +13,11 @@ use Rattle.messages.specs.declared.packets.Packet.{Packet}
 use Rattle.messages.specs.declared.replies.Reply.{Reply}
 use Rattle.quorum.specs.Memberships.{is_membership}
 use Rattle.protocol.specs.Settings.{Setting}
-use Rattle.protocol.specs.Coordinators.{Coordinator, Next, Ignores, Waits, Sends, Makes, Ends, on_reply}
-use Rattle.protocol.specs.Jobs.{Job}
+use Rattle.protocol.specs.Coordinators.{Coordinator, Next, Ignores, Waits, Sends, Makes, Ends, counts_at, hearing, on_reply}
 use Rattle.protocol.specs.declared.tellings.ViewAnswer.TheVariants as answer
 use Rattle.protocol.specs.Proposals.{Proposal, Voting, Ignored, Waited, Asks, Ended, ballot_packets, voted}
 use Rattle.protocol.specs.declared.tellings.Report.{Report}
-use Rattle.protocol.specs.Nodes.{Node, NodeStep, put, ballot_resent, began_in, calls_but_read, carried_ballot, carried_for, carried_out, coordinator_in, fresh_stamp, job_call, job_reading, known_after, new_proposal, proposed_in, proposing, refusal_of, replied_at, replied_ballot, reporting, resent, resent_up_to, sending, ticked, with_call, with_known}
+use Rattle.protocol.specs.Nodes.{Node, NodeStep, put, ballot_resent, began_in, calls_but_read, calls_but_scrub, carried_ballot, carried_for, carried_out, coordinator_in, fresh_stamp, job_call, job_reading, known_after, new_proposal, proposed_in, proposing, refusal_of, replied_at, replied_ballot, reporting, resent, resent_up_to, scrub_call, scrub_of, sending, ticked, with_call, with_known}
 use Rattle.stripe_code.specs.Codes.{coding}
 use Rattle.node.specs.Jobs.{Reading, calls_with, with_reading}
 
@@ -122,18 +121,19 @@ module _ (layout : Layout) (me : BrickId) (r : Option Reading) where
   heard_beside from node call reply (Some p) = ballot_beside node p (voted layout.bricks p from call reply)
 
   -- what it does with a reply to another call
-  pub replied_beside : (now : ℕ) (from : BrickId) (node : Node) (call : Call) (reply : Reply) (o : Option Coordinator) → node.job ≡ None
+  pub replied_beside : (now : ℕ) (from : BrickId) (node : Node) (call : Call) (reply : Reply) (o : Option Coordinator) → node.job ≡ None → node.scrub ≡ None
       → ApartFrom r call.seq → ((c : Coordinator) → o ≡ Some c → c.call.seq ≡ call.seq)
       → replied_at (coding layout) me now from (with_reading r node) call reply o ≡ beside r (replied_at (coding layout) me now from node call reply o)
-  replied_beside now from node call reply None idle apart at =
+  replied_beside now from node call reply None idle quiet apart at =
       heard_beside from (with_known node (known_after node.known reply)) call reply node.proposal
-  replied_beside now from node call reply (Some c) idle apart at =
+  replied_beside now from node call reply (Some c) idle quiet apart at =
       let known = known_after node.known reply in
+      let heard = hearing c from reply (counts_at layout.block c from.0 call reply) in
       let next = on_reply layout.block (coding layout).code (fresh_stamp me c.stamp.view now node.boot known) c from call reply in
       let apart_here = subst (ApartFrom r) (sym (at c refl)) apart in
-      ap (carried_for (coding layout) me now (with_reading r node) known c next) (none_reads r c.call.seq apart_here)
+      (λ i. carried_for (coding layout) me now (with_reading r node) known c heard next (none_reads r c.call.seq apart_here i) (scrub_of (quiet i) c.call.seq))
       ∙ carried_beside node known c next apart_here
-      ∙ ap (λ (job : Option Job). beside r (carried_for (coding layout) me now node known c next (job_reading job c.call.seq))) (sym idle)
+      ∙ (λ i. beside r (carried_for (coding layout) me now node known c heard next (job_reading (sym idle i) c.call.seq) (scrub_of (sym quiet i) c.call.seq)))
 
   -- how it begins an operation
   pub began_beside : (now : ℕ) (node : Node) (ask : Ask) (group : Group) (view : View) → ApartFrom r (node.seq + 1)
@@ -162,18 +162,23 @@ module _ (layout : Layout) (me : BrickId) (r : Option Reading) where
       either false = refl
 
 -- what it sends at a tick: last of all the present phase of the read again
-pub ticked_beside : (setting : Setting) (me : BrickId) (r : Reading) (node : Node) → node.job ≡ None → node.calls r.job.seq ≡ None
+pub ticked_beside : (setting : Setting) (me : BrickId) (r : Reading) (node : Node) → node.job ≡ None → node.scrub ≡ None → node.calls r.job.seq ≡ None
     → ticked setting me (with_reading (Some r) node) ≡ ticked setting me node ++ resent setting me (Some r.read)
 unfolding ticked
-ticked_beside setting me r node idle free =
+ticked_beside setting me r node idle quiet free =
     let others = resent_up_to setting me node.calls node.seq in
     let ballots = ballot_resent me node.proposal in
     let last = resent setting me (Some r.read) in
-    let calls_are : put (put node.calls r.job.seq (Some r.read)) r.job.seq None ≡ node.calls =
-    put_twice node.calls r.job.seq (Some r.read) None ∙ put_same node.calls r.job.seq None free in
-    let read_is : put node.calls r.job.seq (Some r.read) r.job.seq ≡ Some r.read =
-    ap (λ (b : Bool). cond b (Some r.read) (node.calls r.job.seq)) (eq_same r.job.seq) in
-    (λ i. resent_up_to setting me (calls_are i) node.seq ++ (ballots ++ resent setting me (read_is i)))
+    let all = put node.calls r.job.seq (Some r.read) in
+    let calls_are : put all r.job.seq None ≡ node.calls = put_twice node.calls r.job.seq (Some r.read) None ∙ put_same node.calls r.job.seq None free in
+    let read_is : all r.job.seq ≡ Some r.read = ap (λ (b : Bool). cond b (Some r.read) (node.calls r.job.seq)) (eq_same r.job.seq) in
+    let alone : ticked setting me node ≡ others ++ (ballots ++ []) =
+    (λ i. resent_up_to setting me (calls_but_scrub (calls_but_read node.calls (idle i)) (quiet i)) node.seq
+    ++ (ballots ++ (resent setting me (job_call node.calls (idle i)) ++ resent setting me (scrub_call node.calls (quiet i))))) in
+    (λ i. resent_up_to setting me (calls_but_scrub (put all r.job.seq None) (quiet i)) node.seq
+    ++ (ballots ++ (resent setting me (all r.job.seq) ++ resent setting me (scrub_call all (quiet i)))))
+    ∙ (λ i. resent_up_to setting me (calls_are i) node.seq ++ (ballots ++ (resent setting me (read_is i) ++ [])))
+    ∙ ap (λ (b : List Packet). others ++ (ballots ++ b)) (append-nil last)
     ∙ sym (append_assoc others ballots last)
     ∙ ap (λ (b : List Packet). (others ++ b) ++ last) (sym (append-nil ballots))
-    ∙ ap (λ (job : Option Job). (resent_up_to setting me (calls_but_read node.calls job) node.seq ++ (ballots ++ resent setting me (job_call node.calls job))) ++ last) (sym idle)
+    ∙ ap (λ (b : List Packet). b ++ last) (sym alone)

@@ -1,43 +1,26 @@
 -- What comes after a read of a synchronisation.
-use Rattle.std.proofs.Common.{◌≡◌, ◌≤◌, ◌<◌, ◌+◌, ◌-◌, ℕ, suc, Bool, true, false, cond, not, ◌||◌, if◌then◌else◌, nat_eq, nat_lt, ◌^◌, List, [], ◌∷◌, ◌++◌, Option, Some, None, Vec, Global, refl, sym, ◌∙◌, ap, subst, arith}
-use Rattle.std.specs.Option.{option_map}
-use Rattle.std.proofs.lemmas.List.{append-nil, append_assoc, map-append}
-use Rattle.fab_base.specs.declared.answers.Answer.{Answer}
+use Rattle.std.proofs.Common.{◌≡◌, ◌<◌, ◌+◌, ◌-◌, ℕ, suc, Bool, true, false, cond, nat_lt, [], ◌∷◌, Option, Some, None, ◌∙◌, ap, arith}
 use Rattle.fab_base.specs.declared.answers.Cause.{Cause}
-use Rattle.fab_base.specs.declared.asks.Op.TheVariants.{ReadStripe}
 use Rattle.fab_base.specs.declared.identities.BrickId.{BrickId}
-use Rattle.fab_base.specs.declared.identities.CallId.{CallId}
 use Rattle.fab_base.specs.declared.identities.GroupId.{GroupId}
 use Rattle.fab_base.specs.declared.identities.StripeNo.{StripeNo}
 use Rattle.fab_base.specs.declared.identities.ViewNo.{ViewNo}
 use Rattle.fab_base.specs.declared.member_lists.View.{View}
-use Rattle.fab_base.specs.declared.stamps.Stamp.{Stamp}
 use Rattle.fab_base.specs.Layouts.{Group, Layout}
 use Rattle.messages.specs.declared.packets.Message.{Message}
-use Rattle.messages.specs.declared.packets.Packet.{Packet}
-use Rattle.protocol.specs.declared.tellings.SyncAnswer.{SyncAnswer}
 use Rattle.protocol.specs.declared.tellings.SyncAnswer.TheVariants.{Synced, Stopped, Spent}
 use Rattle.protocol.specs.Coordinators.{Coordinator}
-use Rattle.protocol.specs.declared.phases.Phase.TheVariants.{Looks}
 use Rattle.protocol.specs.Views.{group_kept}
-use Rattle.protocol.specs.Jobs.{Attempt, Job, JobNext, Reads, Finishes, GivesUp, job_after, job_ask, most_tries, spent_answer, stopped_answer}
+use Rattle.protocol.specs.Jobs.{Job, JobNext, Reads, GivesUp, job_ask, most_tries, spent_answer, stopped_answer}
 use Rattle.protocol.specs.declared.tellings.Report.{Report}
-use Rattle.protocol.specs.Nodes.{Node, NodeStep, coordinator_in, has_later_time, is_spent, job_goes, new_stamp, put, read_begun, read_begun_by, read_begun_in, reporting, synced_packets, with_call, with_job, with_known}
+use Rattle.protocol.specs.Nodes.{Node, NodeStep, coordinator_in, is_spent, job_goes, put, read_begun, read_begun_by, read_begun_in, reporting, synced_packets, with_job, with_known}
 use Rattle.stripe_code.specs.Codes.{coding}
-use Rattle.coord_phase.specs.Messages.{packets_from}
-use Rattle.coord_phase.specs.Operations as phased
-use Rattle.coord_phase.specs.Operations.{first_op, group_in_view, group_or_none}
-use Rattle.view_sync.specs.Jobs.{Synchronising, left_as, next_as}
-use Rattle.view_sync.specs.declared.answers.JobNext.TheVariants as next
+use Rattle.view_sync.specs.Jobs.{Synchronising}
 use Rattle.node.specs.declared.call_sources.CallSource.{CallSource}
 use Rattle.node.specs.declared.jobs.Followed.{Followed}
-use Rattle.node.specs.declared.jobs.OpenJob.{OpenJob}
 use Rattle.node.specs.declared.jobs.Followed.TheVariants as followed
-use Rattle.node.specs.declared.operations.Operation.{Operation}
-use Rattle.node.specs.Decisions.{SendsPhase}
-use Rattle.node.specs.Operations.{shown_of, coordinator_of}
 use Rattle.node.proofs.Beside.{put_same, put_twice}
-use Rattle.node.specs.Jobs.{FollowsFrom, GoesOn, IsJobOf, IsKeptBy, MakesFrom, by_cause, end_packets, followed_step, job_at, sends_first, stopped_by}
+use Rattle.node.specs.Jobs.{FollowsFrom, GoesOn, by_cause, followed_step, job_at}
 
 -- ---- what is sent at the end
 

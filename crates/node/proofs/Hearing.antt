@@ -1,6 +1,6 @@
 -- What a brick of the machine does with a reply, by what it teaches.
-use Rattle.std.proofs.Common.{◌≡◌, ℕ, Bool, true, false, not, cond, ◌&&◌, ◌||◌, if◌then◌else◌, Option, Some, None, is_some, refl, sym, ◌∙◌, ap, subst, eq-eqb}
-use Rattle.std.proofs.lemmas.Bool.{and_parts, cond_both}
+use Rattle.std.proofs.Common.{◌≡◌, ℕ, Bool, true, false, not, cond, ◌&&◌, ◌||◌, if◌then◌else◌, Option, Some, None, is_some, refl, sym, ◌∙◌, ap}
+use Rattle.std.proofs.lemmas.Bool.{and_parts}
 use Rattle.fab_base.specs.declared.identities.BrickId.{BrickId}
 use Rattle.fab_base.specs.declared.member_lists.View.{View}
 use Rattle.fab_base.specs.Layouts.{Layout, group_of}
@@ -16,9 +16,10 @@ use Rattle.fab_base.specs.declared.stamps.Stamp.{Stamp}
 use Rattle.stripe_code.specs.Codes.{block_code, coding}
 use Rattle.protocol.specs.Proposals.{Proposal, seat_voting, voted_at}
 use Rattle.protocol.specs.Jobs.{Job}
-use Rattle.protocol.specs.Coordinators.{Coordinator, Next, Ignores, counted_at, counts_at, on_reply}
+use Rattle.protocol.specs.Scrubs.{Scrub}
+use Rattle.protocol.specs.Coordinators.{Coordinator, Next, Ignores, counted_at, counts_at, hearing, on_reply}
 use Rattle.protocol.specs.Views.{Learnt, view_told}
-use Rattle.protocol.specs.Nodes.{Node, NodeStep, absorbed, carried_ballot, carried_for, counts_here, fresh_stamp, heard, job_reading, known_after, may_teach, node_learnt, node_taught, node_taught_by, no_step, replied, replied_at, replied_ballot, then_taught, with_known, with_round}
+use Rattle.protocol.specs.Nodes.{Node, NodeStep, absorbed, carried_ballot, carried_for, counts_here, fresh_stamp, heard, job_reading, known_after, may_teach, node_learnt, node_taught, node_taught_by, no_step, replied, replied_at, replied_ballot, scrub_of, then_taught, with_known, with_round}
 use Rattle.node.specs.Teaching.{is_taught}
 
 -- the same either way
@@ -64,19 +65,21 @@ module _ (layout : Layout) (me : BrickId) (now : ℕ) (from : BrickId) (node : N
   left_ballot (Some p) none n =
       ap (λ (seat : Option ℕ). carried_ballot layout me n p (voted_at p from told seat)) (none_of (seat_voting layout.bricks p from.0 call told) none)
 
-  left_for : (known : ℕ) (c : Coordinator) (job : Option Job)
-      → carried_for (coding layout) me now node known c Ignores job ≡ no_step (with_known node known)
-  left_for known c None = refl
-  left_for known c (Some job) = refl
+  left_for : (known : ℕ) (c heard : Coordinator) (job : Option Job) (scrub : Option Scrub)
+      → carried_for (coding layout) me now node known c heard Ignores job scrub ≡ no_step (with_known node known)
+  left_for known c heard None None = refl
+  left_for known c heard None (Some scrub) = refl
+  left_for known c heard (Some job) scrub = refl
 
   left_by : (o : Option Coordinator) → counts_here layout from call told node.proposal o ≡ false
       → replied_at (coding layout) me now from node call told o ≡ no_step (with_known node (known_after node.known told))
   left_by None none = left_ballot node.proposal none (with_known node (known_after node.known told))
   left_by (Some c) none =
       let known = known_after node.known told in
-      ap (λ (next : Next). carried_for (coding layout) me now node known c next (job_reading node.job c.call.seq))
+      let h = hearing c from told (counts_at layout.block c from.0 call told) in
+      ap (λ (next : Next). carried_for (coding layout) me now node known c h next (job_reading node.job c.call.seq) (scrub_of node.scrub c.call.seq))
       (left_call (fresh_stamp me c.stamp.view now node.boot known) c none)
-      ∙ left_for known c (job_reading node.job c.call.seq)
+      ∙ left_for known c h (job_reading node.job c.call.seq) (scrub_of node.scrub c.call.seq)
 
 module _ (layout : Layout) (me : BrickId) (now : ℕ) (from : BrickId) (node : Node) (call : Call) (told : Reply) where
   -- the reply is handled as such, by the open operation of its call or by the proposal

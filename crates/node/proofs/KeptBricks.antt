@@ -1,5 +1,5 @@
 -- A brick whose work went on, and whose store is as it was or has learnt a view, is one of its layout; and how it is halted by a fault.
-use Rattle.std.proofs.Common.{◌≡◌, Bool, false, Option, Result, Ok, Err, refl, sym, ◌∙◌, ap, subst}
+use Rattle.std.proofs.Common.{◌≡◌, Bool, Option, Err, refl, sym, ◌∙◌, ap, subst}
 use Rattle.fab_base.specs.declared.identities.BrickId.{BrickId}
 use Rattle.fab_base.specs.Layouts.{Layout}
 use Rattle.messages.specs.declared.packets.Message.{Message}
@@ -11,7 +11,6 @@ use Rattle.replica.specs.declared.faults.ReplicaFault.TheVariants as replica
 use Rattle.replica.specs.Handling as handling
 use Rattle.replica.specs.Parts.{ListsStand}
 use Rattle.replica.specs.Reactions.{IsStep}
-use Rattle.node.specs.declared.faults.NodeFault.{NodeFault}
 use Rattle.node.specs.declared.faults.NodeFault.TheVariants.{Halted}
 use Rattle.node.specs.declared.tasks.Tasks.{Tasks}
 use Rattle.node.specs.Faults.{fault_of, halted_after}

@@ -1,5 +1,5 @@
 -- A brick that counts a reply and learns the view that it teaches.
-use Rattle.std.proofs.Common.{◌≡◌, ℕ, Bool, true, cond, Option, Some, refl, sym, ◌∙◌, ap, subst}
+use Rattle.std.proofs.Common.{◌≡◌, ℕ, Bool, true, cond, Option, Some, sym, ◌∙◌, ap, subst}
 use Rattle.std.proofs.lemmas.Bool.{and_parts}
 use Rattle.fab_base.specs.declared.identities.BrickId.{BrickId}
 use Rattle.fab_base.specs.declared.member_lists.View.{View}
@@ -9,7 +9,10 @@ use Rattle.messages.specs.declared.packets.Message.{Message}
 use Rattle.messages.specs.declared.packets.Message.TheVariants as message
 use Rattle.messages.specs.declared.packets.Packet.{Packet}
 use Rattle.messages.specs.declared.replies.Reply.{Reply}
+use Rattle.fab_disk.specs.declared.disk.Disk as on_disk
+use Rattle.fab_disk.specs.Changing.{End}
 use Rattle.brick_store.specs.Bricks.{Brick}
+use Rattle.brick_store.specs.Calls.{Append}
 use Rattle.stripe_code.specs.Codes.{coding}
 use Rattle.protocol.specs.Views.{view_told}
 use Rattle.protocol.specs.Nodes.{Node, NodeStep, absorbed, counts_here, heard, may_teach, node_learnt, node_taught, received, replied_at, then_taught, with_round}
@@ -17,8 +20,9 @@ use Rattle.replica.specs.Calls.{learnt_append}
 use Rattle.replica.specs.Reactions.{IsStep}
 use Rattle.node.specs.declared.tasks.Tasks.{Tasks}
 use Rattle.node.specs.Calls.{packet_append}
+use Rattle.node.specs.Ends.{StepChange}
 use Rattle.node.specs.Outcomes.{Outcome}
-use Rattle.node.specs.Running.{running, state_of}
+use Rattle.node.specs.Running.{Running, running, state_of}
 use Rattle.node.specs.States.{StepsAs}
 use Rattle.node.specs.Teaching.{is_taught}
 use Rattle.node.proofs.Hearing.{heard_taught, told_moved}
@@ -41,6 +45,19 @@ pub append_reply : (layout : Layout) (me : BrickId) (node : Node) (packet : Pack
     → packet_append layout me node packet ≡ learnt_append (node.learnt call.group.0)
     ((absorbed (coding layout) me node (record { from = packet.from; to = packet.to; message = message.Reply call told })).learnt call.group.0)
 append_reply layout me node packet call told is = ap (λ (m : Message). packet_append layout me node (record packet { message = m })) is
+
+-- What a packet that carries a reply makes of the brick's disk is what is absorbed of the reply.
+pub change_replied : {D : Type 0} (d : on_disk.Ghosts D) (old new : Running D) (packet : Packet) (call : Call) (told : Reply) (kept : Node)
+    (append : Option Append) (ended : End) → packet.message ≡ message.Reply call told
+    → absorbed (coding old.layout) old.me (state_of old) (record { from = packet.from; to = packet.to; message = message.Reply call told }) ≡ kept
+    → learnt_append ((state_of old).learnt call.group.0) (kept.learnt call.group.0) ≡ append → StepChange d append kept old new ended
+    → StepChange d (packet_append old.layout old.me (state_of old) packet) (absorbed (coding old.layout) old.me (state_of old) packet) old new ended
+change_replied d old new packet call told kept append ended is absorbs appends change =
+    let node = state_of old in
+    subst (λ (a : Option Append). StepChange d a (absorbed (coding old.layout) old.me node packet) old new ended)
+    (sym (append_reply old.layout old.me node packet call told is
+    ∙ ap (λ (n : Node). learnt_append (node.learnt call.group.0) (n.learnt call.group.0)) absorbs ∙ appends))
+    (subst (λ (n : Node). StepChange d append n old new ended) (sym (absorbed_reply old.layout old.me node packet call told is ∙ absorbs)) change)
 
 -- where a view may be taught, it is taught
 pub learnt_taught : (layout : Layout) (node : Node) (from : BrickId) (call : Call) (told : Reply) (view : View) → view_told told ≡ Some view

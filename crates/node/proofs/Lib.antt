@@ -11,6 +11,7 @@ pub mod Resending
 pub mod Views
 pub mod Moments
 pub mod Moved
+pub mod RecoveryPhases
 pub mod MayEnd
 pub mod Hearing
 pub mod Steps
@@ -22,6 +23,11 @@ pub mod Sent
 pub mod Shown
 pub mod Turns
 pub mod Beside
+pub mod ScrubsBeside
+pub mod ScrubSteps
+pub mod ScrubReplies
+pub mod ScrubCalls
+pub mod NamedQuorums
 pub mod Following
 pub mod Reading
 pub mod Underway
@@ -34,4 +40,5 @@ pub mod Ballots
 pub mod CountsHere
 pub mod Proposed
 pub mod Syncing
+pub mod ScrubBegins
 pub mod KeptBricks

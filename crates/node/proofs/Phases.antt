@@ -14,10 +14,9 @@ use Rattle.protocol.specs.declared.phases.FullMember.{FullMember}
 use Rattle.protocol.specs.declared.phases.Mover.{Mover}
 use Rattle.protocol.specs.declared.phases.Dropper.{Dropper}
 use Rattle.fab_base.specs.Layouts.{Group}
-use Rattle.quorum.specs.Quorums.{quorum_of}
 use Rattle.reg_model.specs.Registers.{read_of}
 use Rattle.protocol.specs.Settings.{Code}
-use Rattle.protocol.specs.Coordinators.{Coordinator, Next, Ignores, Waits, Sends, Makes, Ends, asked_group, in_phase, may_look_back, fast_version, fast_version_at, common_version_at, some_behind, greatest_refuser, greatest_found, pieces_at, answered_fast, answered_fast_at, modified_if, once_modified, rebuilt, once_ordered, ordered_again, unless_refused, unless_told_full, unless_told_gone, unless_told_moved, lowest_full, lowest_dropper, lowest_mover, read_back, answer_with, decided, once_full, counted_at, counts_at, on_reply, most_rounds}
+use Rattle.protocol.specs.Coordinators.{Coordinator, Next, Ignores, Waits, Sends, Makes, Ends, in_phase, may_look_back, needed, fast_version, fast_version_at, common_version_at, some_behind, greatest_refuser, greatest_found, pieces_at, answered_fast, answered_fast_at, modified_if, once_modified, rebuilt, once_ordered, ordered_again, unless_refused, unless_told_full, unless_told_gone, unless_told_moved, lowest_full, lowest_dropper, lowest_mover, read_back, answer_with, decided, once_full, counted_at, counts_at, on_reply, most_rounds}
 use Rattle.coord_phase.specs.Operations.{is_storing}
 use Rattle.node.specs.Decisions.{Collects}
 
@@ -34,13 +33,13 @@ Follows c (Sends d) = Begins c d
 Follows c (Makes d) = Begins c d
 Follows c (Ends answer seen stored) = Collects stored (is_storing c.phase ≡ true)
 
-module _ (group : Group) (prior : List BrickId) (ask : Ask) (stamp : Stamp) (round : ℕ) (base : Option Stamp) (content : List ℕ) (call : Call) (counted more : List Counted) where
+module _ (group : Group) (prior : List BrickId) (only : Option (List BrickId)) (ask : Ask) (stamp : Stamp) (round : ℕ) (base : Option Stamp) (content : List ℕ) (call : Call) (counted more : List Counted) where
   -- the coordinator in a phase, before and after a reply counted
   abbrev before : Phase → Coordinator
-  before phase = record { group = group; prior = prior; ask = ask; stamp = stamp; round = round; base = base; content = content; call = call; phase = phase; counted = counted }
+  before phase = record { group = group; prior = prior; only = only; ask = ask; stamp = stamp; round = round; base = base; content = content; call = call; phase = phase; counted = counted }
 
   abbrev after : Phase → Coordinator
-  after phase = record { group = group; prior = prior; ask = ask; stamp = stamp; round = round; base = base; content = content; call = call; phase = phase; counted = more }
+  after phase = record { group = group; prior = prior; only = only; ask = ask; stamp = stamp; round = round; base = base; content = content; call = call; phase = phase; counted = more }
 
   fast : (code : Code) (v : Option Stamp) → Follows (before Looks) (answered_fast code (after Looks) v)
   fast code None = record { seq = refl; counted = refl }
@@ -139,14 +138,14 @@ module _ (group : Group) (prior : List BrickId) (ask : Ask) (stamp : Stamp) (rou
 
   once_full_follows : (block : ℕ) (code : Code) (fresh : Option Stamp) (phase : Phase) → Follows (before phase) (once_full block code fresh (after phase))
   once_full_follows block code fresh phase =
-      cond_both (nat_lt (length more) (quorum_of (asked_group (after phase)))) _ _ (λ next. Follows (before phase) next) (λ few. refl)
+      cond_both (nat_lt (length more) (needed (after phase))) _ _ (λ next. Follows (before phase) next) (λ few. refl)
       (λ enough. decides block code fresh phase)
 
 counted_follows : (block : ℕ) (code : Code) (fresh : Option Stamp) (c : Coordinator) (from : BrickId) (reply : Reply) (seat : Option ℕ)
     → Follows c (counted_at block code fresh c from reply seat)
 counted_follows block code fresh c from reply None = tt
 counted_follows block code fresh c from reply (Some seat) =
-    once_full_follows c.group c.prior c.ask c.stamp c.round c.base c.content c.call c.counted
+    once_full_follows c.group c.prior c.only c.ask c.stamp c.round c.base c.content c.call c.counted
     (c.counted ++ (record { seat = seat; brick = from; reply = reply } ∷ [])) block code fresh c.phase
 
 -- what follows from what a coordinator does with a reply

@@ -1,5 +1,5 @@
 -- What a brick does with a reply to the read of its synchronisation.
-use Rattle.std.proofs.Common.{◌≡◌, ◌≤◌, ◌+◌, ◌++◌, ℕ, Bool, true, false, cond, if◌then◌else◌, nat_eq, is_some, List, [], ◌∷◌, Option, Some, None, refl, sym, ◌∙◌, ap, subst, arith}
+use Rattle.std.proofs.Common.{◌≡◌, ℕ, Bool, true, cond, if◌then◌else◌, nat_eq, [], Option, Some, None, refl, sym, ◌∙◌, ap, subst}
 use Rattle.std.specs.Option.{option_map}
 use Rattle.fab_base.specs.declared.answers.Answer.{Answer}
 use Rattle.fab_base.specs.declared.identities.BrickId.{BrickId}
@@ -14,25 +14,24 @@ use Rattle.messages.specs.declared.replies.Reply.{Reply}
 use Rattle.messages.specs.declared.replies.Reply.TheVariants.{Moved}
 use Rattle.stripe_code.specs.Codes.{block_code, coding}
 use Rattle.protocol.specs.Coordinators as machine
-use Rattle.protocol.specs.Coordinators.{Coordinator, Next, Ignores, Waits, Sends, Makes, Ends, on_reply, with_reply}
+use Rattle.protocol.specs.Coordinators.{Coordinator, Next, Ignores, Waits, Sends, Makes, Ends, hearing, on_reply, with_reply}
 use Rattle.protocol.specs.Jobs.{Job, abort_cause}
-use Rattle.protocol.specs.Nodes.{Node, NodeStep, carried_for, carried_read, fresh_stamp, known_after, no_step, put, replied_at, with_known, with_round}
+use Rattle.protocol.specs.Nodes.{Node, carried_for, carried_read, fresh_stamp, known_after, no_step, put, replied_at, scrub_of, with_known}
 use Rattle.coord_phase.specs.Decisions.{decided_on}
 use Rattle.coord_phase.specs.Operations.{counts, heard, heard_at, seat_told}
 use Rattle.node.specs.declared.call_sources.CallSource.{CallSource}
 use Rattle.node.specs.declared.jobs.Followed.{Followed}
 use Rattle.node.specs.declared.jobs.OpenJob.{OpenJob}
 use Rattle.node.specs.declared.outs.Tellings.{Tellings}
-use Rattle.node.specs.Jobs.{FollowsFrom, GoesOn, IsOpenJobOf, MakesFrom, closed, followed_step, job_at, job_of, reading_of, sent_in, then_told, with_reading}
-use Rattle.node.specs.Operations.{EndsOrWaits, IsOperationOf, coordinator_of, shown_of}
+use Rattle.node.specs.Jobs.{GoesOn, IsOpenJobOf, MakesFrom, closed, followed_step, job_at, job_of, reading_of, then_told, with_reading}
+use Rattle.node.specs.Operations.{EndsOrWaits, coordinator_of, shown_of}
 use Rattle.node.specs.Outcomes.{told_list}
 use Rattle.node.specs.declared.jobs.ReadTurn.{ReadTurn}
 use Rattle.node.specs.Reads.{HasCountedRead, IsReadTurn, read_step, turn_step}
 use Rattle.node.specs.declared.open_work.OpenWork.{OpenWork}
 use Rattle.node.specs.declared.tasks.Tasks.{Tasks}
-use Rattle.node.specs.Moves as moves
 use Rattle.node.specs.States.{KeptParts, state_in, state_with}
-use Rattle.node.specs.Tasks.{IsJobAt, ReadsAt, counts_among, counts_at, read_seq}
+use Rattle.node.specs.Tasks.{IsJobAt, ReadsAt, counts_among, counts_at, counts_beside, read_seq}
 use Rattle.node.proofs.Beside.{eq_same, eq_turned, put_twice}
 use Rattle.node.proofs.Reading.{ends_so}
 use Rattle.node.proofs.Turns.{there}
@@ -64,9 +63,10 @@ module _ (layout : Layout) (me : BrickId) (now : ℕ) (from : BrickId) where
       let known = known_after node.known reply in
       let job = job_of held in
       let beside : Node = with_reading (Some (reading_of held)) node in
+      let heard_so = hearing c from reply (machine.counts_at layout.block c from.0 call reply) in
       let next = on_reply layout.block (block_code layout.block) (fresh_stamp me c.stamp.view now node.boot known) c from call reply in
       ap (replied_at (coding layout) me now from beside call reply) (read_there held node call.seq same)
-      ∙ ap (λ (b : Bool). carried_for (coding layout) me now beside known c next (if b then Some job else None)) (eq_same c.call.seq)
+      ∙ ap (λ (b : Bool). carried_for (coding layout) me now beside known c heard_so next (if b then Some job else None) (scrub_of beside.scrub c.call.seq)) (eq_same c.call.seq)
       ∙ knows_once beside known job c next
       ∙ (λ i. carried_read (coding layout) (sym me_is i) (sym now_is i) (with_known beside known) (sym known_is i) job c
       (on_reply layout.block (block_code layout.block) (fresh_stamp (sym me_is i) c.stamp.view (sym now_is i) (sym boot_is i) (sym known_is i)) c from call reply))
@@ -176,7 +176,7 @@ reads_call job held seq e reads = subst (λ (o : Option OpenJob). ReadsAt o seq)
 pub counts_read : (tasks : Tasks) (held : OpenJob) (seq : ℕ) (from : BrickId) (told : Message) → tasks.job ≡ Some held → nat_eq (read_seq held) seq ≡ true
     → counts_at tasks seq from told ≡ true → counts (shown_of held.read) from told ≡ true
 counts_read tasks held seq from told e same counted =
-    sym (ap (λ (b : Bool). if b then counts (shown_of held.read) from told else moves.counts_at tasks.work seq from told) same)
+    sym (ap (λ (b : Bool). if b then counts (shown_of held.read) from told else counts_beside tasks tasks.scrub seq from told) same)
     ∙ subst (λ (o : Option OpenJob). counts_among tasks o seq from told ≡ true) e counted
 
 -- no operation has its call

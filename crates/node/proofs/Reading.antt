@@ -1,23 +1,17 @@
 -- What a reply to the read of a synchronisation comes to.
-use Rattle.std.proofs.Common.{◌≡◌, ◌≤◌, ◌+◌, ℕ, Bool, true, false, cond, nat_eq, List, [], ◌∷◌, ◌++◌, length, Option, Some, None, refl, sym, ◌∙◌, ap, subst, arith}
+use Rattle.std.proofs.Common.{◌≡◌, ◌≤◌, ℕ, Bool, cond, List, [], ◌∷◌, ◌++◌, length, Option, Some, None, refl, sym, ◌∙◌, ap, arith}
 use Rattle.std.specs.Option.{option_map}
 use Rattle.fab_base.specs.declared.answers.Answer.{Answer}
 use Rattle.fab_base.specs.declared.answers.Cause.{Cause}
-use Rattle.fab_base.specs.declared.identities.BrickId.{BrickId}
 use Rattle.fab_base.specs.declared.stamps.Stamp.{Stamp}
 use Rattle.fab_base.specs.Layouts.{Layout}
-use Rattle.messages.specs.declared.calls.Call.{Call}
 use Rattle.messages.specs.declared.packets.Packet.{Packet}
-use Rattle.messages.specs.declared.replies.Reply.{Reply}
-use Rattle.stripe_code.specs.Codes.{block_code, coding}
+use Rattle.stripe_code.specs.Codes.{coding}
 use Rattle.protocol.specs.declared.tellings.Answered.{Answered}
-use Rattle.protocol.specs.declared.tellings.Told.{Told}
 use Rattle.protocol.specs.declared.tellings.Told.TheVariants.{Closed}
-use Rattle.protocol.specs.declared.tellings.Report.{Report}
 use Rattle.protocol.specs.Coordinators.{Coordinator, Next, Ignores, Waits, Sends, Makes, Ends}
-use Rattle.protocol.specs.Jobs.{Job, abort_cause, job_after}
+use Rattle.protocol.specs.Jobs.{abort_cause, job_after}
 use Rattle.protocol.specs.Nodes.{Node, NodeStep, put, carried_out, carried_read, collect_packets, job_goes, read_closed, seen_told, then_does, with_known}
-use Rattle.coord_phase.specs.Messages.{packets_from}
 use Rattle.node.specs.declared.call_sources.CallSource.{CallSource}
 use Rattle.node.specs.declared.jobs.Followed.{Followed}
 use Rattle.node.specs.declared.jobs.OpenJob.{OpenJob}
@@ -25,12 +19,12 @@ use Rattle.node.specs.declared.jobs.Prepared.{Prepared}
 use Rattle.node.specs.declared.jobs.ReadTurn.TheVariants as turn
 use Rattle.node.specs.declared.operations.Operation.{Operation}
 use Rattle.node.specs.declared.outs.Tellings.{Tellings}
-use Rattle.node.specs.Decisions.{CarriesOut, KeepsCall, NeverEnds, answers_in, known_by, left_by, left_open, or_waits, packets_in, told_in}
+use Rattle.node.specs.Decisions.{CarriesOut, KeepsCall, NeverEnds, answers_in, left_by, left_open, or_waits, told_in}
 use Rattle.node.specs.Jobs.{GoesOn, MakesFrom, cause_in, ended_by, followed_step, job_at, job_of, reading_of, sends_first, then_told, with_reading}
 use Rattle.node.specs.Operations.{coordinator_of}
 use Rattle.node.specs.Outcomes.{Outcome, told_list}
 use Rattle.node.specs.Reads.{IsPrepared, turn_step}
-use Rattle.node.proofs.Beside.{eq_same, put_same, put_twice}
+use Rattle.node.proofs.Beside.{eq_same, put_twice}
 use Rattle.node.proofs.Following.{followed_after}
 use Rattle.node.proofs.Replied.{busy_after, does, does_answer, does_node, does_report, does_send, does_tell, waits_is}
 

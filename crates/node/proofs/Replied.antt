@@ -7,9 +7,9 @@ use Rattle.fab_base.specs.declared.identities.BrickId.{BrickId}
 use Rattle.messages.specs.declared.calls.Call.{Call}
 use Rattle.messages.specs.declared.replies.Reply.{Reply}
 use Rattle.fab_base.specs.Layouts.{Layout}
-use Rattle.protocol.specs.Coordinators.{Coordinator, Next, Ignores, Waits, Sends, Makes, Ends, on_reply}
+use Rattle.protocol.specs.Coordinators.{Coordinator, Next, Ignores, Waits, Sends, Makes, Ends, counts_at, hearing, on_reply}
 use Rattle.protocol.specs.declared.tellings.Answered.{Answered}
-use Rattle.protocol.specs.Nodes.{Node, NodeStep, put, carried_out, carried_for, job_reading, replied_at, known_after, fresh_stamp, no_step, with_known}
+use Rattle.protocol.specs.Nodes.{Node, NodeStep, put, carried_out, carried_for, job_reading, replied_at, scrub_of, known_after, fresh_stamp, no_step, with_known}
 use Rattle.stripe_code.specs.Codes.{block_code, coding}
 use Rattle.node.specs.declared.operations.Operation.{Operation}
 use Rattle.node.specs.Operations.{shown_of}
@@ -33,18 +33,18 @@ waits_is layout me node known c (Sends d) held = refl
 waits_is layout me node known c (Makes d) held = refl
 waits_is layout me node known c (Ends answer seen stored) held = refl
 
--- what a brick does with a reply to an open operation that no synchronisation reads by
+-- what a brick without a scrub does with a reply to an open operation that no synchronisation reads by
 pub replied_is : (layout : Layout) (me : BrickId) (now : ℕ) (from : BrickId) (node : Node) (call : Call) (reply : Reply) (c : Coordinator)
-    → node.calls call.seq ≡ Some c → c.call.seq ≡ call.seq → job_reading node.job c.call.seq ≡ None
+    → node.calls call.seq ≡ Some c → c.call.seq ≡ call.seq → job_reading node.job c.call.seq ≡ None → node.scrub ≡ None
     → (let known = known_after node.known reply in
     replied_at (coding layout) me now from node call reply (node.calls call.seq)
     ≡ carried_out (coding layout) me node known c
     (or_waits c (on_reply layout.block (block_code layout.block) (fresh_stamp me c.stamp.view now node.boot known) c from call reply)))
-replied_is layout me now from node call reply c held seq none =
+replied_is layout me now from node call reply c held seq none quiet =
     let known = known_after node.known reply in
     let next = on_reply layout.block (block_code layout.block) (fresh_stamp me c.stamp.view now node.boot known) c from call reply in
     ap (replied_at (coding layout) me now from node call reply) held
-    ∙ ap (carried_for (coding layout) me now node known c next) none
+    ∙ (λ i. carried_for (coding layout) me now node known c (hearing c from reply (counts_at layout.block c from.0 call reply)) next (none i) (scrub_of (quiet i) c.call.seq))
     ∙ waits_is layout me node known c next (ap node.calls seq ∙ held)
 
 -- how many operations are open after a step with these answers, where so many were

@@ -42,6 +42,7 @@ record KeepsCalls (old : Node) (step : NodeStep) : Type 0 where
   calls : step.node.calls ≡ old.calls
   proposal : step.node.proposal ≡ old.proposal
   job : step.node.job ≡ old.job
+  scrub : step.node.scrub ≡ old.scrub
   told : step.told ≡ []
   answers : step.answers ≡ []
   reports : step.reports ≡ []
@@ -60,6 +61,7 @@ keeps_by node live live_in learnt ballots replicas packets =
       calls = refl;
       proposal = refl;
       job = refl;
+      scrub = refl;
       told = refl;
       answers = refl;
       reports = refl;
@@ -140,7 +142,7 @@ module _ {D : Type 0} (layout : Layout) (tasks : Tasks) (old : Brick D) (from : 
       let parts = is.parts node seen_parts in
       same_states _ _ (sym parts.boot) (sym keeps.seq) (sym keeps.known) (sym keeps.round) (sym keeps.busy) (sym parts.live)
       (λ g e. sym (parts.live_in g e)) (λ g. sym (parts.learnt g)) (λ g. sym (parts.ballots g)) (λ g e s. sym (parts.replicas g e s))
-      (λ k. ap (λ (f : ℕ → Option _). f k) (sym keeps.calls)) (sym keeps.proposal) (sym keeps.job)
+      (λ k. ap (λ (f : ℕ → Option _). f k) (sym keeps.calls)) (sym keeps.proposal) (sym keeps.job) (sym keeps.scrub)
 
   -- and keeps all as it was, where no call keeps the message
   pub follows_still : (new : Brick D) (answer : Option Message) → Follows answer new.state

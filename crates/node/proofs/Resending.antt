@@ -82,12 +82,15 @@ abbrev pub sends_again : Operation → List (BrickId × Message)
 sends_again op = teaching (coordinator_of op).call.group (view_in (coordinator_of op)) (phase_messages (shown_of op))
 
 -- it is what the machine sends
+pub again_so : (layout : Layout) (op : phased.Operation) (me : BrickId) → op.block ≡ layout.block
+    → packets_from me (teaching op.state.call.group (view_in op.state) (phase_messages op)) ≡ resent (coding layout) me (Some op.state)
+again_so layout op me block =
+    teaching_is me op.state.call.group (view_in op.state) (phase_messages op)
+    ∙ ap (machine.teaching op.state.call.group (view_in op.state)) (phase_again layout op me block)
+
 pub again_is : (layout : Layout) (op : Operation) (me : BrickId) → IsOperationOf layout op
     → packets_from me (sends_again op) ≡ resent (coding layout) me (Some (coordinator_of op))
-again_is layout op me block =
-    let c = coordinator_of op in
-    teaching_is me c.call.group (view_in c) (phase_messages (shown_of op))
-    ∙ ap (machine.teaching c.call.group (view_in c)) (phase_again layout (shown_of op) me block)
+again_is layout op me block = again_so layout (shown_of op) me block
 
 -- so do all the operations of a layout, one after the other
 pub all_send_again : (layout : Layout) (me : BrickId) (ops : List Operation) → AllByRecursion (λ (op : Operation). IsOperationOf layout op) ops

@@ -6,9 +6,11 @@ use Rattle.fab_disk.specs.declared.disk.Disk as on_disk
 use Rattle.fab_disk.specs.Changing.{End, Cut, NotBegun}
 use Rattle.fab_disk.proofs.Moments.{widened}
 use Rattle.frame_store.specs.declared.shapes.Shape.{Shape}
+use Rattle.frame_store.specs.declared.shapes.Form.{Form}
 use Rattle.frame_store.specs.declared.shapes.Half.{Half}
 use Rattle.frame_store.specs.declared.shapes.Half.TheVariants.{A, B}
 use Rattle.frame_store.specs.Images.{InForce, IsNoStore}
+use Rattle.frame_store.specs.Layouts.{formed}
 use Rattle.version_log.specs.Versions.{Version}
 use Rattle.brick_state.specs.States.{StateOf, booted, live}
 use Rattle.brick_store.specs.declared.faults.OpenFault.{OpenFault}
@@ -29,9 +31,9 @@ use Rattle.node.proofs.States.{same_states}
 use Rattle.node.proofs.Views.{seen_so}
 
 -- where a half is in force, there is a store
-some_store : (shape : Shape) (half : Half) (image : List ℕ) → IsNoStore shape image → InForce shape half image → ⊥
-some_store shape A image none in_force = none.first in_force.0
-some_store shape B image none in_force = none.second in_force.0
+some_store : (shape : Shape) (form : Form) (half : Half) (image : List ℕ) → IsNoStore shape image → InForce (formed form shape) half image → ⊥
+some_store shape form A image none in_force = none.first form in_force.0
+some_store shape form B image none in_force = none.second form in_force.0
 
 -- over a store that was opened once more, the brick is the one that the image showed, restarted
 pub restarts_so : {D : Type 0} (layout : Layout) (me : BrickId) (tasks : Tasks) (store : Brick D) (boot : ℕ) (node : Node) (image : List ℕ)
@@ -48,7 +50,7 @@ restarts_so layout me tasks store boot node image own same fresh shows counted =
     (λ g e. ap (λ (st : StateOf Version). live_at st g e) is ∙ sym (shows.parts.live_in g e))
     (λ g. ap (λ (st : StateOf Version). learnt_in layout st g) is ∙ sym (shows.parts.learnt g))
     (λ g. ap (λ (st : StateOf Version). ballots_in st g) is ∙ sym (shows.parts.ballots g))
-    (λ g e s. ap (λ (st : StateOf Version). part_in layout.block st g e s) is ∙ sym (shows.parts.replicas g e s)) (λ k. refl) refl refl
+    (λ g e s. ap (λ (st : StateOf Version). part_in layout.block st g e s) is ∙ sym (shows.parts.replicas g e s)) (λ k. refl) refl refl refl
 
 module _ {D : Type 0} (d : on_disk.Ghosts D) (layout : Layout) (me : BrickId) (old new : D) where
   before_shows : (node : Node) (first : List ℕ) (shows : ImageShows layout me node first) (image : List ℕ)
@@ -81,8 +83,8 @@ module _ {D : Type 0} (d : on_disk.Ghosts D) (layout : Layout) (me : BrickId) (o
         (opens.moments told shows.st shows.stands);
     run = opens.run;
     not_worn = λ is told free node shows. let few = opens.not_worn is told free shows.st shows.stands in omega (arith, few, shows.parts.boot);
-    cut = λ is told free frames closed listed node shows.
-        let stops = opens.cut is told free frames closed listed shows.st shows.stands in
+    cut = λ is told free form frames closed listed node shows.
+        let stops = opens.cut is told free form frames closed listed shows.st shows.stands in
         record {
           clock = stops.clock;
           settled = ⊎_elim (λ had. inl had) (λ now. inr (before_shows node (d.seen old) shows (d.certain new) now)) stops.settled;
@@ -103,8 +105,8 @@ module _ {D : Type 0} (d : on_disk.Ghosts D) (layout : Layout) (me : BrickId) (o
       let refused = opens_so NotBegun opens in
       record {
         moments = refused.moments;
-        run = λ told frames closed listed.
-            absurd (some_store (shape_at layout me) listed.half (d.seen old) (none refl told) listed.in_force);
+        run = λ told form frames closed listed.
+            absurd (some_store (shape_at layout me) form listed.half (d.seen old) (none refl told) listed.in_force);
         not_worn = λ is. absurd cc;
         cut = λ is. absurd cc;
         not_begun = λ is. absurd cc;

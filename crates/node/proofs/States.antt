@@ -10,8 +10,9 @@ use Rattle.node.specs.States.{StepsAs}
 -- states with the same parts are the same
 pub same_states : (a b : Node) → a.boot ≡ b.boot → a.seq ≡ b.seq → a.known ≡ b.known → a.round ≡ b.round → a.busy ≡ b.busy → a.live ≡ b.live
     → ((g e : ℕ) → a.live_in g e ≡ b.live_in g e) → ((g : ℕ) → a.learnt g ≡ b.learnt g) → ((g : ℕ) → a.ballots g ≡ b.ballots g)
-    → ((g e s : ℕ) → a.replicas g e s ≡ b.replicas g e s) → ((k : ℕ) → a.calls k ≡ b.calls k) → a.proposal ≡ b.proposal → a.job ≡ b.job → a ≡ b
-same_states a b boot seq known round busy live live_in learnt ballots replicas calls proposal job =
+    → ((g e s : ℕ) → a.replicas g e s ≡ b.replicas g e s) → ((k : ℕ) → a.calls k ≡ b.calls k) → a.proposal ≡ b.proposal → a.job ≡ b.job
+    → a.scrub ≡ b.scrub → a ≡ b
+same_states a b boot seq known round busy live live_in learnt ballots replicas calls proposal job scrub =
     λ i. record {
       boot = boot i;
       seq = seq i;
@@ -26,6 +27,7 @@ same_states a b boot seq known round busy live live_in learnt ballots replicas c
       calls = λ k. calls k i;
       proposal = proposal i;
       job = job i;
+      scrub = scrub i;
     }
 
 -- states that differ in what is under way alone

@@ -1,35 +1,24 @@
 -- What a synchronisation does next is taken up by its brick.
-use Rattle.std.proofs.Common.{◌≡◌, ◌≤◌, ◌<◌, ◌+◌, ◌++◌, ℕ, Bool, true, false, cond, if◌then◌else◌, nat_eq, is_some, List, [], ◌∷◌, Option, Some, None, refl, sym, ◌∙◌, ap, subst, arith}
-use Rattle.std.specs.Option.{option_map}
+use Rattle.std.proofs.Common.{◌≡◌, ◌≤◌, ◌+◌, ℕ, Bool, true, false, if◌then◌else◌, is_some, [], Option, Some, None, refl, ◌∙◌, ap, arith}
 use Rattle.std.specs.Ordering.{nat_cmp}
 use Rattle.std.specs.BTreeMap.{BTreeMap, get}
-use Rattle.std.proofs.lemmas.List.{append-nil, append_assoc}
+use Rattle.std.proofs.lemmas.Bool.Decides.{nat_tests}
 use Rattle.fab_base.specs.declared.identities.BrickId.{BrickId}
 use Rattle.fab_base.specs.declared.identities.GroupId.{GroupId}
 use Rattle.fab_base.specs.declared.member_lists.View.{View}
 use Rattle.fab_base.specs.Layouts.{Layout}
-use Rattle.messages.specs.declared.packets.Message.{Message}
-use Rattle.protocol.specs.declared.tellings.Told.{Told}
-use Rattle.protocol.specs.declared.tellings.Told.TheVariants.{Began}
 use Rattle.protocol.specs.declared.tellings.Report.{Report}
 use Rattle.protocol.specs.Jobs.{begun_job, synced_answer}
 use Rattle.protocol.specs.Views.{Learnt}
 use Rattle.protocol.specs.Nodes.{Node, read_begun, reporting, synced_at}
 use Rattle.stripe_code.specs.Codes.{coding}
-use Rattle.coord_phase.specs.Messages.{packets_from}
-use Rattle.node.specs.declared.jobs.Followed.{Followed}
-use Rattle.node.specs.declared.jobs.Followed.TheVariants as followed
 use Rattle.node.specs.declared.jobs.OpenJob.{OpenJob}
 use Rattle.node.specs.declared.open_calls.OpenCalls.{OpenCalls}
-use Rattle.node.specs.declared.open_work.OpenWork.{OpenWork}
 use Rattle.node.specs.declared.operations.Operation.{Operation}
-use Rattle.node.specs.declared.outs.Tellings.{Tellings}
-use Rattle.node.specs.declared.tasks.Tasks.{Tasks}
+use Rattle.node.specs.declared.scrubs.OpenScrub.{OpenScrub}
 use Rattle.node.specs.Jobs.{IsOpenJobOf, begins_sync}
-use Rattle.node.specs.Operations.{coordinator_of}
-use Rattle.node.specs.Outcomes.{Outcome, told_list}
-use Rattle.node.specs.States.{AreSameCalls, KeptParts, StepsAs, parts_with, state_in, state_with}
-use Rattle.node.specs.Tasks.{AreSameTasks, AreTasksOf, IsJobAt, read_seq, tasks_in}
+use Rattle.node.specs.Scrubs.{scrub_seq}
+use Rattle.node.specs.Tasks.{IsJobAt, IsScrubIn, read_seq}
 use Rattle.node.proofs.Hearing.{none_of}
 
 -- no operation has the call of a new read, which is one of the brick
@@ -42,6 +31,19 @@ read_is_at layout before after held same last open_is next =
       apart = none_of (get nat_cmp after.operations (read_seq held))
           (ap (λ (operations : BTreeMap ℕ Operation). is_some (get nat_cmp operations (read_seq held))) same
           ∙ before.fresh (read_seq held) (omega (arith, next)));
+    }
+
+-- a scrub is of the brick still, and has another call than the new read
+pub scrub_goes : (layout : Layout) (before after : OpenCalls) (held : OpenJob) (scrub : Option OpenScrub) → after.operations ≡ before.operations
+    → before.seq ≤ after.seq → read_seq held ≡ before.seq + 1 → IsScrubIn layout before None scrub → IsScrubIn layout after (Some held) scrub
+scrub_goes layout before after held None same later next is = tt
+scrub_goes layout before after held (Some s) same later next is =
+    let made = is.made in
+    record {
+      scrub_is = is.scrub_is;
+      made = omega (arith, made, later);
+      apart = ap (λ (operations : BTreeMap ℕ Operation). get nat_cmp operations (scrub_seq s)) same ∙ is.apart;
+      aside = grind (arith, nat_tests, made, next);
     }
 
 -- a synchronisation begins, where this is learnt

@@ -1,12 +1,11 @@
 -- What a reply that counts, and tells a later view, comes to.
-use Rattle.std.proofs.Common.{◌≡◌, ℕ, ◌-◌, Bool, true, cond, List, [], ◌∷◌, Option, Some, None, is_some, refl, sym, ◌∙◌, ap, subst}
+use Rattle.std.proofs.Common.{◌≡◌, ℕ, ◌-◌, true, [], ◌∷◌, Option, Some, None, is_some, refl, sym, ◌∙◌, ap, subst}
 use Rattle.std.specs.Option.{option_map}
 use Rattle.std.specs.Ordering.{nat_cmp}
 use Rattle.std.specs.BTreeMap.{get}
 use Rattle.fab_base.specs.declared.answers.Answer.{Answer}
 use Rattle.fab_base.specs.declared.identities.BrickId.{BrickId}
 use Rattle.fab_base.specs.declared.identities.ViewNo.{ViewNo}
-use Rattle.fab_base.specs.declared.stamps.Stamp.{Stamp}
 use Rattle.fab_base.specs.Layouts.{Layout}
 use Rattle.messages.specs.declared.calls.Call.{Call}
 use Rattle.messages.specs.declared.packets.Message.TheVariants as message
@@ -17,7 +16,7 @@ use Rattle.stripe_code.specs.Codes.{block_code, coding}
 use Rattle.protocol.specs.Coordinators as machine
 use Rattle.protocol.specs.Coordinators.{Coordinator, on_reply, with_reply}
 use Rattle.protocol.specs.Proposals.{Proposal}
-use Rattle.protocol.specs.Nodes.{Node, NodeStep, put, no_step, carried_out, replied_at, replied_ballot, fresh_stamp, known_after, with_call, with_known}
+use Rattle.protocol.specs.Nodes.{NodeStep, put, no_step, carried_out, replied_at, replied_ballot, fresh_stamp, known_after, with_call, with_known}
 use Rattle.coord_phase.specs.Messages.{packets_from}
 use Rattle.coord_phase.specs.Decisions.{decided_on}
 use Rattle.coord_phase.specs.Operations.{counts, heard, heard_at, seat_told}
@@ -27,7 +26,6 @@ use Rattle.node.specs.declared.open_work.OpenWork.{OpenWork}
 use Rattle.node.specs.declared.proposals.Proposals.{Proposals}
 use Rattle.node.specs.Operations.{shown_of, coordinator_of, ends_or_waits, EndsOrWaits}
 use Rattle.node.specs.declared.open_calls.OpenCalls.{OpenCalls}
-use Rattle.node.specs.declared.open_work.Turn.{Turn}
 use Rattle.node.specs.declared.open_work.Turn.TheVariants as turn
 use Rattle.node.specs.declared.proposals.Heard.{Heard}
 use Rattle.node.specs.Moves.{HasCounted, IsTurn, ended_step, step_on}
@@ -105,7 +103,7 @@ module _ (layout : Layout) (before : OpenWork) (from : BrickId) (call : Call) (o
       (λ k. shown_after coordinator_of before.calls.operations after.calls.operations call.seq (Some has.now) has.others k
       ∙ ap (λ (c : Coordinator). put f call.seq (Some c) k) now_is
       ∙ ap (λ (seq : ℕ). put f seq (Some (with_it seat_found.0)) k) (sym at.seq))
-      (ap (λ (proposals : Proposals). proposal_in proposals.under_way) same) refl))
+      (ap (λ (proposals : Proposals). proposal_in proposals.under_way) same) refl refl))
 
 -- a reply that tells a later view is to the proposal, where no operation of its call is open
 pub goes_is : (layout : Layout) (now : ℕ) (from : BrickId) (call : Call) (told : Reply) (work : OpenWork) (kept : KeptParts) (view : ViewNo) (lineage : Lineage)

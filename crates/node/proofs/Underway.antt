@@ -1,34 +1,30 @@
 -- All that a brick has under way, beside a synchronisation.
-use Rattle.std.proofs.Common.{◌≡◌, ◌≤◌, ◌<◌, ◌+◌, ℕ, Bool, true, false, cond, if◌then◌else◌, nat_eq, [], Option, Some, None, is_some, refl, sym, ◌∙◌, ap, subst, arith}
+use Rattle.std.proofs.Common.{◌≡◌, ◌≤◌, ℕ, Bool, false, cond, nat_eq, [], Option, Some, None, is_some, refl, sym, ◌∙◌, ap, subst, arith}
 use Rattle.std.specs.Option.{option_map}
 use Rattle.std.specs.Ordering.{nat_cmp}
-use Rattle.std.specs.BTreeMap.{get, is_at}
+use Rattle.std.specs.BTreeMap.{get}
 use Rattle.fab_base.specs.declared.identities.BrickId.{BrickId}
 use Rattle.fab_base.specs.Layouts.{Layout}
 use Rattle.messages.specs.declared.calls.Call.{Call}
-use Rattle.messages.specs.declared.packets.Message.TheVariants as message
 use Rattle.messages.specs.declared.replies.Reply.{Reply}
-use Rattle.protocol.specs.Coordinators.{Coordinator, Next, Ignores, Waits, Sends, Makes, Ends, on_reply}
-use Rattle.protocol.specs.Jobs.{Job}
+use Rattle.protocol.specs.Coordinators.{Coordinator, Next, Ignores, Waits, Sends, Makes, Ends, counts_at, hearing, on_reply}
 use Rattle.protocol.specs.Proposals.{Proposal, Voting, Ignored, Waited, Asks, Ended, voted}
 use Rattle.protocol.specs.Replicas.{fresh_replica}
-use Rattle.protocol.specs.Nodes.{Node, NodeStep, put, carried_ballot, carried_for, carried_out, fresh_stamp, job_reading, known_after, replied_at, replied_ballot, view_in, with_known}
+use Rattle.protocol.specs.Nodes.{Node, NodeStep, put, carried_ballot, carried_for, carried_out, fresh_stamp, job_reading, known_after, replied_at, replied_ballot, scrub_of, view_in, with_known}
 use Rattle.stripe_code.specs.Codes.{coding}
 use Rattle.node.specs.declared.jobs.OpenJob.{OpenJob}
 use Rattle.node.specs.declared.open_calls.OpenCalls.{OpenCalls}
 use Rattle.node.specs.declared.open_work.OpenWork.{OpenWork}
-use Rattle.node.specs.declared.open_work.Turn.{Turn}
-use Rattle.node.specs.declared.open_work.Turn.TheVariants as turn
 use Rattle.node.specs.declared.operations.Operation.{Operation}
-use Rattle.node.specs.declared.tasks.Tasks.{Tasks}
-use Rattle.node.specs.Jobs.{FollowsFrom, Reading, reading_in, with_reading}
-use Rattle.node.specs.Moves.{HasCounted, IsTurn}
+use Rattle.node.specs.declared.scrubs.OpenScrub.{OpenScrub}
+use Rattle.node.specs.Jobs.{Reading, reading_in, with_reading}
 use Rattle.node.specs.Operations.{coordinator_of}
 use Rattle.node.specs.Outcomes.{Outcome}
+use Rattle.node.specs.Scrubs.{IsScrubAside, Scrubbing, scrub_seq, scrubbing_in, with_scrubbing}
 use Rattle.node.specs.States.{AreCallsOf, KeptParts, StepsAs, state_in, state_with}
-use Rattle.node.specs.Tasks.{AreTasksOf, IsAside, IsJobAt, IsJobIn, read_seq}
-use Rattle.node.proofs.Beside.{ApartFrom, beside, eq_turned, none_reads}
-use Rattle.node.proofs.Tables.{is_at_number}
+use Rattle.node.specs.Tasks.{IsAside, IsJobIn, IsScrubIn, read_seq}
+use Rattle.node.proofs.Beside.{ApartFrom, beside}
+use Rattle.node.proofs.ScrubsBeside.{ScrubApart, beside_scrub}
 
 -- ---- steps
 
@@ -37,6 +33,16 @@ pub steps_beside : (me : BrickId) (r : Option Reading) (state : Node) (step : No
     → StepsAs me (with_reading r state) (beside r step) outs
 steps_beside me r state step outs steps =
     record { packets = steps.packets; told = steps.told; answers = steps.answers; reports = steps.reports; state_is = ap (with_reading r) steps.state_is }
+
+pub steps_beside_scrub : (me : BrickId) (s : Option Scrubbing) (state : Node) (step : NodeStep) (outs : Outcome) → StepsAs me state step outs
+    → StepsAs me (with_scrubbing s state) (beside_scrub s step) outs
+steps_beside_scrub me s state step outs steps =
+    record { packets = steps.packets; told = steps.told; answers = steps.answers; reports = steps.reports; state_is = ap (with_scrubbing s) steps.state_is }
+
+-- a scrub that has another call has it as the machine sees it
+pub scrub_apart_so : (scrub : Option OpenScrub) (seq : ℕ) → IsScrubAside scrub seq → ScrubApart (scrubbing_in scrub) seq
+scrub_apart_so None seq aside = tt
+scrub_apart_so (Some held) seq aside = aside
 
 -- a synchronisation whose read has another call has it as the machine sees it
 pub apart_so : (job : Option OpenJob) (seq : ℕ) → IsAside job seq → ApartFrom (reading_in job) seq
@@ -96,6 +102,23 @@ job_kept layout before after (Some held) keeps is =
       apart = unmapped (get nat_cmp after.calls.operations (read_seq held)) (kept.free (ap (option_map coordinator_of) is.apart));
     }
 
+-- a scrub is of the brick still, where the synchronisation is as it was
+pub scrub_kept : (layout : Layout) (before after : OpenWork) (job : Option OpenJob) (scrub : Option OpenScrub)
+    → ((held : OpenScrub) → scrub ≡ Some held → KeepsFree (scrub_seq held) (state_in no_parts before) (state_in no_parts after))
+    → IsScrubIn layout before.calls job scrub → IsScrubIn layout after.calls job scrub
+unfolding state_with
+scrub_kept layout before after job None keeps is = tt
+scrub_kept layout before after job (Some held) keeps is =
+    let kept = keeps held refl in
+    let made = is.made in
+    let later = kept.later in
+    record {
+      scrub_is = is.scrub_is;
+      made = omega (arith, made, later);
+      apart = unmapped (get nat_cmp after.calls.operations (scrub_seq held)) (kept.free (ap (option_map coordinator_of) is.apart));
+      aside = is.aside;
+    }
+
 -- ---- replies
 
 module _ (layout : Layout) (me : BrickId) where
@@ -124,19 +147,19 @@ module _ (layout : Layout) (me : BrickId) where
   heard_free from node call reply (Some p) seq = ballot_free node p (voted layout.bricks p from call reply) seq
 
   -- a reply gives no operation another call
-  pub replied_free : (now : ℕ) (from : BrickId) (node : Node) (call : Call) (reply : Reply) (o : Option Coordinator) (seq : ℕ) → node.job ≡ None
+  pub replied_free : (now : ℕ) (from : BrickId) (node : Node) (call : Call) (reply : Reply) (o : Option Coordinator) (seq : ℕ) → node.job ≡ None → node.scrub ≡ None
       → nat_eq seq call.seq ≡ false → ((c : Coordinator) → o ≡ Some c → c.call.seq ≡ call.seq)
       → KeepsFree seq node (replied_at (coding layout) me now from node call reply o).node
-  replied_free now from node call reply None seq idle other at =
+  replied_free now from node call reply None seq idle quiet other at =
       let kept = heard_free from (with_known node (known_after node.known reply)) call reply node.proposal seq in
       record { later = kept.later; free = kept.free }
-  replied_free now from node call reply (Some c) seq idle other at =
+  replied_free now from node call reply (Some c) seq idle quiet other at =
       let known = known_after node.known reply in
+      let heard = hearing c from reply (counts_at layout.block c from.0 call reply) in
       let next = on_reply layout.block (coding layout).code (fresh_stamp me c.stamp.view now node.boot known) c from call reply in
       let other_here = subst (λ (k : ℕ). nat_eq seq k ≡ false) (sym (at c refl)) other in
       subst (λ (step : NodeStep). KeepsFree seq node step.node)
-      (sym (ap (carried_for (coding layout) me now node known c next)
-      (ap (λ (job : Option Job). job_reading job c.call.seq) idle)))
+      (λ i. carried_for (coding layout) me now node known c heard next (job_reading (sym idle i) c.call.seq) (scrub_of (sym quiet i) c.call.seq))
       (carried_free node known c next seq other_here)
 
 -- the coordinators of the open operations of a brick of the layout have their calls

@@ -1,10 +1,10 @@
 -- What the machine sees of a brick, and what its store shows of it.
-use Rattle.std.proofs.Common.{◌≡◌, ℕ, suc, Bool, cond, List, [], ◌∷◌, Option, Some, refl, sym, ◌∙◌, ap, subst}
+use Rattle.std.proofs.Common.{◌≡◌, ℕ, suc, Bool, cond, List, [], ◌∷◌, Some, refl, sym, ◌∙◌, ap, subst}
 use Rattle.std.specs.Prelude.{length, map}
 use Rattle.std.specs.Option.{option_map}
 use Rattle.std.specs.Ordering.{nat_cmp}
 use Rattle.std.specs.Map.{lookup}
-use Rattle.std.specs.BTreeMap.{get, is_at}
+use Rattle.std.specs.BTreeMap.{is_at}
 use Rattle.fab_base.specs.declared.identities.BrickId.{BrickId}
 use Rattle.frame_store.specs.declared.shapes.Shape.{Shape}
 use Rattle.version_log.specs.Versions.{Version}
@@ -18,6 +18,7 @@ use Rattle.node.specs.Operations.{coordinator_of}
 use Rattle.node.specs.States.{state_with, parts_in}
 use Rattle.node.specs.Tasks.{tasks_in}
 use Rattle.node.specs.Jobs.{calls_with, reading_in}
+use Rattle.node.specs.Scrubs.{calls_with_scrub, scrubbing_in}
 use Rattle.node.specs.Running.{running, state_of, shape_at, IsKept, IsBrickOf, ImageShows}
 use Rattle.node.proofs.States.{same_states}
 use Rattle.node.proofs.Tables.{map_cond}
@@ -40,7 +41,8 @@ module _ {D : Type 0} (layout : Layout) (tasks : Tasks) (store : Brick D) where
   unfolding state_of state_with
   seen_so boot =
       same_states _ _ (sym boot) refl refl refl (map_length (λ e. (e.0, coordinator_of e.1)) tasks.work.calls.operations.entries) refl (λ g e. refl) (λ g. refl)
-      (λ g. refl) (λ g e s. refl) (λ k i. calls_with (reading_in tasks.job) (λ q. map_lookup coordinator_of (is_at (nat_cmp q)) tasks.work.calls.operations.entries i) k) refl refl
+      (λ g. refl) (λ g e s. refl) (λ k i. calls_with_scrub (scrubbing_in tasks.scrub) (calls_with (reading_in tasks.job)
+      (λ q. map_lookup coordinator_of (is_at (nat_cmp q)) tasks.work.calls.operations.entries i)) k) refl refl refl
 
   -- what the machine's brick keeps is what the store keeps
   pub kept_so : IsBrickOf layout store.shape store.state tasks → IsKept layout store.state (state_of (running layout tasks store))

@@ -1,5 +1,5 @@
 -- The synchronisation of a brick, as the machine sees it.
-use Rattle.std.specs.Prelude.{◌≡◌, ℕ, ◌+◌, ◌++◌, length, List, [], ◌∷◌, Option, Some, None, is_some, Bool, true, false}
+use Rattle.std.specs.Prelude.{◌≡◌, ℕ, ◌+◌, ◌++◌, length, List, [], ◌∷◌, Option, Some, None, Bool, true, false}
 use Rattle.std.specs.Option.{option_map}
 use Rattle.fab_base.specs.declared.identities.BrickId.{BrickId}
 use Rattle.fab_base.specs.declared.identities.GroupId.{GroupId}
@@ -7,19 +7,17 @@ use Rattle.fab_base.specs.declared.answers.Cause.{Cause}
 use Rattle.fab_base.specs.declared.member_lists.View.{View}
 use Rattle.fab_base.specs.Layouts.{Layout, Group}
 use Rattle.messages.specs.declared.packets.Packet.{Packet}
-use Rattle.messages.specs.declared.calls.Call.{Call}
 use Rattle.quorum.specs.Quorums.{IsWithinLimits}
 use Rattle.protocol.specs.declared.tellings.SyncAnswer.TheVariants.{Synced, Stopped, Spent}
 use Rattle.protocol.specs.declared.tellings.SyncAnswer.{SyncAnswer}
 use Rattle.protocol.specs.Views.{group_kept}
-use Rattle.protocol.specs.Coordinators as machine
 use Rattle.protocol.specs.Coordinators.{Coordinator}
 use Rattle.protocol.specs.declared.tellings.Answered.{Answered}
 use Rattle.protocol.specs.Jobs.{Job, abort_cause, job_after}
 use Rattle.protocol.specs.declared.tellings.Report.{Report}
 use Rattle.protocol.specs.declared.tellings.Told.{Told}
 use Rattle.protocol.specs.declared.tellings.Told.TheVariants.{Began, Closed}
-use Rattle.protocol.specs.Nodes.{Node, NodeStep, put, reading, reporting, with_job, carried_out, carried_read, job_goes, read_closed, read_begun, synced_packets, then_does}
+use Rattle.protocol.specs.Nodes.{Node, NodeStep, put, reading, reporting, with_job, job_goes, read_begun, synced_packets}
 use Rattle.coord_phase.specs.Messages.{packets_from}
 use Rattle.coord_phase.specs.Operations.{PriorIsWithinLimits}
 use Rattle.stripe_code.specs.Codes.{coding}
@@ -30,7 +28,7 @@ use Rattle.node.specs.declared.jobs.Followed.{Followed}
 use Rattle.node.specs.declared.jobs.Followed.TheVariants as followed
 use Rattle.node.specs.declared.outs.Tellings.{Tellings}
 use Rattle.node.specs.Operations.{coordinator_of, IsOperationOf}
-use Rattle.node.specs.Outcomes.{Outcome, told_list}
+use Rattle.node.specs.Outcomes.{told_list}
 
 -- ---- what is under way
 

@@ -7,11 +7,12 @@ use Rattle.fab_disk.specs.Changing.{End, Whole, Cut, NotBegun}
 use Rattle.fab_disk.specs.Disk.{IsUntouched, LeavesOnly, Kept}
 use Rattle.fab_disk.specs.Plan.{IsRun}
 use Rattle.frame_store.specs.declared.frames.Frame.{Frame}
+use Rattle.frame_store.specs.declared.shapes.Form.{Form}
 use Rattle.frame_store.specs.Images.{OpensAs}
+use Rattle.frame_store.specs.Layouts.{formed}
 use Rattle.brick_store.specs.declared.faults.OpenFault.{OpenFault}
 use Rattle.brick_store.specs.declared.faults.OpenFault.TheVariants.{Disk, NotAStore}
-use Rattle.brick_store.specs.Calls.{opening_calls}
-use Rattle.brick_store.specs.Openings.{IsAllowedOr, StopsOpening, opens_appendable}
+use Rattle.brick_store.specs.Openings.{IsAllowedOr, StopsOpening, calls_on_opening}
 use Rattle.protocol.specs.Nodes.{Node}
 use Rattle.node.specs.Running.{Running, shape_at, ImageShows, ShowsEither, reopened}
 
@@ -36,16 +37,16 @@ pub record OpensBrick {D : Type 0} (d : on_disk.Ghosts D) (layout : Layout) (me 
   -- At each moment each image is one that the disk allowed before, or shows the brick as it was, or opened once more.
   pub moments : d.tells → (before : Node) → ImageShows layout me before (d.seen old)
       → LeavesOnly d.moment d.left_since old new (IsAllowedOr (d.may_leave old) (ShowsEither layout me before (reopened before)))
-  -- It is a run of five calls, or of twelve where the list of frames can't be appended to.
-  pub run : d.tells → (frames : List Frame) (closed : Bool) → OpensAs (shape_at layout me) frames closed (d.seen old)
-      → IsRun d.tells d.moment d.plan d.unlisted (opening_calls (opens_appendable (shape_at layout me) frames closed)) old new (end ≡ Whole) (end ≡ Cut)
+  -- It is a run of five calls, or of twelve where the list of frames can't be appended to, and of thirteen over a store of the old format.
+  pub run : d.tells → (form : Form) (frames : List Frame) (closed : Bool) → OpensAs (formed form (shape_at layout me)) frames closed (d.seen old)
+      → IsRun d.tells d.moment d.plan d.unlisted (calls_on_opening (formed form (shape_at layout me)) frames closed) old new (end ≡ Whole) (end ≡ Cut)
   -- Cut short where no fault is listed, its store was not worn.
   pub not_worn : end ≡ Cut → d.tells → d.unlisted old → (before : Node) → ImageShows layout me before (d.seen old) → before.boot < 2 ^ 32 - 1
   -- What the last sync left is then as it was before, or shows the brick as it was. So does what a read gives, until the last call but one was made;
   -- from then on that shows the brick with its store opened once more.
-  pub cut : end ≡ Cut → d.tells → d.unlisted old → (frames : List Frame) (closed : Bool) → OpensAs (shape_at layout me) frames closed (d.seen old)
-      → (before : Node) → ImageShows layout me before (d.seen old)
-      → StopsOpening d.seen d.certain d.moment (opening_calls (opens_appendable (shape_at layout me) frames closed)) old new
+  pub cut : end ≡ Cut → d.tells → d.unlisted old → (form : Form) (frames : List Frame) (closed : Bool)
+      → OpensAs (formed form (shape_at layout me)) frames closed (d.seen old) → (before : Node) → ImageShows layout me before (d.seen old)
+      → StopsOpening d.seen d.certain d.moment (calls_on_opening (formed form (shape_at layout me)) frames closed) old new
       (ImageShows layout me before) (ImageShows layout me (reopened before))
   pub not_begun : end ≡ NotBegun → IsUntouched d.seen d.may_leave d.moment d.left_since old new
   pub cause : Kept (d.faults old) (d.faults new) (d.sound old) (d.sound new) (end ≡ Cut)

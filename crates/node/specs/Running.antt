@@ -18,13 +18,15 @@ use Rattle.protocol.specs.Proposals.{Proposal}
 use Rattle.replica.specs.Parts.{part_in, learnt_in, ballots_in, live_at, IsPartsOf, ListsStand}
 use Rattle.node.specs.Proposals.{proposal_in}
 use Rattle.node.specs.Jobs.{Reading, calls_with, reading_in}
+use Rattle.node.specs.Scrubs.{Scrubbing, calls_with_scrub, scrubbing_in}
 use Rattle.node.specs.declared.tasks.Tasks.{Tasks}
 use Rattle.node.specs.declared.operations.Operation.{Operation}
 use Rattle.node.specs.Operations.{coordinator_of}
 use Rattle.node.specs.Tasks.{AreTasksOf}
 
 -- A running brick: the disk's layout, its number, its last call number, the greatest time that it knows, the coordinators of its open operations
--- by their call numbers, which rise, the greatest round of a ballot that it knows, its proposal, its synchronisation with the read of that, and its store.
+-- by their call numbers, which rise, the greatest round of a ballot that it knows, its proposal, its synchronisation with the read of that, its scrub with the
+-- coordinator of that, and its store.
 pub record Running (D : Type 0) : Type 0 where
   pub layout : Layout
   pub me : BrickId
@@ -34,6 +36,7 @@ pub record Running (D : Type 0) : Type 0 where
   pub round : ℕ
   pub proposal : Option Proposal
   pub reading : Option Reading
+  pub scrubbing : Option Scrubbing
   pub brick : Brick D
 
 -- what the machine sees of it
@@ -50,9 +53,10 @@ state_of node =
       learnt = learnt_in node.layout node.brick.state;
       ballots = ballots_in node.brick.state;
       replicas = part_in node.layout.block node.brick.state;
-      calls = calls_with node.reading (λ k. lookup (is_at (nat_cmp k)) node.calls);
+      calls = calls_with_scrub node.scrubbing (calls_with node.reading (λ k. lookup (is_at (nat_cmp k)) node.calls));
       proposal = node.proposal;
       job = option_map (λ (r : Reading). r.job) node.reading;
+      scrub = option_map (λ (s : Scrubbing). s.scrub) node.scrubbing;
     }
 
 -- the coordinators of operations by number
@@ -71,6 +75,7 @@ running layout tasks store =
       round = tasks.work.proposals.rounds;
       proposal = proposal_in tasks.work.proposals.under_way;
       reading = reading_in tasks.job;
+      scrubbing = scrubbing_in tasks.scrub;
       brick = store;
     }
 

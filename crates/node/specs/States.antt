@@ -79,6 +79,7 @@ state_with parts calls =
       calls = λ k. option_map coordinator_of (get nat_cmp calls.operations k);
       proposal = parts.proposal;
       job = None;
+      scrub = None;
     }
 
 -- the state of a brick that keeps this, and has these operations and this proposal under way
@@ -102,6 +103,7 @@ with_parts boot parts =
       calls = machine.no_calls;
       proposal = parts.proposal;
       job = None;
+      scrub = None;
     }
 
 -- a brick that keeps this, whose store was opened so many times, and that has done nothing since
@@ -121,6 +123,7 @@ fresh_node boot kept =
       calls = machine.no_calls;
       proposal = None;
       job = None;
+      scrub = None;
     }
 
 -- an open operation of this number, at a brick of this layout

@@ -200,7 +200,7 @@ fn abort_cause(answer: &Answer) -> Option<Cause>
 }
 
 /// What is told of a read of this call that has ended: this of its version, if anything, and that it was aborted by a cause or answered.
-fn closed(seq: u64, version: Option<Told>, cause: Option<Cause>) -> Tellings
+pub(crate) fn closed(seq: u64, version: Option<Told>, cause: Option<Cause>) -> Tellings
     ensures { result ≡ closed seq version cause }
 {
     Tellings {

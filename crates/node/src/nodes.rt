@@ -11,7 +11,7 @@ ghost use Rattle.brick_state.specs.States.{StateOf};
 ghost use Rattle.brick_store.specs.Images.{IsFound};
 ghost use Rattle.brick_store.specs.Openings.{IsCounted, IsListedOnOpening, IsWornOut};
 ghost use Rattle.protocol.specs.Nodes as machine;
-ghost use Rattle.protocol.specs.Nodes.{view_at, refusal_of, invoked, heard, node_learnt, proposal_refusal, proposed, sync_refusal, synced_at, view_in, received, absorbed, ticked, restarted};
+ghost use Rattle.protocol.specs.Nodes.{view_at, refusal_of, invoked, heard, node_learnt, proposal_refusal, proposed, scrub_refusal, scrubbed_at, sync_refusal, synced_at, view_in, received, absorbed, ticked, restarted};
 ghost use Rattle.protocol.specs.Proposals.{Proposal};
 ghost use Rattle.protocol.specs.Views.{view_told};
 ghost use Rattle.fab_base.specs.Layouts.{Group, group_of};
@@ -37,17 +37,17 @@ use crate::sending::answer_messages;
 use crate::tasks::Tasks;
 use crate::teaching::{is_view, view_told};
 use brick_store::{BrickStore, OpenFault, State};
-use fab_base::{Ask, BrickId, GroupId, Refusal, StripeNo, View};
+use fab_base::{Ask, BrickId, GroupId, Members, Refusal, StripeNo, View};
 use fab_disk::{Armed, Disk, Plan};
 use layout::Layout;
 use messages::{Call, Message, Messages, Packet, Reply};
 use std::alloc::Global;
 use std::marker::Model;
 
-/// A running brick: its parts of stripes, which its disk keeps, the operations that it coordinates, its proposal of a view's successor, and its synchronisation of
-/// a view.
+/// A running brick: its parts of stripes, which its disk keeps, the operations that it coordinates, its proposal of a view's successor, its synchronisation of a
+/// view, and its scrub of a stripe.
 ///
-/// A clause sees the layout, the brick's number, the operations that it has open, its proposal, its synchronisation, and its store.
+/// A clause sees the layout, the brick's number, the operations that it has open, its proposal, its synchronisation, its scrub, and its store.
 pub struct Node<D: Disk> {
     alloc: Global,
     layout: Layout,
@@ -234,8 +234,55 @@ impl<D: Disk> Node<D> {
         )
     }
 
+    /// Begins to scrub a stripe, in the view that the brick has learnt of its group, at this time of its clock: these members are brought to one version, and it is
+    /// reported in the end who of them lagged.
+    ///
+    /// # Errors
+    ///
+    /// `Halted` exactly where an earlier call answered `Disk`. `Refused` exactly where the brick does not begin it, with the first reason
+    /// there is: there is no such group or stripe; these are no distinct members of the view, or fewer than a quorum of it; it has a scrub; no later time or call
+    /// number is left. `NoMemory` where no memory was left.
+    pub fn scrub(
+        &mut self,
+        now: u64,
+        group: GroupId,
+        stripe: StripeNo,
+        members: &[BrickId],
+    ) -> Result<Outs, NodeFault>
+        ensures refused { RefusesAs result (scrub_refusal self.old.layout (state_of self.old) group stripe members.now) }
+        ensures step { IfOk result (StepsAs self.old.me (state_of self.new) (scrubbed_at (coding self.old.layout) self.old.me now (state_of self.old) group stripe members.now)) }
+        ensures err { OnErr result (state_of self.new ≡ state_of self.old) }
+        ensures few { IfOk result (λ outs. length outs.messages ≤ 32) }
+        ensures same { IsSameBrick self.old self.new }
+        ensures brick { self.new.brick ≡ self.old.brick }
+        ensures halted { self.old.brick.halted ≡ true → result ≡ Err NodeFault.Halted }
+        ensures only_halted { result ≡ Err NodeFault.Halted → self.old.brick.halted ≡ true }
+        ensures not_disk { result ≢ Err NodeFault.Disk }
+    {
+        if self.is_halted() {
+            return Err(NodeFault::Halted);
+        }
+        let Some(kept) = self.layout.group(group) else {
+            return Err(NodeFault::Refused(Refusal::NoStripe));
+        };
+        let view = learnt_view(&self.store, group, kept);
+        if let Some(refusal) = self
+            .tasks
+            .scrub_refusal(kept, &view.members, stripe, members)
+        {
+            return Err(NodeFault::Refused(refusal));
+        }
+        let Some(members) = Members::new(members) else {
+            unreachable!()
+        };
+        match self.tasks.scrub(self.alloc, &self.layout, group, view, stripe, members, now)? {
+            Some(outs) => Ok(outs),
+            None => unreachable!(),
+        }
+    }
+
     /// At a tick of the brick's clock each open operation, in the order of beginning, sends its present phase again to each member
-    /// without a reply that counts, then the proposal, and last the read of the synchronisation. Each message of a later view than view 1 goes right after one
+    /// without a reply that counts, then the proposal, the read of the synchronisation, and last the scrub. Each message of a later view than view 1 goes right after one
     /// that teaches its receiver that view.
     ///
     /// # Errors
@@ -243,7 +290,7 @@ impl<D: Disk> Node<D> {
     /// `Halted` exactly where an earlier call answered `Disk`. `NoMemory` where no memory was left.
     pub fn on_tick(&self) -> Result<Messages, NodeFault>
         ensures packets { IfOk result (λ messages. packets_from self.now.me messages.items ≡ ticked (coding self.now.layout) self.now.me (state_of self.now)) }
-        ensures few { IfOk result (λ messages. vec_len messages ≤ 4224) }
+        ensures few { IfOk result (λ messages. vec_len messages ≤ 4288) }
         ensures halted { self.now.brick.halted ≡ true → result ≡ Err NodeFault.Halted }
         ensures only { OnErr result ((result ≡ Err NodeFault.Halted × (self.now.brick.halted ≡ true)) ⊎ (result ≡ Err NodeFault.NoMemory)) }
     {
@@ -514,8 +561,8 @@ impl<D: Disk> Node<D> {
         self.tasks.work.calls.next_seq()
     }
 
-    /// Whether the operation of the call of a number is open, or the call is that of the synchronisation's read: it began since the brick started, and has not
-    /// ended.
+    /// Whether the operation of the call of a number is open, or the call is that of the synchronisation's read or of the scrub: it began since the brick started, and
+    /// has not ended.
     #[tactic(auto, unfolding(crate::specs::Running::state_of))]
     pub fn is_open(&self, seq: u64) -> bool
         ensures { result ≡ is_some ((state_of self.now).calls seq) }
@@ -523,7 +570,7 @@ impl<D: Disk> Node<D> {
         self.tasks.is_open(seq)
     }
 
-    /// The view of the open operation of the call of a number, or of the synchronisation's read. None exactly where the call is that of neither.
+    /// The view of the open operation of the call of a number, of the synchronisation's read, or of the scrub.
     pub fn view_of(&self, seq: u64) -> Option<View>
         ensures { result ≡ option_map view_in ((state_of self.now).calls seq) }
     {

@@ -1,10 +1,9 @@
 //! The open operations of a brick.
 
-ghost use Rattle.std.specs.Prelude.{◌≡◌, [], ◌∷◌, ◌++◌, Some};
-ghost use Rattle.protocol.specs.declared.phases.Counted.{Counted};
-ghost use Rattle.protocol.specs.Coordinators.{mover_of, lowest_mover};
+ghost use Rattle.std.specs.Prelude.{◌≡◌};
 ghost use Rattle.node.specs.Kinds.{shown_in};
 
+use crate::movers::moved_cause;
 use crate::outs::{Outs, Tellings};
 use crate::sending::{messages_in, put_collects};
 use crate::teaching::teaching;
@@ -12,40 +11,12 @@ use coord_block::BlockOp;
 use coord_phase::{News, Stage};
 use coord_recover::Recovery;
 use coord_stripe::StripeOp;
-use fab_base::{Answer, Ask, BrickId, CallId, Cause, Members, NoMem, Op, Stamp, View, ViewNo};
+use fab_base::{Answer, Ask, BrickId, CallId, Members, NoMem, Op, Stamp, View, ViewNo};
 use layout::{Group, Layout};
-use messages::{Call, Message, Messages, Next, Reply};
-use protocol::{Answered, Counted, Mover, Told};
+use messages::{Call, Message, Messages, Next, Turn};
+use protocol::{Answered, Told};
 use stamp_store::StampSource;
 use std::alloc::Global;
-
-/// The member that told a later view, where this reply tells one.
-fn mover_of(counted: &Counted) -> Option<Mover>
-    ensures { result ≡ mover_of counted.now }
-{
-    match &counted.reply {
-        Reply::Moved { view, .. } => Some(Mover {
-            seat: counted.seat,
-            brick: counted.brick,
-            view: *view,
-        }),
-        _ => None,
-    }
-}
-
-/// The member of the lowest seat that told a later view, of those whose replies count and of one that tells it last.
-fn lowest_mover(counted: &[Counted], last: Mover) -> Mover
-    ensures { (c : Counted) → mover_of c ≡ Some last → lowest_mover (counted.now ++ (c ∷ [])) ≡ Some result }
-{
-    let Some((first, others)) = counted.split_first() else {
-        return last;
-    };
-    let later = lowest_mover(others, last);
-    match mover_of(first) {
-        Some(mover) if later.seat >= mover.seat => mover,
-        _ => later,
-    }
-}
 
 /// An operation at the coordinator of its kind.
 #[derive(Drop)]
@@ -68,7 +39,7 @@ pub struct Operation {
 }
 
 impl Operation {
-    ghost use Rattle.std.specs.Prelude.{◌≡◌, ◌≤◌, true, false, Option, None, IfOk, IfSome, OnOk, OnErr, [], ◌∷◌, length, vec_len, vec_capacity};
+    ghost use Rattle.std.specs.Prelude.{◌≡◌, ◌≤◌, ◌<◌, ◌-◌, ◌^◌, true, false, Option, None, IfOk, IfSome, OnOk, OnErr, [], ◌∷◌, length, vec_len, vec_capacity};
     ghost use Rattle.fab_base.specs.declared.stamps.Stamp as machine_stamp;
     ghost use Rattle.quorum.specs.Quorums.{IsWithinLimits};
     ghost use Rattle.fab_base.specs.Layouts.{Layout};
@@ -81,6 +52,7 @@ impl Operation {
     ghost use Rattle.protocol.specs.Nodes.{view_in};
     ghost use Rattle.protocol.specs.Coordinators as machine;
     ghost use Rattle.coord_phase.specs.Operations.{counts, heard, with_state, without_last};
+    ghost use Rattle.coord_recover.specs.Recoveries.{entered};
     ghost use Rattle.node.specs.declared.operations.Kind.TheVariants as kind;
     ghost use Rattle.node.specs.Operations.{shown_of, coordinator_of, EndsOrWaits, IsOperationOf};
     ghost use Rattle.node.specs.Teaching.{teaching};
@@ -88,7 +60,7 @@ impl Operation {
     ghost use Rattle.node.specs.Sending.{collect_messages};
 
     /// The operation, as the coordinators of all kinds share it.
-    fn shown(&self) -> &coord_phase::Operation
+    pub(crate) fn shown(&self) -> &coord_phase::Operation
         ensures { result.now ≡ shown_of self.now }
     {
         match &*self.kind {
@@ -189,6 +161,30 @@ impl Operation {
         ensures few { IfOk result (λ begun. vec_len begun.1 ≤ 32) }
     {
         let (op, next) = Operation::start(alloc, layout, view, call, ask.copy(alloc)?, stamp)?;
+        // There is a message for each member that is asked, and these are few.
+        let _ = op.asked_count();
+        Ok((op, messages_in(alloc, next)))
+    }
+
+    /// The recovery of a stripe, which goes on from this operation in the next phase of its call: it, and the messages of that phase.
+    ///
+    /// # Errors
+    ///
+    /// `NoMemory` where no memory was left.
+    pub(crate) fn recovering(
+        alloc: Global,
+        op: &coord_phase::Operation,
+    ) -> Result<(Operation, Messages), NoMem>
+        requires phase { op.now.state.call.phase < 2 ^ 32 - 1 }
+        ensures operation { IfOk result (λ begun. shown_of begun.0 ≡ entered op.now Turn.Order) }
+        ensures sends { IfOk result (λ begun. begun.1.items ≡ phase_messages (shown_of begun.0)) }
+        ensures few { IfOk result (λ begun. vec_len begun.1 ≤ 32) }
+    {
+        let (recovery, next) = coord_recover::follow(alloc, op, Turn::Order)?;
+        let op = Operation {
+            prior: op.view().prior.copy(),
+            kind: Box::new(alloc, Kind::Recovery(recovery))?,
+        };
         // There is a message for each member that is asked, and these are few.
         let _ = op.asked_count();
         Ok((op, messages_in(alloc, next)))
@@ -401,6 +397,7 @@ impl Operation {
         ensures few { IfOk result (λ outs. length outs.messages ≤ 32) }
         ensures boot { stamps.new.boot ≡ stamps.old.boot }
         ensures group { OnOk result ((coordinator_of self.new).group ≡ (coordinator_of self.old).group) }
+        ensures only { OnOk result ((coordinator_of self.new).only ≡ (coordinator_of self.old).only) }
         ensures same { OnErr result (coordinator_of self.new ≡ coordinator_of self.old) }
         ensures block { OnErr result ((shown_of self.new).block ≡ (shown_of self.old).block) }
     {
@@ -423,8 +420,7 @@ impl Operation {
     pub(crate) fn may_end(&self, from: BrickId, message: &Message) -> bool
         ensures { result ≡ false → (fresh : Option machine_stamp.Stamp) → NeverEnds (decided_on fresh (shown_of self.now) from message.now) }
     {
-        self.counts(from, message)
-            && self.shown().counted().len() + 1 >= usize::from(self.shown().asked().quorum())
+        self.counts(from, message) && self.shown().counted().len() + 1 >= self.shown().needed()
     }
 
     /// Counts a reply on which the operation waits for more.
@@ -450,20 +446,9 @@ impl Operation {
     pub(crate) fn ended_by(&self, from: BrickId, view: ViewNo) -> Option<Answer>
         ensures { EndsOrWaits (coordinator_of self.now) from view result }
     {
-        let asked = self.shown().asked();
-        let Some(seat) = asked.seat_of(from) else {
-            return None;
-        };
-        let counted = self.shown().counted();
-        if counted.len() + 1 < usize::from(asked.quorum()) {
-            return None;
+        match moved_cause(self.shown(), from, view) {
+            None => None,
+            Some(cause) => Some(Answer::Aborted(cause)),
         }
-        let last = Mover {
-            seat,
-            brick: from,
-            view,
-        };
-        let Mover { brick, view, .. } = lowest_mover(counted, last);
-        Some(Answer::Aborted(Cause::Moved { brick, view }))
     }
 }

@@ -1,10 +1,11 @@
 //! What a brick's steps send, tell, answer and report.
 
-ghost use Rattle.std.specs.Prelude.{◌≡◌, ◌≤◌, None, [], ◌∷◌, length, option_to_list};
+ghost use Rattle.std.specs.Prelude.{◌≡◌, ◌≤◌, Some, None, [], ◌∷◌, length, option_to_list};
+ghost use Rattle.protocol.specs.declared.tellings.Told.TheVariants.{Began};
 ghost use Rattle.node.specs.Outcomes.{told_list};
 
 use fab_base::Answer;
-use messages::Messages;
+use messages::{Call, Messages};
 use protocol::{Answered, Report, Told};
 use std::alloc::Global;
 use std::marker::Model;
@@ -14,13 +15,13 @@ use std::marker::Model;
 pub struct Tellings {
     /// The version that an operation makes, or that it read and is answered at once, if it does either.
     pub version: Option<Told>,
-    /// The read of the brick's synchronisation that has ended, if one has.
+    /// The read of the brick's synchronisation, or its scrub, that has ended, if one has.
     pub ended: Option<Told>,
-    /// The next read of it, if one begins.
+    /// The next read of the synchronisation, or the scrub, if one begins.
     pub begun: Option<Told>,
 }
 
-/// What a step sends, in order, what it tells of operations, the operation that it answers, and what it reports of the brick's proposal or synchronisation. A
+/// What a step sends, in order, what it tells of operations, the operation that it answers, and what it reports of the brick's proposal, synchronisation or scrub. A
 /// clause sees each as a list, as the machine has it. No step answers or reports more than one, so one of each is held.
 #[derive(Drop)]
 pub struct Outs {
@@ -30,7 +31,7 @@ pub struct Outs {
     pub told: Tellings,
     /// The answer that is given, if one is.
     pub answer: Option<Answered>,
-    /// What is reported of the brick's proposal or synchronisation, if one ended.
+    /// What is reported of the brick's proposal, synchronisation or scrub, if one ended.
     pub report: Option<Report>,
 }
 
@@ -74,6 +75,16 @@ impl Tellings {
             version,
             ended: None,
             begun: None,
+        }
+    }
+
+    /// This read of the brick's own begins.
+    pub(crate) fn of_begun(call: Call) -> Tellings
+        ensures { result ≡ record { version = None; ended = None; begun = Some (Began call) } }
+    {
+        Tellings {
+            begun: Some(Told::Began { call }),
+            ..Tellings::nothing()
         }
     }
 
@@ -123,7 +134,7 @@ impl Outs {
         }
     }
 
-    /// The end of the brick's proposal or synchronisation is reported, and these messages are sent.
+    /// The end of the brick's proposal is reported, and these messages are sent.
     pub(crate) fn reporting(messages: Messages, report: Report) -> Outs
         ensures { result ≡ record { messages = messages.items; told = []; answers = []; reports = report ∷ [] } }
     {

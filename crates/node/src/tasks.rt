@@ -1,20 +1,24 @@
-//! All that a brick has under way: the operations that it coordinates, its proposal, and its synchronisation.
+//! All that a brick has under way: the operations that it coordinates, its proposal, its synchronisation, and its scrub.
 
 use crate::jobs::{Followed, OpenJob, ReadTurn, start};
+use crate::open_calls::fresh_stamp;
 use crate::open_work::{OpenWork, Turn};
 use crate::outs::{Begun, Outs, Tellings};
-use fab_base::{Ask, BrickId, GroupId, NoMem, View, ViewNo};
+use crate::refusals::{has_later_time, names_quorum};
+use crate::scrubs::OpenScrub;
+use fab_base::{Ask, BrickId, GroupId, Members, NoMem, Refusal, StripeNo, View, ViewNo};
 use layout::{Group, Layout};
 use messages::{Call, Message, Messages, Packet, Reply};
 use protocol::{Report, Told};
 use std::alloc::Global;
 
-/// The operations that a brick has open and its proposals, and its synchronisation, at most one. The read of that has a call among the operations', but is none of
-/// those of which a brick may have so many open.
+/// The operations that a brick has open and its proposals, its synchronisation and its scrub, at most one of each. The scrub, and the read of the synchronisation,
+/// have calls among the operations', but are none of those of which a brick may have so many open.
 #[derive(Drop)]
 pub struct Tasks {
     pub(crate) work: OpenWork,
     pub(crate) job: Option<OpenJob>,
+    pub(crate) scrub: Option<OpenScrub>,
 }
 
 /// What a reply that counts, and tells a later view, comes to.
@@ -26,6 +30,10 @@ pub enum TaskTurn {
     CountedRead,
     /// The read of the synchronisation of this group is to end, of which this is told, and this comes after it.
     Follows(GroupId, Tellings, Followed),
+    /// The scrub has counted it, and waits for more.
+    CountedScrub,
+    /// The scrub is to end, of which this is told and reported.
+    EndsScrub(Outs),
 }
 
 impl TaskTurn {
@@ -34,7 +42,7 @@ impl TaskTurn {
 }
 
 impl Tasks {
-    ghost use Rattle.std.specs.Prelude.{◌≡◌, ◌+◌, ◌-◌, ◌<◌, ◌≤◌, ◌^◌, ℕ, true, false, nat_eq, None, Some, is_some, option_map, IfOk, OnErr, length, vec_len};
+    ghost use Rattle.std.specs.Prelude.{◌≡◌, ◌+◌, ◌-◌, ◌<◌, ◌≤◌, ◌^◌, ℕ, true, false, not, nat_eq, None, Some, is_some, option_map, IfOk, IfSome, OnErr, length, vec_len};
     ghost use Rattle.std.specs.BTreeMap.{btree_map_len};
     ghost use Rattle.fab_base.specs.declared.identities.BrickId.{BrickId};
     ghost use Rattle.fab_base.specs.Layouts as layouts;
@@ -44,13 +52,18 @@ impl Tasks {
     ghost use Rattle.quorum.specs.Quorums.{IsWithinLimits};
     ghost use Rattle.stripe_code.specs.Codes.{coding};
     ghost use Rattle.protocol.specs.Views.{kept_by};
-    ghost use Rattle.protocol.specs.Nodes.{has_block, has_length, began_in, coordinator_in, proposed_in, replied_at, synced_at, ticked, view_in, with_round};
+    ghost use Rattle.protocol.specs.Nodes.{has_block, has_length, began_in, coordinator_in, is_spent, proposed_in, replied_at, scrub_refusal_in, synced_at, ticked, view_in, with_round};
     ghost use Rattle.coord_phase.specs.Operations.{PriorIsWithinLimits, group_in_view};
+    ghost use Rattle.protocol.specs.Coordinators.{AreEnough};
     ghost use Rattle.coord_phase.specs.Messages.{packets_from};
+    ghost use Rattle.node.specs.declared.jobs.OpenJob.{OpenJob};
+    ghost use Rattle.node.specs.declared.scrubs.OpenScrub.{OpenScrub};
     ghost use Rattle.node.specs.declared.tasks.Tasks.{Tasks};
+    ghost use Rattle.node.specs.Operations.{coordinator_of};
     ghost use Rattle.node.specs.States.{KeptParts, fresh_node, state_in, BeginsAs, StepsAs};
     ghost use Rattle.node.specs.Moves.{IsMoved};
-    ghost use Rattle.node.specs.Jobs.{FollowsFrom, IsKeptBy, followed_step, then_told, sent_in};
+    ghost use Rattle.node.specs.Jobs.{FollowsFrom, IsKeptBy, followed_step, reading_in, then_told, sent_in, with_reading};
+    ghost use Rattle.node.specs.Scrubs.{IsScrubAside, ScrubsAt, scrub_coordinator_of, scrubbed_by};
     ghost use Rattle.node.specs.Tasks.{tasks_in, counts_at, step_on, AreTasksOf, AreSameTasks, IsAside, IsTaskTurn, MayFinish, ReadsAt};
 
     /// Nothing is under way, and nothing was since this opening of the store.
@@ -63,6 +76,7 @@ impl Tasks {
         Tasks {
             work: OpenWork::new(alloc, me, boot),
             job: None,
+            scrub: None,
         }
     }
 
@@ -139,22 +153,66 @@ impl Tasks {
         }
     }
 
-    /// Whether the call of this number is that of an open operation, or of the read of the synchronisation.
+    /// Whether the brick has a scrub under way.
+    pub(crate) fn scrubs(&self) -> bool
+        ensures { result ≡ is_some self.now.scrub }
+    {
+        self.scrub.is_some()
+    }
+
+    /// Whether the scrub has the call of this number.
+    fn is_scrub(&self, seq: u64) -> bool
+        ensures yes { result ≡ true → ScrubsAt self.now.scrub seq }
+        ensures aside { result ≡ false → IsScrubAside self.now.scrub seq }
+    {
+        match &self.scrub {
+            Some(open) => open.has_call(seq),
+            None => false,
+        }
+    }
+
+    /// Whether the call of this number is that of an open operation, of the read of the synchronisation, or of the scrub.
     pub(crate) fn is_open(&self, seq: u64) -> bool
         ensures { (kept : KeptParts) → result ≡ is_some ((tasks_in kept self.now).calls seq) }
     {
-        self.reads(seq) || self.work.calls.is_open(seq)
+        if self.is_scrub(seq) {
+            return true;
+        }
+        if self.reads(seq) {
+            return true;
+        }
+        self.work.calls.is_open(seq)
     }
 
-    /// The view of the open operation of a call, or of the read of the synchronisation. None where there is none.
+    /// The view of the read of the synchronisation, if there is one.
+    fn read_view(&self) -> Option<View>
+        ensures { result ≡ option_map (λ (held : OpenJob). view_in (coordinator_of held.read)) self.now.job }
+    {
+        match &self.job {
+            Some(open) => Some(open.view()),
+            None => None,
+        }
+    }
+
+    /// The view of the scrub, if there is one.
+    fn scrub_view(&self) -> Option<View>
+        ensures { result ≡ option_map (λ (held : OpenScrub). view_in (scrub_coordinator_of held)) self.now.scrub }
+    {
+        match &self.scrub {
+            Some(open) => Some(open.view()),
+            None => None,
+        }
+    }
+
+    /// The view of the open operation of a call, of the read of the synchronisation, or of the scrub. None where there is none.
     pub(crate) fn view_of(&self, seq: u64) -> Option<View>
         ensures { (kept : KeptParts) → result ≡ option_map view_in ((tasks_in kept self.now).calls seq) }
     {
+        if self.is_scrub(seq) {
+            return self.scrub_view();
+        }
         if self.reads(seq) {
-            return match &self.job {
-                Some(open) => Some(open.view()),
-                None => unreachable!(),
-            };
+            return self.read_view();
         }
         self.work.calls.view_of(seq)
     }
@@ -176,6 +234,7 @@ impl Tasks {
         now: u64,
     ) -> Result<Outs, NoMem>
         requires idle { self.old.job ≡ None }
+        requires of { AreTasksOf layout.now self.old }
         requires keeps { IsKeptBy layout.now group view (kept_by view.members kept.now) }
         ensures step { (parts : KeptParts) → parts.learnt group.0 ≡ record { view = view; synced = synced } → IfOk result (StepsAs self.old.work.calls.me
             (tasks_in parts self.new) (synced_at (coding layout.now) self.old.work.calls.me now (tasks_in parts self.old) group)) }
@@ -191,12 +250,13 @@ impl Tasks {
     /// The synchronisation of a group goes on so, where its read, if it had one, has ended, of which this is told. What is sent, told and reported.
     fn take_up(&mut self, group: GroupId, told: Tellings, next: Followed) -> Outs
         requires begun { told.begun ≡ None }
+        requires apart { IsScrubAside self.old.scrub (self.old.work.calls.seq + 1) }
         requires from { (layout : layouts.Layout) × FollowsFrom layout self.old.work.calls.seq group next }
         ensures step { (kept : KeptParts) → StepsAs self.old.work.calls.me (tasks_in kept self.new)
-            (then_told told (followed_step self.old.work.calls.me group (state_in kept self.old.work) next)) result }
+            (then_told told (followed_step self.old.work.calls.me group (tasks_in kept (record self.old { job = None })) next)) result }
         ensures few { length result.messages ≡ sent_in next }
         ensures same { (layout : layouts.Layout) → FollowsFrom layout self.old.work.calls.seq group next
-            → AreSameTasks layout (record { work = self.old.work; job = None }) self.new }
+            → AreSameTasks layout (record self.old { job = None }) self.new }
     {
         match next {
             Followed::Reads(messages, open) => {
@@ -223,8 +283,84 @@ impl Tasks {
         }
     }
 
-    /// Handles a reply that teaches no view, at this time of the brick's clock: the read of the synchronisation or the open operation of its call, or else the
-    /// proposal, counts it, or leaves it out.
+    /// Why the brick does not begin a scrub of these members of a stripe, the first reason there is, the members of its group being these: there is no such stripe;
+    /// they are no distinct members, or fewer than a quorum; it has a scrub; no later time or call number is left.
+    #[tactic(auto, unfolding(crate::specs::States::state_with))]
+    pub(crate) fn scrub_refusal(
+        &self,
+        kept: &Group,
+        members: &Members,
+        stripe: StripeNo,
+        named: &[BrickId],
+    ) -> Option<Refusal>
+        requires limits { IsWithinLimits kept.now.m (length members.now) }
+        ensures value { (parts : KeptParts) → result ≡ scrub_refusal_in (tasks_in parts self.now) stripe named.now (Some (kept_by members.now kept.now)) }
+        ensures idle { result ≡ None → self.now.scrub ≡ None }
+        ensures few { result ≡ None → length named.now ≤ 32 }
+        ensures enough { result ≡ None → AreEnough (kept_by members.now kept.now) (Some named.now) }
+        ensures left { (parts : KeptParts) → result ≡ None → is_spent (tasks_in parts self.now) ≡ false }
+    {
+        if stripe.0 >= kept.stripes() {
+            Some(Refusal::NoStripe)
+        } else if !names_quorum(kept.m(), members, named) {
+            Some(Refusal::NoQuorum)
+        } else if self.scrubs() {
+            Some(Refusal::Busy)
+        } else if !has_later_time(self.work.calls.known_time()) || self.work.calls.is_spent() {
+            Some(Refusal::Spent)
+        } else {
+            None
+        }
+    }
+
+    /// Begins a scrub of these members of a stripe, in this view of its group, which the brick has learnt, at this time of its clock. None where no later time or no
+    /// further call number is left.
+    ///
+    /// # Errors
+    ///
+    /// `NoMemory` where no memory was left; then nothing has changed.
+    pub(crate) fn scrub(
+        &mut self,
+        alloc: Global,
+        layout: &Layout,
+        group: GroupId,
+        view: View,
+        stripe: StripeNo,
+        members: Members,
+        now: u64,
+    ) -> Result<Option<Outs>, NoMem>
+        requires idle { self.old.scrub ≡ None }
+        requires of { AreTasksOf layout.now self.old }
+        requires limits { IsWithinLimits (group_in_view layout.now view.members group.0).m (length view.members) }
+        requires prior { PriorIsWithinLimits (group_in_view layout.now view.members group.0).m view.number view.prior }
+        requires enough { AreEnough (group_in_view layout.now view.members group.0) (Some members) }
+        ensures spent { (kept : KeptParts) → IfOk result (λ begun. is_some begun ≡ not (is_spent (tasks_in kept self.old))) }
+        ensures step { (kept : KeptParts) → IfOk result (λ begun. IfSome begun (StepsAs self.old.work.calls.me (tasks_in kept self.new)
+            (scrubbed_by (coding layout.now) (group_in_view layout.now view.members group.0) view now group stripe members self.old.work.calls.me (tasks_in kept self.old)))) }
+        ensures few { IfOk result (λ begun. IfSome begun (λ outs. length outs.messages ≤ 32)) }
+        ensures err { OnErr result (self.new ≡ self.old) }
+        ensures same { AreSameTasks layout.now self.old self.new }
+    {
+        let at = self.work.calls.source(now);
+        let Some((call, stamp)) = at.next(view.number) else {
+            return Ok(None);
+        };
+        let (open, messages) = OpenScrub::begin(
+            alloc, layout, view, call, group, stripe, stamp, members,
+        )?;
+        let call = open.call();
+        self.work.calls.made_read(call.seq, stamp.time);
+        self.scrub = Some(open);
+        Ok(Some(Outs {
+            messages,
+            told: Tellings::of_begun(call),
+            answer: None,
+            report: None,
+        }))
+    }
+
+    /// Handles a reply that teaches no view, at this time of the brick's clock: the read of the synchronisation, the scrub or the open operation of its call, or
+    /// else the proposal, counts it, or leaves it out.
     ///
     /// # Errors
     ///
@@ -249,6 +385,9 @@ impl Tasks {
     {
         if self.reads(call.seq) {
             return self.on_read_reply(alloc, layout, now, packet, call, reply);
+        }
+        if self.is_scrub(call.seq) {
+            return self.on_scrub_reply(alloc, layout, now, packet, call, reply);
         }
         self.work.on_reply(alloc, layout, now, packet, call, reply)
     }
@@ -289,7 +428,43 @@ impl Tasks {
         }
     }
 
-    /// Whether a reply counts in the read of the synchronisation or the open operation of its call, or, if there is none, in the proposal.
+    /// Handles a reply to the scrub, which teaches no view, at this time of the brick's clock.
+    fn on_scrub_reply(
+        &mut self,
+        alloc: Global,
+        layout: &Layout,
+        now: u64,
+        packet: &Packet,
+        call: Call,
+        reply: &Reply,
+    ) -> Result<Outs, NoMem>
+        requires reply { packet.now.message ≡ message.Reply call reply.now }
+        requires of { AreTasksOf layout.now self.old }
+        requires scrubs { ScrubsAt self.old.scrub call.seq }
+        ensures step { (kept : KeptParts) → IfOk result (StepsAs self.old.work.calls.me (tasks_in kept self.new)
+            (replied_at (coding layout.now) self.old.work.calls.me now packet.now.from (with_round (tasks_in kept self.old) reply.now) call reply.now
+            ((tasks_in kept self.old).calls call.seq))) }
+        ensures few { IfOk result (λ outs. length outs.messages ≤ 96) }
+        ensures err { OnErr result ((kept : KeptParts) → tasks_in kept self.new ≡ tasks_in kept self.old) }
+        ensures same { AreSameTasks layout.now self.old self.new }
+    {
+        let at = self.work.calls.source_after(now, reply);
+        let mut stamps = at.stamps;
+        let Some(open) = &mut self.scrub else {
+            unreachable!()
+        };
+        let fresh = fresh_stamp(stamps, now, open.stamp_view(), at.me);
+        let outs = open.on_reply(alloc, packet.from, &packet.message, fresh, &mut stamps)?;
+        self.work.heard(&packet.message, reply);
+        self.work.calls.knows(stamps.known);
+        if outs.report.is_none() {
+            return Ok(outs);
+        }
+        self.scrub = None;
+        Ok(outs)
+    }
+
+    /// Whether a reply counts in the read of the synchronisation, the scrub or the open operation of its call, or, if there is none, in the proposal.
     pub(crate) fn counts(&self, call: Call, packet: &Packet) -> bool
         ensures { result ≡ counts_at self.now call.seq packet.now.from packet.now.message }
     {
@@ -298,11 +473,16 @@ impl Tasks {
         {
             return open.counts(packet.from, &packet.message);
         }
+        if let Some(open) = &self.scrub
+            && open.has_call(call.seq)
+        {
+            return open.counts(packet.from, &packet.message);
+        }
         self.work.counts(call, packet)
     }
 
-    /// What a reply that counts, and tells this later view with its members, comes to. Nothing has changed yet, but that an operation or a read that waits for
-    /// more has counted it.
+    /// What a reply that counts, and tells this later view with its members, comes to. Nothing has changed yet, but that an operation, a read or the scrub, if it
+    /// waits for more, has counted it.
     ///
     /// # Errors
     ///
@@ -328,6 +508,9 @@ impl Tasks {
     {
         if self.reads(call.seq) {
             return self.hear_moved_read(alloc, layout, now, packet, call, reply, view);
+        }
+        if self.is_scrub(call.seq) {
+            return self.hear_moved_scrub(alloc, layout, now, packet, call, reply, view);
         }
         let turn = self
             .work
@@ -367,6 +550,37 @@ impl Tasks {
         Ok(TaskTurn::CountedRead)
     }
 
+    /// The same, of a reply to the scrub.
+    fn hear_moved_scrub(
+        &mut self,
+        alloc: Global,
+        layout: &Layout,
+        now: u64,
+        packet: &Packet,
+        call: Call,
+        reply: &Reply,
+        view: ViewNo,
+    ) -> Result<TaskTurn, NoMem>
+        requires reply { packet.now.message ≡ message.Reply call reply.now }
+        requires moved { IsMoved reply.now view }
+        requires counts { counts_at self.old call.seq packet.now.from packet.now.message ≡ true }
+        requires of { AreTasksOf layout.now self.old }
+        requires scrubs { ScrubsAt self.old.scrub call.seq }
+        ensures turn { IfOk result (λ turn. IsTaskTurn layout.now now packet.now.from call reply.now self.old turn self.new) }
+        ensures may { IfOk result (λ turn. MayFinish turn call.seq self.new) }
+        ensures err { OnErr result ((kept : KeptParts) → tasks_in kept self.new ≡ tasks_in kept self.old) }
+        ensures same { AreSameTasks layout.now self.old self.new }
+    {
+        let Some(open) = &mut self.scrub else {
+            unreachable!()
+        };
+        if let Some(outs) = open.moved(alloc, packet.from, view) {
+            return Ok(TaskTurn::EndsScrub(outs));
+        }
+        open.count(packet.from, &packet.message)?;
+        Ok(TaskTurn::CountedScrub)
+    }
+
     /// Takes back what was done already on a reply to the call of this number: nothing has changed then.
     pub(crate) fn take_back(&mut self, seq: u64, turn: &TaskTurn)
         ensures state { (layout : layouts.Layout) (now : ℕ) (from : BrickId) (call : Call) (reply : Reply) (before : Tasks) → call.seq ≡ seq
@@ -381,7 +595,12 @@ impl Tasks {
                     open.take_back();
                 }
             }
-            TaskTurn::Follows(_, _, _) => {}
+            TaskTurn::CountedScrub => {
+                if let Some(open) = &mut self.scrub {
+                    open.take_back();
+                }
+            }
+            TaskTurn::Follows(_, _, _) | TaskTurn::EndsScrub(_) => {}
         }
     }
 
@@ -397,21 +616,41 @@ impl Tasks {
     {
         match turn {
             TaskTurn::Work(turn) => self.work.finish(alloc, seq, turn),
-            TaskTurn::CountedRead => Outs::nothing(alloc),
+            TaskTurn::CountedRead | TaskTurn::CountedScrub => Outs::nothing(alloc),
             TaskTurn::Follows(group, told, next) => self.take_up(group, told, next),
+            TaskTurn::EndsScrub(outs) => {
+                self.scrub = None;
+                outs
+            }
         }
     }
 
-    /// At a tick of the brick's clock each open operation, in the order of beginning, sends its present phase again to each member without a reply that
-    /// counts, then the proposal, and last the read of the synchronisation. Each message of a later view than view 1 goes right after one that teaches its receiver
-    /// that view.
-    pub(crate) fn on_tick(&self, alloc: Global) -> Result<Messages, NoMem>
+    /// What all but the scrub sends again at a tick: the operations and the proposal, and last the read of the synchronisation.
+    fn others_again(&self, alloc: Global) -> Result<Messages, NoMem>
         ensures packets { IfOk result (λ messages. (layout : layouts.Layout) (kept : KeptParts) → AreTasksOf layout self.now
-            → packets_from self.now.work.calls.me messages.items ≡ ticked (coding layout) self.now.work.calls.me (tasks_in kept self.now)) }
+            → packets_from self.now.work.calls.me messages.items
+            ≡ ticked (coding layout) self.now.work.calls.me (with_reading (reading_in self.now.job) (state_in kept self.now.work))) }
         ensures few { IfOk result (λ messages. vec_len messages ≤ 4224) }
     {
         let mut messages = self.work.on_tick(alloc)?;
         let Some(open) = &self.job else {
+            return Ok(messages);
+        };
+        let mut read = open.on_tick(alloc)?;
+        messages.append(&mut read)?;
+        Ok(messages)
+    }
+
+    /// At a tick of the brick's clock each open operation, in the order of beginning, sends its present phase again to each member without a reply that
+    /// counts, then the proposal, the read of the synchronisation, and last the scrub. Each message of a later view than view 1 goes right after one that teaches its
+    /// receiver that view.
+    pub(crate) fn on_tick(&self, alloc: Global) -> Result<Messages, NoMem>
+        ensures packets { IfOk result (λ messages. (layout : layouts.Layout) (kept : KeptParts) → AreTasksOf layout self.now
+            → packets_from self.now.work.calls.me messages.items ≡ ticked (coding layout) self.now.work.calls.me (tasks_in kept self.now)) }
+        ensures few { IfOk result (λ messages. vec_len messages ≤ 4288) }
+    {
+        let mut messages = self.others_again(alloc)?;
+        let Some(open) = &self.scrub else {
             return Ok(messages);
         };
         let mut last = open.on_tick(alloc)?;

@@ -214,7 +214,7 @@ pub dot : IsPiece 1 (codes ".")
 dot = literal 1 (codes ".") refl (omega arith)
 
 -- a stamp
-stamp_piece : (stamp : Stamp) → StampReads stamp → IsPiece 100 (stamp_text stamp)
+pub stamp_piece : (stamp : Stamp) → StampReads stamp → IsPiece 100 (stamp_text stamp)
 stamp_piece stamp reads =
     piece_most _ 100 _ (omega arith) (piece_both 20 _ _ _ (digits_piece stamp.view.0 reads.view) (piece_both 1 _ _ _ dot
     (piece_both 20 _ _ _ (digits_piece stamp.time reads.time) (piece_both 1 _ _ _ dot (piece_both 20 _ _ _ (digits_piece stamp.brick.0 reads.brick)
@@ -297,7 +297,7 @@ ask_back p n b ask (WriteStripe bytes) g s reads =
 -- why an operation was aborted reads back
 
 -- a stamp reads back
-stamp_back : (stamp : Stamp) → StampReads stamp
+pub stamp_back : (stamp : Stamp) → StampReads stamp
     → stamp_of (stamp_text stamp) ≡ Some (record { view = stamp.view.0; time = stamp.time; brick = stamp.brick.0; boot = stamp.boot })
 unfolding stamp_of
 stamp_back stamp reads =

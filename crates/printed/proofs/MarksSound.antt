@@ -25,7 +25,7 @@ use Rattle.reg_model.specs.Registers.{block_of, read_of}
 use Rattle.reg_model.specs.Strict.{OpFits}
 use Rattle.protocol.specs.Settings.{are_bytes}
 use Rattle.protocol.specs.declared.tellings.Report.{Report}
-use Rattle.protocol.specs.declared.tellings.Report.TheVariants.{View, Sync}
+use Rattle.protocol.specs.declared.tellings.Report.TheVariants.{View, Sync, Scrub}
 use Rattle.protocol.specs.declared.tellings.ViewAnswer.TheVariants as answer
 use Rattle.protocol.specs.Nodes.{has_block, has_length}
 use Rattle.protocol.specs.Views.{kept_by, views_in}
@@ -329,6 +329,7 @@ module _ (layout : Layout) (is : IsLayout layout) where
     -- so are those that a report tells
     report_fits : (k : ℕ) (brick : BrickId) (told : Report) → slice_get w.choices.reports k ≡ Some (brick, told) → ReportFits told
     report_fits k brick (Sync number ended) at = tt
+    report_fits k brick (Scrub call named ended) at = tt
     report_fits k brick (View number call (answer.Outbid ballot)) at = tt
     report_fits k brick (View number call (answer.NotSynced member)) at = tt
     report_fits k brick (View number call (answer.Moved view)) at = tt

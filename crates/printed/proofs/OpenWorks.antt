@@ -1,8 +1,9 @@
--- How many proposals and synchronisations are open. A brick that is asked for one opens one at most, or reports one at once; and else each report closes one.
+-- How many proposals, synchronisations and scrubs are open. A brick that is asked for one opens one at most, or reports one at once; and else each report closes one.
 use Rattle.std.proofs.Common.{◌≡◌, ◌≢◌, ℕ, zero, suc, ◌+◌, ◌<◌, ◌≤◌, ◌&&◌, inl, inr, Bool, true, List, [], length, Option, Some, None, is_some, refl, sym, ap, ◌∙◌, subst, arith}
 use Rattle.std.proofs.lemmas.Bool.{cond_both, cases_lt}
 use Rattle.fab_base.specs.declared.identities.BrickId.{BrickId}
 use Rattle.fab_base.specs.declared.identities.GroupId.{GroupId}
+use Rattle.fab_base.specs.declared.identities.StripeNo.{StripeNo}
 use Rattle.fab_base.specs.declared.identities.ViewNo.{ViewNo}
 use Rattle.fab_base.specs.declared.member_lists.View.{View}
 use Rattle.fab_base.specs.Layouts.{Layout, Group, group_of}
@@ -17,38 +18,43 @@ use Rattle.quorum.proofs.Counts.{count_same, count_monotone, count_empty}
 use Rattle.protocol.specs.Settings.{Setting}
 use Rattle.protocol.specs.Views.{group_kept, is_later, learns, is_unsynced, notes_synced}
 use Rattle.protocol.specs.Jobs.{Job, JobNext, Reads, Finishes, GivesUp, begun_job, job_ask, job_after, abort_cause, synced_answer, spent_answer}
-use Rattle.protocol.specs.Coordinators.{Coordinator, Next, Ignores, Waits, Sends, Makes, Ends}
+use Rattle.protocol.specs.Scrubs.{Scrub}
+use Rattle.protocol.specs.Coordinators.{Coordinator, Next, Ignores, Waits, Sends, Makes, Ends, counts_at, hearing}
 use Rattle.protocol.specs.Proposals.{Proposal, Voting, Ignored, Waited, Asks, Ended, ballot_packets, voted}
 use Rattle.protocol.specs.declared.tellings.Report.{Report}
 use Rattle.protocol.specs.declared.tellings.Report.TheVariants as report
 use Rattle.protocol.specs.declared.tellings.ViewAnswer.TheVariants as answer
-use Rattle.protocol.specs.Nodes.{Node, NodeStep, put, no_step, sending, with_known, with_round, known_after, carried_out, carried_ballot, replied_ballot, replied_at, view_counted, may_teach, node_taught, node_taught_by, node_learnt, node_synced, with_learnt, with_job, coordinator_in, is_spent, read_begun_by, read_begun_in, read_begun, read_closed, job_goes, job_reading, carried_read, carried_for, synced_at, replied, lists_fit, heard, requested, received, new_proposal, proposing, reporting, proposed_in, proposed}
+use Rattle.protocol.specs.Nodes.{Node, NodeStep, put, no_step, sending, with_known, with_round, known_after, carried_out, carried_ballot, replied_ballot, replied_at, view_counted, may_teach, node_taught, node_taught_by, node_learnt, node_synced, with_learnt, with_job, coordinator_in, is_spent, read_begun_by, read_begun_in, read_begun, read_closed, job_goes, job_reading, carried_read, carried_scrub, scrub_of, carried_for, synced_at, scrubbed_in, scrubbed_at, group_at, replied, lists_fit, heard, requested, received, new_proposal, proposing, reporting, proposed_in, proposed}
 use Rattle.protocol.specs.Worlds.{first_world}
 use Rattle.protocol.proofs.Puts.{put_other}
 use Rattle.protocol.proofs.Served.{request_each}
 use Rattle.protocol.proofs.Tables.{put_each, put_same}
 
--- whether a brick has a proposal, and whether it has a synchronisation
+-- whether a brick has a proposal, a synchronisation, a scrub
 abbrev has_proposal : (ℕ → Node) → ℕ → Bool
 has_proposal nodes i = is_some (nodes i).proposal
 
 abbrev has_job : (ℕ → Node) → ℕ → Bool
 has_job nodes i = is_some (nodes i).job
 
--- how many of both the first bricks have
-abbrev pub works_in : ℕ → (ℕ → Node) → ℕ
-works_in bricks nodes = count bricks (has_proposal nodes) + count bricks (has_job nodes)
+abbrev has_scrub : (ℕ → Node) → ℕ → Bool
+has_scrub nodes i = is_some (nodes i).scrub
 
--- how many of both a brick has
+-- how many of these the first bricks have
+abbrev pub works_in : ℕ → (ℕ → Node) → ℕ
+works_in bricks nodes = count bricks (has_proposal nodes) + (count bricks (has_job nodes) + count bricks (has_scrub nodes))
+
+-- how many of these a brick has
 abbrev pub works_of : Node → ℕ
-works_of node = one_if (is_some node.proposal) + one_if (is_some node.job)
+works_of node = one_if (is_some node.proposal) + (one_if (is_some node.job) + one_if (is_some node.scrub))
 
 -- there are none at first
 pub works_none : (bricks : ℕ) (layout : Layout) → works_in bricks (first_world layout).nodes ≡ 0
 works_none bricks layout =
     let proposals = count_empty bricks (has_proposal (first_world layout).nodes) (λ k within. refl) in
     let jobs = count_empty bricks (has_job (first_world layout).nodes) (λ k within. refl) in
-    omega (arith, proposals, jobs)
+    let scrubs = count_empty bricks (has_scrub (first_world layout).nodes) (λ k within. refl) in
+    omega (arith, proposals, jobs, scrubs)
 
 -- two sets that differ at one place: it is below the last of the places that are counted, or it is that
 count_below : (n i : ℕ) (p r : ℕ → Bool) → i < n → ((k : ℕ) → k ≢ i → r k ≡ p k) → count n r + one_if (p i) ≡ count n p + one_if (r i)
@@ -81,42 +87,61 @@ works_put bricks i nodes node within =
     (λ k other. ap (λ (z : Node). is_some z.proposal) (put_other nodes i node k other)) in
     let jobs = count_changed bricks i (has_job nodes) (has_job (put nodes i node)) within
     (λ k other. ap (λ (z : Node). is_some z.job) (put_other nodes i node k other)) in
+    let scrubs = count_changed bricks i (has_scrub nodes) (has_scrub (put nodes i node)) within
+    (λ k other. ap (λ (z : Node). is_some z.scrub) (put_other nodes i node k other)) in
     let one : one_if (has_proposal (put nodes i node) i) ≡ one_if (is_some node.proposal) = ap (λ (z : Node). one_if (is_some z.proposal)) here in
     let two : one_if (has_job (put nodes i node) i) ≡ one_if (is_some node.job) = ap (λ (z : Node). one_if (is_some z.job)) here in
-    omega (arith, proposals, jobs, one, two)
+    let three : one_if (has_scrub (put nodes i node) i) ≡ one_if (is_some node.scrub) = ap (λ (z : Node). one_if (is_some z.scrub)) here in
+    omega (arith, proposals, jobs, scrubs, one, two, three)
+
+-- a brick has none of these that another has not
+pub record OpensNone (node later : Node) : Type 0 where
+  pub proposal : is_some later.proposal ≡ true → is_some node.proposal ≡ true
+  pub job : is_some later.job ≡ true → is_some node.job ≡ true
+  pub scrub : is_some later.scrub ≡ true → is_some node.scrub ≡ true
+
+-- nor has the same brick
+pub opens_same : (node : Node) → OpensNone node node
+opens_same node = record { proposal = λ is. is; job = λ is. is; scrub = λ is. is }
 
 -- where no brick opens one there are no more
-pub works_fewer : (bricks : ℕ) (nodes later : ℕ → Node) → ((i : ℕ) → is_some (later i).proposal ≡ true → is_some (nodes i).proposal ≡ true)
-    → ((i : ℕ) → is_some (later i).job ≡ true → is_some (nodes i).job ≡ true) → works_in bricks later ≤ works_in bricks nodes
-works_fewer bricks nodes later proposals jobs =
-    let first = count_monotone bricks (has_proposal later) (has_proposal nodes) (λ k within. proposals k) in
-    let second = count_monotone bricks (has_job later) (has_job nodes) (λ k within. jobs k) in
-    omega (arith, first, second)
+pub works_fewer : (bricks : ℕ) (nodes later : ℕ → Node) → ((i : ℕ) → OpensNone (nodes i) (later i)) → works_in bricks later ≤ works_in bricks nodes
+works_fewer bricks nodes later none =
+    let first = count_monotone bricks (has_proposal later) (has_proposal nodes) (λ k within. (none k).proposal) in
+    let second = count_monotone bricks (has_job later) (has_job nodes) (λ k within. (none k).job) in
+    let third = count_monotone bricks (has_scrub later) (has_scrub nodes) (λ k within. (none k).scrub) in
+    omega (arith, first, second, third)
 
 -- so it is where a brick changes that opens none
-pub works_kept : (bricks i : ℕ) (nodes : ℕ → Node) (node : Node) → (is_some node.proposal ≡ true → is_some (nodes i).proposal ≡ true)
-    → (is_some node.job ≡ true → is_some (nodes i).job ≡ true) → works_in bricks (put nodes i node) ≤ works_in bricks nodes
-works_kept bricks i nodes node proposal job =
-    works_fewer bricks nodes (put nodes i node)
-    (put_each (λ j z. is_some z.proposal ≡ true → is_some (nodes j).proposal ≡ true) nodes i node proposal (λ j other is. is))
-    (put_each (λ j z. is_some z.job ≡ true → is_some (nodes j).job ≡ true) nodes i node job (λ j other is. is))
+pub works_kept : (bricks i : ℕ) (nodes : ℕ → Node) (node : Node) → OpensNone (nodes i) node → works_in bricks (put nodes i node) ≤ works_in bricks nodes
+works_kept bricks i nodes node none =
+    works_fewer bricks nodes (put nodes i node) (put_each (λ j z. OpensNone (nodes j) z) nodes i node none (λ j other. opens_same (nodes j)))
 
--- A step of a brick reports no more than proposals and synchronisations that it closes, and so many beside them.
+-- A step of a brick reports no more than proposals, synchronisations and scrubs that it closes, and so many beside them.
 abbrev pub Closes : Node → NodeStep → ℕ → Type 0
 Closes node step most = length step.reports + works_of step.node ≤ most + works_of node
 
--- a brick has the proposal and the synchronisation of another
+-- a brick has the proposal, the synchronisation and the scrub of another
 record HasSame (node other : Node) : Type 0 where
   proposal : other.proposal ≡ node.proposal
   job : other.job ≡ node.job
+  scrub : other.scrub ≡ node.scrub
 
--- a step that reports nothing, and keeps both
+-- so it has as many of them
+same_one : (node other : Node) → HasSame node other → one_if (is_some other.proposal) ≡ one_if (is_some node.proposal)
+same_one node other same = ap (λ (z : Option Proposal). one_if (is_some z)) same.proposal
+
+same_two : (node other : Node) → HasSame node other → one_if (is_some other.job) ≡ one_if (is_some node.job)
+same_two node other same = ap (λ (z : Option Job). one_if (is_some z)) same.job
+
+same_three : (node other : Node) → HasSame node other → one_if (is_some other.scrub) ≡ one_if (is_some node.scrub)
+same_three node other same = ap (λ (z : Option Scrub). one_if (is_some z)) same.scrub
+
+-- a step that reports nothing, and keeps all three
 quiet : (node : Node) (step : NodeStep) → step.reports ≡ [] → HasSame node step.node → Closes node step 0
 quiet node step none same =
     let reports : length step.reports ≡ 0 = ap (λ (l : List Report). length l) none in
-    let one : one_if (is_some step.node.proposal) ≡ one_if (is_some node.proposal) = ap (λ (z : Option Proposal). one_if (is_some z)) same.proposal in
-    let two : one_if (is_some step.node.job) ≡ one_if (is_some node.job) = ap (λ (z : Option Job). one_if (is_some z)) same.job in
-    omega (arith, reports, one, two)
+    omega (arith, reports, same_one node step.node same, same_two node step.node same, same_three node step.node same)
 
 -- a request
 requested_closes : (setting : Setting) (me from : BrickId) (node : Node) (call : Call) (request : Request)
@@ -125,26 +150,26 @@ requested_closes setting me from node call request =
     request_each (λ (step : NodeStep). Closes node step 0) setting me from node call request (omega arith) (λ said is. omega arith)
     (λ group seat is served. omega arith) (λ group ballot asks is. omega arith)
 
--- a view that is taught, or told to be synced, keeps both
+-- a view that is taught, or told to be synced, keeps all three
 taught_same : (block group : ℕ) (node : Node) (view : Option View) → HasSame node (node_taught_by block group node view)
 unfolding node_taught
-taught_same block group node None = record { proposal = refl; job = refl }
+taught_same block group node None = record { proposal = refl; job = refl; scrub = refl }
 taught_same block group node (Some view) =
     cond_both (is_later (node.learnt group) view) (with_learnt block group node (learns (node.learnt group) view)) node (HasSame node)
-    (λ later. record { proposal = refl; job = refl }) (λ isnt. record { proposal = refl; job = refl })
+    (λ later. record { proposal = refl; job = refl; scrub = refl }) (λ isnt. record { proposal = refl; job = refl; scrub = refl })
 
 learnt_same : (layout : Layout) (node : Node) (group : GroupId) (view : View) → HasSame node (node_learnt layout node group view)
 unfolding node_learnt
 learnt_same layout node group view =
     cond_both (may_teach layout (Some view) (group_of layout group.0)) (node_taught_by layout.block group.0 node (Some view)) node (HasSame node)
-    (λ may. taught_same layout.block group.0 node (Some view)) (λ isnt. record { proposal = refl; job = refl })
+    (λ may. taught_same layout.block group.0 node (Some view)) (λ isnt. record { proposal = refl; job = refl; scrub = refl })
 
 synced_same : (layout : Layout) (node : Node) (group : GroupId) (number : ViewNo) → HasSame node (node_synced layout node group number)
 unfolding node_synced
 synced_same layout node group number =
     cond_both (is_some (group_of layout group.0) && is_unsynced (node.learnt group.0) number.0)
     (with_learnt layout.block group.0 node (notes_synced (node.learnt group.0) number.0)) node (HasSame node)
-    (λ may. record { proposal = refl; job = refl }) (λ isnt. record { proposal = refl; job = refl })
+    (λ may. record { proposal = refl; job = refl; scrub = refl }) (λ isnt. record { proposal = refl; job = refl; scrub = refl })
 
 -- a synchronisation goes on, or is closed
 read_closes : (setting : Setting) (me : BrickId) (now : ℕ) (node : Node) (job : Job) (found : Option Group) (most : ℕ) → 1 ≤ most + one_if (is_some node.job)
@@ -167,16 +192,21 @@ reading_has : (job : Option Job) (seq : ℕ) (found : Job) → job_reading job s
 reading_has None seq found is = absurd (let never : None ≡ Some found = is in cc)
 reading_has (Some job) seq found is = omega arith
 
+-- where a call is of a scrub there is one
+scrub_has : (scrub : Option Scrub) (seq : ℕ) (found : Scrub) → scrub_of scrub seq ≡ Some found → 1 ≤ one_if (is_some scrub)
+scrub_has None seq found is = absurd (let never : None ≡ Some found = is in cc)
+scrub_has (Some scrub) seq found is = omega arith
+
 -- a reply
 module _ (setting : Setting) (me from : BrickId) (now : ℕ) (node : Node) (call : Call) (reply : Reply) where
   -- to an open operation
   carried_closes : (mid : Node) (known : ℕ) (c : Coordinator) (decision : Next) → HasSame node mid → Closes node (carried_out setting me mid known c decision) 0
-  carried_closes mid known c Ignores same = quiet node (carried_out setting me mid known c Ignores) refl (record { proposal = same.proposal; job = same.job })
-  carried_closes mid known c (Waits d) same = quiet node (carried_out setting me mid known c (Waits d)) refl (record { proposal = same.proposal; job = same.job })
-  carried_closes mid known c (Sends d) same = quiet node (carried_out setting me mid known c (Sends d)) refl (record { proposal = same.proposal; job = same.job })
-  carried_closes mid known c (Makes d) same = quiet node (carried_out setting me mid known c (Makes d)) refl (record { proposal = same.proposal; job = same.job })
+  carried_closes mid known c Ignores same = quiet node (carried_out setting me mid known c Ignores) refl (record { proposal = same.proposal; job = same.job; scrub = same.scrub })
+  carried_closes mid known c (Waits d) same = quiet node (carried_out setting me mid known c (Waits d)) refl (record { proposal = same.proposal; job = same.job; scrub = same.scrub })
+  carried_closes mid known c (Sends d) same = quiet node (carried_out setting me mid known c (Sends d)) refl (record { proposal = same.proposal; job = same.job; scrub = same.scrub })
+  carried_closes mid known c (Makes d) same = quiet node (carried_out setting me mid known c (Makes d)) refl (record { proposal = same.proposal; job = same.job; scrub = same.scrub })
   carried_closes mid known c (Ends ended seen stored) same =
-      quiet node (carried_out setting me mid known c (Ends ended seen stored)) refl (record { proposal = same.proposal; job = same.job })
+      quiet node (carried_out setting me mid known c (Ends ended seen stored)) refl (record { proposal = same.proposal; job = same.job; scrub = same.scrub })
 
   -- to the read of a synchronisation
   reading_closes : (mid : Node) (known : ℕ) (job : Job) (c : Coordinator) (decision : Next) → HasSame node mid → 1 ≤ one_if (is_some mid.job)
@@ -188,31 +218,43 @@ module _ (setting : Setting) (me from : BrickId) (now : ℕ) (node : Node) (call
   reading_closes mid known job c (Ends ended seen stored) same has =
       let closed : NodeStep = read_closed me mid known c ended seen stored in
       let goes = goes_closes setting me now closed.node job (job_after c.group.stripes job.attempt (abort_cause ended)) has in
-      let one : one_if (is_some mid.proposal) ≡ one_if (is_some node.proposal) = ap (λ (z : Option Proposal). one_if (is_some z)) same.proposal in
-      let two : one_if (is_some mid.job) ≡ one_if (is_some node.job) = ap (λ (z : Option Job). one_if (is_some z)) same.job in
-      omega (arith, goes, one, two)
+      omega (arith, goes, same_one node mid same, same_two node mid same, same_three node mid same)
 
-  carried_for_closes : (mid : Node) (known : ℕ) (c : Coordinator) (decision : Next) (job : Option Job) → HasSame node mid → job_reading mid.job c.call.seq ≡ job
-      → Closes node (carried_for setting me now mid known c decision job) 0
-  carried_for_closes mid known c decision None same is = carried_closes mid known c decision same
-  carried_for_closes mid known c decision (Some job) same is =
+  -- to a scrub
+  scrub_closes : (mid : Node) (known : ℕ) (scrub : Scrub) (c after : Coordinator) (decision : Next) → HasSame node mid → 1 ≤ one_if (is_some mid.scrub)
+      → Closes node (carried_scrub setting me mid known scrub c after decision) 0
+  scrub_closes mid known scrub c after Ignores same has = carried_closes mid known c Ignores same
+  scrub_closes mid known scrub c after (Waits d) same has = carried_closes mid known c (Waits d) same
+  scrub_closes mid known scrub c after (Sends d) same has = omega (arith, has, same_one node mid same, same_two node mid same, same_three node mid same)
+  scrub_closes mid known scrub c after (Makes d) same has = carried_closes mid known c (Makes d) same
+  scrub_closes mid known scrub c after (Ends ended seen stored) same has =
+      omega (arith, has, same_one node mid same, same_two node mid same, same_three node mid same)
+
+  carried_for_closes : (mid : Node) (known : ℕ) (c after : Coordinator) (decision : Next) (job : Option Job) (scrub : Option Scrub) → HasSame node mid
+      → job_reading mid.job c.call.seq ≡ job → scrub_of mid.scrub c.call.seq ≡ scrub
+      → Closes node (carried_for setting me now mid known c after decision job scrub) 0
+  carried_for_closes mid known c after decision None None same is own = carried_closes mid known c decision same
+  carried_for_closes mid known c after decision None (Some scrub) same is own =
+      scrub_closes mid known scrub c after decision same (scrub_has mid.scrub c.call.seq scrub own)
+  carried_for_closes mid known c after decision (Some job) scrub same is own =
       reading_closes mid known job c decision same (reading_has mid.job c.call.seq job is)
 
   -- a proposal changes, or is closed by one report
   changed_closes : (mid : Node) (p : Proposal) (step : NodeStep) → HasSame node mid → node.proposal ≡ Some p
-      → length step.reports + one_if (is_some step.node.proposal) ≤ 1 → step.node.job ≡ mid.job → Closes node step 0
-  changed_closes mid p step same own few job =
+      → length step.reports + one_if (is_some step.node.proposal) ≤ 1 → step.node.job ≡ mid.job → step.node.scrub ≡ mid.scrub → Closes node step 0
+  changed_closes mid p step same own few job scrub =
       let one : one_if (is_some node.proposal) ≡ 1 = ap (λ (z : Option Proposal). one_if (is_some z)) own in
       let two : one_if (is_some step.node.job) ≡ one_if (is_some node.job) = ap (λ (z : Option Job). one_if (is_some z)) (job ∙ same.job) in
-      omega (arith, one, two, few)
+      let three : one_if (is_some step.node.scrub) ≡ one_if (is_some node.scrub) = ap (λ (z : Option Scrub). one_if (is_some z)) (scrub ∙ same.scrub) in
+      omega (arith, one, two, three, few)
 
   -- to a proposal
   voting_closes : (mid : Node) (p : Proposal) (decision : Voting) → HasSame node mid → node.proposal ≡ Some p
       → Closes node (carried_ballot setting.layout me mid p decision) 0
   voting_closes mid p Ignored same own = quiet node (carried_ballot setting.layout me mid p Ignored) refl same
-  voting_closes mid p (Waited q) same own = changed_closes mid p (carried_ballot setting.layout me mid p (Waited q)) same own (omega arith) refl
-  voting_closes mid p (Asks q) same own = changed_closes mid p (carried_ballot setting.layout me mid p (Asks q)) same own (omega arith) refl
-  voting_closes mid p (Ended ended told) same own = changed_closes mid p (carried_ballot setting.layout me mid p (Ended ended told)) same own (omega arith) refl
+  voting_closes mid p (Waited q) same own = changed_closes mid p (carried_ballot setting.layout me mid p (Waited q)) same own (omega arith) refl refl
+  voting_closes mid p (Asks q) same own = changed_closes mid p (carried_ballot setting.layout me mid p (Asks q)) same own (omega arith) refl refl
+  voting_closes mid p (Ended ended told) same own = changed_closes mid p (carried_ballot setting.layout me mid p (Ended ended told)) same own (omega arith) refl refl
 
   -- to a proposal, if there is one
   ballot_closes : (mid : Node) (z : Option Proposal) → HasSame node mid → node.proposal ≡ z
@@ -223,9 +265,11 @@ module _ (setting : Setting) (me from : BrickId) (now : ℕ) (node : Node) (call
   -- to an open operation, if there is one, or else to a proposal
   replied_closes_at : (z : Option Coordinator) → Closes node (replied_at setting me now from (with_round node reply) call reply z) 0
   replied_closes_at None =
-      ballot_closes (with_known (with_round node reply) (known_after node.known reply)) node.proposal (record { proposal = refl; job = refl }) refl
+      ballot_closes (with_known (with_round node reply) (known_after node.known reply)) node.proposal (record { proposal = refl; job = refl; scrub = refl }) refl
   replied_closes_at (Some c) =
-      carried_for_closes (with_round node reply) (known_after node.known reply) c _ (job_reading node.job c.call.seq) (record { proposal = refl; job = refl }) refl
+      carried_for_closes (with_round node reply) (known_after node.known reply) c
+      (hearing c from reply (counts_at setting.layout.block c from.0 call reply)) _ (job_reading node.job c.call.seq) (scrub_of node.scrub c.call.seq)
+      (record { proposal = refl; job = refl; scrub = refl }) refl refl
 
   replied_closes : Closes node (replied setting me now from node call reply) 0
   unfolding replied
@@ -233,19 +277,19 @@ module _ (setting : Setting) (me from : BrickId) (now : ℕ) (node : Node) (call
       let mid : NodeStep = replied_at setting me now from (with_round node reply) call reply (node.calls call.seq) in
       let told : Option View = view_counted setting.layout from node call reply in
       let same = taught_same setting.layout.block call.group.0 mid.node told in
-      subst (λ (z : Option Proposal). length mid.reports + (one_if (is_some z) + one_if (is_some (node_taught_by setting.layout.block call.group.0 mid.node told).job))
-      ≤ 0 + works_of node) (sym same.proposal)
-      (subst (λ (z : Option Job). length mid.reports + (one_if (is_some mid.node.proposal) + one_if (is_some z)) ≤ 0 + works_of node) (sym same.job)
-      (replied_closes_at (node.calls call.seq)))
+      let before = replied_closes_at (node.calls call.seq) in
+      let taught : Node = node_taught_by setting.layout.block call.group.0 mid.node told in
+      (let after : length mid.reports + works_of taught ≤ 0 + works_of node
+      = omega (arith, before, same_one mid.node taught same, same_two mid.node taught same, same_three mid.node taught same) in after)
 
   -- heard, or left out
   heard_closes : Closes node (heard setting me now from node call reply) 0
   heard_closes =
       cond_both (lists_fit setting.layout call reply) (replied setting me now from node call reply)
       (no_step (with_known (with_round node reply) (known_after node.known reply))) (λ (step : NodeStep). Closes node step 0) (λ fit. replied_closes)
-      (λ isnt. quiet node (no_step (with_known (with_round node reply) (known_after node.known reply))) refl (record { proposal = refl; job = refl }))
+      (λ isnt. quiet node (no_step (with_known (with_round node reply) (known_after node.known reply))) refl (record { proposal = refl; job = refl; scrub = refl }))
 
--- Each report of a brick that handles a message closes a proposal or a synchronisation.
+-- Each report of a brick that handles a message closes a proposal, a synchronisation or a scrub.
 pub received_closes : (setting : Setting) (me : BrickId) (now : ℕ) (node : Node) (packet : Packet) → Closes node (received setting me now node packet) 0
 unfolding received
 received_closes setting me now node packet = by packet.message
@@ -257,8 +301,8 @@ received_closes setting me now node packet = by packet.message
         quiet node (no_step (node_learnt setting.layout node group view)) refl (learnt_same setting.layout node group view)
     by (Message.Synced group number) =
         quiet node (no_step (node_synced setting.layout node group number)) refl (synced_same setting.layout node group number)
-    by (Message.Client ask) = quiet node (no_step node) refl (record { proposal = refl; job = refl })
-    by (Message.ClientReply id answered) = quiet node (no_step node) refl (record { proposal = refl; job = refl })
+    by (Message.Client ask) = quiet node (no_step node) refl (record { proposal = refl; job = refl; scrub = refl })
+    by (Message.ClientReply id answered) = quiet node (no_step node) refl (record { proposal = refl; job = refl; scrub = refl })
 
 -- A brick that is asked to synchronise opens one, or reports one.
 pub synced_closes : (setting : Setting) (me : BrickId) (now : ℕ) (node : Node) (group : GroupId) → Closes node (synced_at setting me now node group) 1
@@ -269,6 +313,16 @@ synced_closes setting me now node group =
     (λ synced. omega arith)
     (λ unsynced. read_closes setting me now node (begun_job group (node.learnt group.0).view)
     (group_kept setting.layout (node.learnt group.0).view.members group.0) 1 (omega arith))
+
+-- A brick that is asked to scrub opens one, and reports none.
+pub scrubbed_closes : (setting : Setting) (me : BrickId) (now : ℕ) (node : Node) (group : GroupId) (stripe : StripeNo) (members : List BrickId)
+    → Closes node (scrubbed_at setting me now node group stripe members) 1
+unfolding scrubbed_at
+scrubbed_closes setting me now node group stripe members = by (group_at setting.layout node group.0)
+  where
+    by : (z : Option Group) → Closes node (scrubbed_in setting me now node group stripe members z) 1
+    by None = omega arith
+    by (Some kept) = omega arith
 
 -- A brick that is asked to propose opens one, or reports one.
 pub proposed_closes : (setting : Setting) (me : BrickId) (node : Node) (group : GroupId) (members : List BrickId)

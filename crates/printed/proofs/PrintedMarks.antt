@@ -15,12 +15,10 @@ use Rattle.protocol.specs.declared.tellings.Answered.{Answered}
 use Rattle.protocol.specs.declared.tellings.Report.{Report}
 use Rattle.protocol.specs.declared.tellings.Told.{Told}
 use Rattle.protocol.specs.declared.tellings.Told.TheVariants as told
-use Rattle.protocol.specs.Proposals.{Proposal}
-use Rattle.protocol.specs.Jobs.{Job}
-use Rattle.protocol.specs.Nodes.{Node, NodeStep, put, refusal_of, proposal_refusal, sync_refusal, group_at, began, invoked, proposed, synced_at, stopped, restarted}
-use Rattle.protocol.specs.Worlds.{World, Event, first_world, Found, Invokes, Proposes, Syncs, Delivers, Sets, Ticks, Stops, Starts, Before, After, number_of, mark_of, is_brick, is_up, may_start, world_began, world_told, world_tells, world_answered, world_answers, reports_of, world_stepped, world_ticked, world_stopped, world_found, world_started, delivered, packet_of, happens, run}
+use Rattle.protocol.specs.Nodes.{Node, NodeStep, put, refusal_of, proposal_refusal, sync_refusal, scrub_refusal, group_at, began, invoked, proposed, synced_at, scrubbed_at, stopped, restarted}
+use Rattle.protocol.specs.Worlds.{World, Event, first_world, Found, Invokes, Proposes, Syncs, Scrubs, Delivers, Sets, Ticks, Stops, Starts, Before, After, number_of, mark_of, is_brick, is_up, may_start, world_began, world_told, world_tells, world_answered, world_answers, reports_of, world_stepped, world_ticked, world_stopped, world_found, world_started, delivered, packet_of, happens, run}
 use Rattle.lines.specs.declared.forms.Line.{Line}
-use Rattle.lines.specs.declared.forms.Line.TheVariants.{Nothing, Invoke, Deliver, SetClock, Tick, Crash, Start, Propose, Sync, Calm}
+use Rattle.lines.specs.declared.forms.Line.TheVariants.{Nothing, Invoke, Deliver, SetClock, Tick, Crash, Start, Propose, Sync, Scrub, Suspect, Trust, Spare, Calm}
 use Rattle.fab_base.specs.Layouts.{Layout, Group}
 use Rattle.fab_disk.specs.declared.mem_disk.MemDisk.{MemDisk}
 use Rattle.stripe_code.specs.Codes.{coding}
@@ -30,17 +28,18 @@ use Rattle.transcript.specs.Kinds.{is_begin}
 use Rattle.world.specs.Faults.{IsEventsOf}
 use Rattle.world.specs.Runs.{Run, Step, world_of, all_events, brick_of}
 use Rattle.world.specs.Steps.{Runs}
+use Rattle.world.specs.Suspected.{has_both, spare_list, proposing_line, meant}
 use Rattle.world.proofs.RunLemmas.{world_of-with_step}
 use Rattle.protocol.proofs.Events.{step_on, world_counting, world_handled, run-append}
 use Rattle.protocol.proofs.Tables.{put_each}
-use Rattle.world.specs.Texts.{mark_text, marks_text, report_text, reports_text, new_marks, new_reports, is_deliverable, marks_if, outcome_of, outcome_text, event_text, text_of, line_text, step_text, refused_or_begun}
+use Rattle.world.specs.Texts.{mark_text, marks_text, report_text, reports_text, new_marks, new_reports, is_deliverable, marks_if, outcome_of, outcome_text, event_text, text_of, line_text, step_text, suspicion_text, refused_or_begun}
 use Rattle.world.specs.declared.simulations.Outcome.{Outcome}
 use Rattle.world.specs.declared.simulations.Outcome.TheVariants.{Marks, Refused, Idle}
 use Rattle.printed.specs.Printed.{Printed, OfMark, OfReport, OfRefusal, OfNothing, printed_text, printed_texts, marks_in, printed_marks, reports_in, printed_reports}
 use Rattle.printed.specs.Outputs.{left_by, steps_text}
 use Rattle.printed.specs.LineSteps.{LeadsTo, AreStepsOf}
 use Rattle.printed.proofs.Standing.{up_brick}
-use Rattle.printed.proofs.OpenWorks.{works_in, works_none, works_put, works_fewer, works_kept, Closes, received_closes, proposed_closes, synced_closes}
+use Rattle.printed.proofs.OpenWorks.{works_in, works_none, works_put, OpensNone, opens_same, works_fewer, works_kept, Closes, received_closes, proposed_closes, synced_closes, scrubbed_closes}
 
 -- the lines that an outcome prints, with the marks that were made, and what was reported
 abbrev lines_of : Outcome → List Mark → List (BrickId × Report) → List Printed
@@ -204,7 +203,7 @@ behind : {A : Type 0} (first more : List A) → drop (length first) (first ++ mo
 behind [] more = refl
 behind (one ∷ first) more = behind first more
 
--- A world after another, whose new marks and reports are those that are printed. So many of the lines at most are no Ends, beside the reports that close proposals and synchronisations.
+-- A world after another, whose new marks and reports are those that are printed. So many of the lines at most are no Ends, beside the reports that close proposals, synchronisations and scrubs.
 record IsPrinted (setting : Setting) (w next : World) (outcome : Outcome) (most : ℕ) : Type 0 where
   marks : next.marks ≡ w.marks ++ printed_marks (lines_of outcome (new_marks w next) (new_reports w next))
   reports : next.choices.reports ≡ w.choices.reports ++ printed_reports (lines_of outcome (new_marks w next) (new_reports w next))
@@ -305,72 +304,55 @@ delivered_printed setting w number (Some packet) =
     done_or_not setting w next (is_up setting.layout w packet.to)
     (λ up. printed_fewer setting w next Marks (handled_printed setting w number packet up))
 
--- an operation, a proposal or a synchronisation begins exactly where no refusal is printed
+-- an operation, a proposal, a synchronisation or a scrub begins exactly where no refusal is printed
 begun_printed : (setting : Setting) (w next : World) (up : Bool) (refusal : Option Refusal) → (up ≡ true → IsPrinted setting w next Marks 1)
     → IsPrinted setting w (if up && not (is_some refusal) then next else w) (refused_or_begun (if up then refusal else Some Down)) 1
 begun_printed setting w next false refusal printed = printed_refused setting w Down
 begun_printed setting w next true None printed = printed refl
 begun_printed setting w next true (Some refusal) printed = printed_refused setting w refusal
 
--- a brick that begins an operation keeps its proposal and its synchronisation
-invoked_keeps : (setting : Setting) (me : BrickId) (now : ℕ) (node : Node) (ask : Ask) → (invoked setting me now node ask).node.proposal ≡ node.proposal
+-- a brick that begins an operation opens no proposal, synchronisation or scrub
+invoked_opens : (setting : Setting) (me : BrickId) (now : ℕ) (node : Node) (ask : Ask) → OpensNone node (invoked setting me now node ask).node
 unfolding invoked
-invoked_keeps setting me now node ask = by (group_at setting.layout node ask.group.0)
+invoked_opens setting me now node ask = by (group_at setting.layout node ask.group.0)
   where
-    by : (z : Option Group) → (began setting me now node ask z).node.proposal ≡ node.proposal
-    by None = refl
-    by (Some group) = refl
+    by : (z : Option Group) → OpensNone node (began setting me now node ask z).node
+    by None = opens_same node
+    by (Some group) = record { proposal = λ is. is; job = λ is. is; scrub = λ is. is }
 
-invoked_keeps_job : (setting : Setting) (me : BrickId) (now : ℕ) (node : Node) (ask : Ask) → (invoked setting me now node ask).node.job ≡ node.job
-unfolding invoked
-invoked_keeps_job setting me now node ask = by (group_at setting.layout node ask.group.0)
-  where
-    by : (z : Option Group) → (began setting me now node ask z).node.job ≡ node.job
-    by None = refl
-    by (Some group) = refl
+-- nor does one that stops or starts: it has none
+no_some : {A : Type 0} → false ≡ true → A
+no_some is = absurd (let never : false ≡ true = is in cc)
 
--- one that stops or starts has none
-stopped_has_none : (node : Node) → (is_some (stopped node).proposal ≡ false) × (is_some (stopped node).job ≡ false)
+stopped_opens : (node other : Node) → OpensNone other (stopped node)
 unfolding stopped
-stopped_has_none node = (refl, refl)
+stopped_opens node other = record { proposal = λ is. no_some is; job = λ is. no_some is; scrub = λ is. no_some is }
 
-restarted_has_none : (openings : ℕ) (node : Node) → (is_some (restarted openings node).proposal ≡ false) × (is_some (restarted openings node).job ≡ false)
+restarted_opens : (openings : ℕ) (node other : Node) → OpensNone other (restarted openings node)
 unfolding restarted
-restarted_has_none openings node = (refl, refl)
-
--- which is not to have one
-not_both : {A : Type 0} (b : Bool) → b ≡ false → b ≡ true → A
-not_both b isnt is = absurd (let never : false ≡ true = sym isnt ∙ is in cc)
+restarted_opens openings node other = record { proposal = λ is. no_some is; job = λ is. no_some is; scrub = λ is. no_some is }
 
 -- a start prints nothing
 started_printed : (setting : Setting) (w : World) (brick : BrickId) (openings : ℕ) (found : Found)
     → IsPrinted setting w (world_started (world_found w brick found) brick openings) Marks 1
 started_printed setting w brick openings Before =
     printed_none setting w (world_started w brick openings) 1 refl refl
-    (works_kept setting.layout.bricks brick.0 w.nodes (restarted openings (w.nodes brick.0))
-    (not_both _ (restarted_has_none openings (w.nodes brick.0)).0) (not_both _ (restarted_has_none openings (w.nodes brick.0)).1))
+    (works_kept setting.layout.bricks brick.0 w.nodes (restarted openings (w.nodes brick.0)) (restarted_opens openings (w.nodes brick.0) (w.nodes brick.0)))
 started_printed setting w brick openings After =
     let found : World = world_found w brick After in
     let node : Node = restarted openings (found.nodes brick.0) in
     printed_none setting w (world_started found brick openings) 1 refl (append-nil w.choices.reports)
     (works_fewer setting.layout.bricks w.nodes (put found.nodes brick.0 node)
-    (put_each (λ j z. is_some z.proposal ≡ true → is_some (w.nodes j).proposal ≡ true) found.nodes brick.0 node
-    (not_both _ (restarted_has_none openings (found.nodes brick.0)).0)
-    (λ j other. put_each (λ k z. k ≢ brick.0 → is_some z.proposal ≡ true → is_some (w.nodes k).proposal ≡ true) w.nodes brick.0 (w.after brick.0)
-    (λ apart. absurd (apart refl)) (λ k away apart is. is) j other))
-    (put_each (λ j z. is_some z.job ≡ true → is_some (w.nodes j).job ≡ true) found.nodes brick.0 node
-    (not_both _ (restarted_has_none openings (found.nodes brick.0)).1)
-    (λ j other. put_each (λ k z. k ≢ brick.0 → is_some z.job ≡ true → is_some (w.nodes k).job ≡ true) w.nodes brick.0 (w.after brick.0)
-    (λ apart. absurd (apart refl)) (λ k away apart is. is) j other)))
+    (put_each (λ j z. OpensNone (w.nodes j) z) found.nodes brick.0 node (restarted_opens openings (found.nodes brick.0) (w.nodes brick.0))
+    (λ j other. put_each (λ k z. k ≢ brick.0 → OpensNone (w.nodes k) z) w.nodes brick.0 (w.after brick.0)
+    (λ apart. absurd (apart refl)) (λ k away apart. opens_same (w.nodes k)) j other)))
 
 -- the marks and the reports that an event makes are those that it prints
 event_printed : (setting : Setting) (w : World) (event : Event) → IsPrinted setting w (happens setting w event) (outcome_of setting w event) 1
 unfolding happens
 event_printed setting w (Invokes brick ask) =
     let step : NodeStep = invoked setting brick (w.clocks brick.0) (w.nodes brick.0) ask in
-    let fewer = works_kept setting.layout.bricks brick.0 w.nodes step.node
-    (λ is. subst (λ (z : Option Proposal). is_some z ≡ true) (invoked_keeps setting brick (w.clocks brick.0) (w.nodes brick.0) ask) is)
-    (λ is. subst (λ (z : Option Job). is_some z ≡ true) (invoked_keeps_job setting brick (w.clocks brick.0) (w.nodes brick.0) ask) is) in
+    let fewer = works_kept setting.layout.bricks brick.0 w.nodes step.node (invoked_opens setting brick (w.clocks brick.0) (w.nodes brick.0) ask) in
     begun_printed setting w (world_began w brick ask step) (is_up setting.layout w brick) (refusal_of setting.layout (w.nodes brick.0) ask)
     (λ up. printed_more setting w (world_began w brick ask step) (mark.Begin (length w.marks) (w.marked + 1) brick ask ∷ []) [] 1 refl
     (sym (append-nil w.choices.reports)) (omega (arith, fewer)))
@@ -384,6 +366,11 @@ event_printed setting w (Syncs brick group) =
     begun_printed setting w (world_stepped setting w brick step) (is_up setting.layout w brick)
     (sync_refusal setting.layout (w.nodes brick.0) group.0)
     (λ up. stepped_printed setting w brick step 1 up (synced_closes setting brick (w.clocks brick.0) (w.nodes brick.0) group))
+event_printed setting w (Scrubs brick group stripe members) =
+    let step : NodeStep = scrubbed_at setting brick (w.clocks brick.0) (w.nodes brick.0) group stripe members in
+    begun_printed setting w (world_stepped setting w brick step) (is_up setting.layout w brick)
+    (scrub_refusal setting.layout (w.nodes brick.0) group stripe members)
+    (λ up. stepped_printed setting w brick step 1 up (scrubbed_closes setting brick (w.clocks brick.0) (w.nodes brick.0) group stripe members))
 event_printed setting w (Delivers number) = delivered_printed setting w number (packet_of w.packets number)
 event_printed setting w (Sets brick time) =
     done_or_not setting w (record w { clocks = put w.clocks brick.0 time }) (is_brick setting.layout brick)
@@ -392,8 +379,7 @@ event_printed setting w (Ticks brick) =
     done_or_not setting w (world_ticked setting w brick) (is_up setting.layout w brick)
     (λ is. printed_none setting w (world_ticked setting w brick) 1 refl refl (omega arith))
 event_printed setting w (Stops brick during) =
-    let fewer = works_kept setting.layout.bricks brick.0 w.nodes (stopped (w.nodes brick.0)) (not_both _ (stopped_has_none (w.nodes brick.0)).0)
-    (not_both _ (stopped_has_none (w.nodes brick.0)).1) in
+    let fewer = works_kept setting.layout.bricks brick.0 w.nodes (stopped (w.nodes brick.0)) (stopped_opens (w.nodes brick.0) (w.nodes brick.0)) in
     done_or_not setting w (world_stopped setting w brick during) (is_up setting.layout w brick)
     (λ is. printed_more setting w (world_stopped setting w brick during) (mark.Crash (length w.marks) brick ∷ []) [] 1 refl
     (sym (append-nil w.choices.reports)) (omega (arith, fewer)))
@@ -402,7 +388,7 @@ event_printed setting w (Starts brick openings found) =
     (λ is. started_printed setting w brick openings found)
 
 -- A text is that of printed lines, and the marks and reports among them are those that a world has after another. So many of the lines at most are no Ends, beside
--- the reports that close proposals and synchronisations.
+-- the reports that close proposals, synchronisations and scrubs.
 pub record IsPrintedAs (setting : Setting) (w next : World) (text : List ℕ) (most : ℕ) : Type 0 where
   pub printed : List Printed
   pub text_is : text ≡ printed_texts printed
@@ -577,6 +563,11 @@ calm_printed setting mark n numbers w last (event ∷ events) runs =
     most_printed setting w (run setting (event ∷ events) w) (text_of setting w (event ∷ events)) 0 1 (omega arith)
     (alone_printed setting n (map brick_of numbers) w last (event ∷ events) runs)
 
+-- what a line prints that speaks of two bricks
+suspicion_printed : (setting : Setting) (w : World) (has : Bool) → IsPrintedAs setting w (run setting [] w) (suspicion_text has) 1
+suspicion_printed setting w true = nothing_printed setting w 1
+suspicion_printed setting w false = idle_printed setting 0 [] w
+
 -- What the events of a line print.
 line_printed : (layout : Layout) (w : World) (old new : List MemDisk) (line : Line) (events : List Event) → IsEventsOf layout w old new line events
     → IsPrintedAs (coding layout) w (run (coding layout) events w) (line_text (coding layout) w line events) 1
@@ -592,10 +583,28 @@ line_printed layout w old new (Start b fault) events (inr (inl started)) = of_on
 line_printed layout w old new (Start b fault) events (inr (inr none)) = of_one (coding layout) w (Start b fault) _ events none.events_are
 line_printed layout w old new (Propose b g members) events are = of_one (coding layout) w (Propose b g members) _ events are
 line_printed layout w old new (Sync b g) events are = of_one (coding layout) w (Sync b g) _ events are
+line_printed layout w old new (Scrub b g s members) events are = of_one (coding layout) w (Scrub b g s members) _ events are
+line_printed layout w old new (Suspect b c) events are =
+    of_none (coding layout) w (Suspect b c) events are (suspicion_printed (coding layout) w (has_both layout.bricks b c))
+line_printed layout w old new (Trust b c) events are =
+    of_none (coding layout) w (Trust b c) events are (suspicion_printed (coding layout) w (has_both layout.bricks b c))
+line_printed layout w old new (Spare b g) events are = of_none (coding layout) w (Spare b g) events are (idle_printed (coding layout) 0 [] w)
 line_printed layout w old new (Calm n numbers) events (inl calm) =
     calm_printed (coding layout) n (operation_marked w n) numbers w (run (coding layout) events w) events calm.runs
 line_printed layout w old new (Calm n numbers) events (inr none) =
     of_none (coding layout) w (Calm n numbers) events none.1 (idle_printed (coding layout) n numbers w)
+
+-- What the events of a line print that stands for another.
+meant_printed : (r : Run) (new : List MemDisk) (line : Line) (events : List Event)
+    → IsEventsOf r.layout (world_of r) r.disks new (meant r line) events
+    → IsPrintedAs (coding r.layout) (world_of r) (run (coding r.layout) events (world_of r)) (line_text (coding r.layout) (world_of r) line events) 1
+meant_printed r new (Spare b g) events are = by (spare_list r b g) are
+  where
+    by : (o : Option (List BrickId)) → IsEventsOf r.layout (world_of r) r.disks new (proposing_line b g o) events
+        → IsPrintedAs (coding r.layout) (world_of r) (run (coding r.layout) events (world_of r)) (line_text (coding r.layout) (world_of r) (Spare b g) events) 1
+    by None none = of_none (coding r.layout) (world_of r) (Spare b g) events none (idle_printed (coding r.layout) 0 [] (world_of r))
+    by (Some members) one = of_one (coding r.layout) (world_of r) (Spare b g) _ events one
+meant_printed r new line events are = line_printed r.layout (world_of r) r.disks new line events are
 
 -- the world that a step leaves
 pub after_step : (before after : Run) (line : Line) (step : Step) → Runs before after line step
@@ -622,7 +631,7 @@ steps_printed r last (step ∷ steps) leads =
     (sym (run-append setting w step.events (all_events steps)))
     (most_printed setting w (run setting (all_events steps) next) (steps_text setting w (step ∷ steps)) (1 + length steps) (suc (length steps)) (omega arith)
     (both_printed setting w next (run setting (all_events steps) next) (step_text setting w step) (steps_text setting next steps) 1 (length steps)
-    (line_printed r.layout w r.disks leads.0.disks step.line step.events leads.1.events_are) rest))
+    (meant_printed r leads.0.disks step.line step.events leads.1.events_are) rest))
 
 -- What the steps of a whole schedule print, from fresh bricks on.
 pub schedule_printed : (layout : Layout) (schedule : List (List ℕ)) (steps : List Step) → AreStepsOf layout schedule steps

@@ -1,27 +1,31 @@
 -- The printed line of a report reads back: its numbers have a spelling, and members that were decided are some, and few.
-use Rattle.std.proofs.Common.{◌≡◌, ℕ, suc, ◌+◌, ◌*◌, ◌≤◌, ◌==◌, Bool, true, ◌&&◌, List, [], ◌∷◌, ◌++◌, length, map, Option, Some, None, is_some, refl, ap, ◌∙◌, arith, codes, append-nil, append_assoc}
+use Rattle.std.proofs.Common.{◌≡◌, ℕ, suc, ◌+◌, ◌*◌, ◌≤◌, ◌==◌, not, Bool, true, false, ◌&&◌, if◌then◌else◌, List, [], ◌∷◌, ◌++◌, length, map, Option, Some, None, is_some, refl, ap, ◌∙◌, arith, codes, append-nil, append_assoc}
 use Rattle.std.specs.Prelude.{⊤}
 use Rattle.std.specs.List.{list_all, slice_split}
 use Rattle.std.specs.Fmt.{decimal}
 use Rattle.fab_base.specs.declared.answers.Cause.{Cause}
 use Rattle.fab_base.specs.declared.identities.BrickId.{BrickId}
 use Rattle.fab_base.specs.declared.stamps.Ballot.{Ballot}
-use Rattle.fab_base.specs.Stamps.{ballot_text}
+use Rattle.fab_base.specs.declared.stamps.Stamp.{Stamp}
+use Rattle.fab_base.specs.Stamps.{ballot_text, stamp_text}
 use Rattle.fab_base.specs.Texts.{newline}
 use Rattle.protocol.specs.declared.tellings.ViewAnswer.{ViewAnswer}
 use Rattle.protocol.specs.declared.tellings.ViewAnswer.TheVariants as ended
 use Rattle.protocol.specs.declared.tellings.SyncAnswer.{SyncAnswer}
 use Rattle.protocol.specs.declared.tellings.SyncAnswer.TheVariants as synced
+use Rattle.protocol.specs.declared.tellings.ScrubAnswer.{ScrubAnswer}
+use Rattle.protocol.specs.declared.tellings.ScrubAnswer.TheVariants as scrubbed
 use Rattle.protocol.specs.declared.tellings.Report.{Report}
-use Rattle.protocol.specs.declared.tellings.Report.TheVariants.{View, Sync}
+use Rattle.protocol.specs.declared.tellings.Report.TheVariants.{View, Sync, Scrub}
+use Rattle.transcript.specs.declared.claims.ClaimedStamp.{ClaimedStamp}
 use Rattle.transcript.specs.declared.claims.Entry.TheVariants.{Other}
 use Rattle.transcript.specs.Forms.{form, entry_of}
-use Rattle.transcript.specs.Tokens.{behind, is_plain, are_plain}
-use Rattle.transcript.specs.Words.{is_ballot, is_decided, is_view_end, is_stopped, is_sync_end, is_view, is_sync, is_word}
-use Rattle.world.specs.Texts.{members_text, view_answer_text, sync_answer_text, report_text}
-use Rattle.printed.specs.Spellings.{IsSmall, CauseReads, BallotReads, BricksRead, ViewAnswerReads, SyncAnswerReads, ReportReads}
-use Rattle.printed.proofs.Tokens.{or_some, or_none, IsPiece, piece_both, piece_most, digits_piece, digits_no_space, plain_back, before_back, behind_front, behind_other, split_first, split_alone}
-use Rattle.printed.proofs.MarkLines.{literal, space, dot, cause_line, cause_ends, cause_piece, cause_back, entry_short}
+use Rattle.transcript.specs.Tokens.{behind, cut, is_plain, are_plain}
+use Rattle.transcript.specs.Words.{or_else, stamp_of, is_ballot, is_decided, is_view_end, is_stopped, is_sync_end, is_repaired, is_scrub_end, is_view, is_sync, is_scrub, is_word}
+use Rattle.world.specs.Texts.{members_text, view_answer_text, sync_answer_text, scrub_answer_text, report_text}
+use Rattle.printed.specs.Spellings.{IsSmall, CauseReads, BallotReads, BricksRead, ViewAnswerReads, SyncAnswerReads, ScrubAnswerReads, StampReads, ReportReads}
+use Rattle.printed.proofs.Tokens.{or_some, or_none, IsPiece, piece_both, piece_most, digits_piece, digits_no_space, plain_back, before_back, behind_front, behind_other, split_first, split_alone, all_both, cut_at, cut_none}
+use Rattle.printed.proofs.MarkLines.{literal, space, dot, stamp_piece, stamp_back, cause_line, cause_ends, cause_piece, cause_back, entry_short}
 
 -- members that were decided are some, and no more than may keep a group
 abbrev pub MembersFit : ViewAnswer → Type 0
@@ -35,6 +39,7 @@ MembersFit ended.BadMembers = ⊤
 abbrev pub ReportFits : Report → Type 0
 ReportFits (View group call answer) = MembersFit answer
 ReportFits (Sync group answer) = ⊤
+ReportFits (Scrub call members answer) = ⊤
 
 -- each member's number has a spelling
 abbrev EachSmall : List BrickId → Type 0
@@ -66,10 +71,18 @@ sync_line (synced.Synced view) = codes "synced " ++ decimal view.0
 sync_line (synced.Stopped stripe cause) = codes "stopped " ++ (decimal stripe.0 ++ (codes " " ++ cause_line cause))
 sync_line (synced.Spent stripe) = codes "spent " ++ decimal stripe.0
 
+-- how a scrub ended
+abbrev scrub_line : ScrubAnswer → List ℕ
+scrub_line scrubbed.Clean = codes "clean"
+scrub_line (scrubbed.Repaired stamp lagging) = codes "repaired " ++ (stamp_text stamp ++ members_line lagging)
+scrub_line (scrubbed.Aborted cause) = codes "aborted " ++ cause_line cause
+
 -- a report
 abbrev pub report_line : Report → List ℕ
 report_line (View group call answer) = codes "view " ++ (decimal group.0 ++ (codes " " ++ view_line answer))
 report_line (Sync group answer) = codes "sync " ++ (decimal group.0 ++ (codes " " ++ sync_line answer))
+report_line (Scrub call members answer) =
+    codes "scrub " ++ (decimal call.group.0 ++ (codes " " ++ (decimal call.stripe.0 ++ (codes " " ++ scrub_line answer))))
 
 -- members, and the line feed
 members_end : (members : List BrickId) → members_text members ≡ members_line members ++ newline
@@ -91,12 +104,22 @@ sync_ends (synced.Stopped stripe cause) =
     ap (λ (l : List ℕ). codes "stopped " ++ (decimal stripe.0 ++ (codes " " ++ l))) (cause_ends cause) ∙ simp append_assoc refl
 sync_ends (synced.Spent stripe) = simp append_assoc refl
 
+-- how a scrub ended, and the line feed
+scrub_ends : (answer : ScrubAnswer) → scrub_answer_text answer ≡ scrub_line answer ++ newline
+scrub_ends scrubbed.Clean = refl
+scrub_ends (scrubbed.Repaired stamp lagging) =
+    ap (λ (l : List ℕ). codes "repaired " ++ (stamp_text stamp ++ l)) (members_end lagging) ∙ simp append_assoc refl
+scrub_ends (scrubbed.Aborted cause) = ap (λ (l : List ℕ). codes "aborted " ++ l) (cause_ends cause) ∙ simp append_assoc refl
+
 -- the printed text is the line and its line feed
 pub report_ends : (report : Report) → report_text report ≡ report_line report ++ newline
 report_ends (View group call answer) =
     ap (λ (l : List ℕ). codes "view " ++ (decimal group.0 ++ (codes " " ++ l))) (view_ends answer) ∙ simp append_assoc refl
 report_ends (Sync group answer) =
     ap (λ (l : List ℕ). codes "sync " ++ (decimal group.0 ++ (codes " " ++ l))) (sync_ends answer) ∙ simp append_assoc refl
+report_ends (Scrub call members answer) =
+    ap (λ (l : List ℕ). codes "scrub " ++ (decimal call.group.0 ++ (codes " " ++ (decimal call.stripe.0 ++ (codes " " ++ l))))) (scrub_ends answer)
+    ∙ simp append_assoc refl
 
 -- it is one line, and short
 
@@ -139,6 +162,16 @@ sync_piece (synced.Stopped stripe cause) reads =
 sync_piece (synced.Spent stripe) reads =
     piece_most _ 900 _ (omega arith) (piece_both 6 20 _ _ (literal 6 (codes "spent ") refl (omega arith)) (digits_piece stripe.0 reads))
 
+-- how a scrub ended
+scrub_piece : (answer : ScrubAnswer) → ScrubAnswerReads answer → IsPiece 900 (scrub_line answer)
+scrub_piece scrubbed.Clean reads = literal 900 (codes "clean") refl (omega arith)
+scrub_piece (scrubbed.Repaired stamp lagging) reads =
+    piece_most (9 + (100 + 21 * length lagging)) 900 _ (omega (arith, reads.2))
+    (piece_both 9 (100 + 21 * length lagging) _ _ (literal 9 (codes "repaired ") refl (omega arith))
+    (piece_both 100 (21 * length lagging) _ _ (stamp_piece stamp reads.0) (members_piece lagging (each_small lagging reads.1))))
+scrub_piece (scrubbed.Aborted cause) reads =
+    piece_most _ 900 _ (omega arith) (piece_both 8 200 _ _ (literal 8 (codes "aborted ") refl (omega arith)) (cause_piece cause reads))
+
 -- a report
 pub report_piece : (report : Report) → ReportReads report → ReportFits report → IsPiece 1000 (report_line report)
 report_piece (View group call answer) reads fits =
@@ -149,6 +182,10 @@ report_piece (Sync group answer) reads fits =
     piece_most _ 1000 _ (omega arith) (piece_both 5 _ _ _ (literal 5 (codes "sync ") refl (omega arith)) (piece_both 20 _ _ _
     (digits_piece group.0 reads.0)
     (piece_both 1 900 _ _ space (sync_piece answer reads.1))))
+report_piece (Scrub call members answer) reads fits =
+    piece_most _ 1000 _ (omega arith) (piece_both 6 _ _ _ (literal 6 (codes "scrub ") refl (omega arith)) (piece_both 20 _ _ _
+    (digits_piece call.group.0 reads.0) (piece_both 1 _ _ _ space (piece_both 20 _ _ _ (digits_piece call.stripe.0 reads.1)
+    (piece_both 1 900 _ _ space (scrub_piece answer reads.2))))))
 
 -- how a proposal ended reads back
 
@@ -245,17 +282,67 @@ sync_back (synced.Spent stripe) reads =
     or_none _ _ _ (spent_not _) ∙ or_none _ _ _ (spent_not_stopped _) ∙ or_some _ _ _ _ (behind_front (codes "spent ") _)
     ∙ number_plain stripe.0 reads
 
+-- how a scrub ended reads back
+
+-- no space stands in a stamp
+stamp_no_space : (stamp : Stamp) → StampReads stamp → list_all (λ byte. not (byte == 32)) (stamp_text stamp) ≡ true
+stamp_no_space stamp reads =
+    all_both (λ byte. not (byte == 32)) (decimal stamp.view.0) _ (digits_no_space stamp.view.0 reads.view)
+    (all_both (λ byte. not (byte == 32)) (decimal stamp.time) _ (digits_no_space stamp.time reads.time)
+    (all_both (λ byte. not (byte == 32)) (decimal stamp.brick.0) (codes "." ++ decimal stamp.boot) (digits_no_space stamp.brick.0 reads.brick)
+    (digits_no_space stamp.boot reads.boot)))
+
+-- it is one
+stamp_is : (stamp : Stamp) → StampReads stamp → is_some (stamp_of (stamp_text stamp)) ≡ true
+stamp_is stamp reads = ap (λ (found : Option ClaimedStamp). is_some found) (stamp_back stamp reads)
+
+-- what stands behind `repaired`
+repaired_back : (stamp : Stamp) (lagging : List BrickId) → StampReads stamp → EachSmall lagging → is_repaired (stamp_text stamp ++ members_line lagging) ≡ true
+unfolding is_repaired
+repaired_back stamp [] reads small =
+    ap (λ (text : List ℕ). or_else (cut 32 text) (λ parts. if is_some (stamp_of parts.0) then are_plain parts.1 else false) (is_some (stamp_of text)))
+    (append-nil (stamp_text stamp))
+    ∙ or_none _ _ _ (cut_none 32 (stamp_text stamp) (stamp_no_space stamp reads)) ∙ stamp_is stamp reads
+repaired_back stamp (member ∷ members) reads small =
+    or_some _ _ _ _ (cut_at 32 (stamp_text stamp) (decimal member.0 ++ members_line members) (stamp_no_space stamp reads))
+    ∙ ap (λ (b : Bool). if b then are_plain (decimal member.0 ++ members_line members) else false) (stamp_is stamp reads)
+    ∙ members_plain member members small.0 small.1
+
+-- `clean`
+clean_back : is_scrub_end (codes "clean") ≡ true
+unfolding is_scrub_end behind
+clean_back = refl
+
+-- each of the three ends
+scrub_back : (answer : ScrubAnswer) → ScrubAnswerReads answer → is_scrub_end (scrub_line answer) ≡ true
+unfolding is_scrub_end
+scrub_back scrubbed.Clean reads = clean_back
+scrub_back (scrubbed.Repaired stamp lagging) reads =
+    or_some _ _ _ _ (behind_front (codes "repaired ") _) ∙ repaired_back stamp lagging reads.0 (each_small lagging reads.1)
+scrub_back (scrubbed.Aborted cause) reads =
+    or_none _ _ _ (behind_other 114 97 _ _ refl) ∙ or_some _ _ _ _ (behind_front (codes "aborted ") _)
+    ∙ ap (λ (found : Option _). is_some found) (cause_back cause reads)
+
 -- a report reads back
+
+-- two words begin with one letter
+scrub_not_sync : (rest : List ℕ) → behind (codes "sync ") (codes "scrub " ++ rest) ≡ None
+unfolding behind
+scrub_not_sync rest = refl
 
 -- it is one of the other words
 report_word : (report : Report) → ReportReads report → ReportFits report → is_word (report_line report) ≡ true
-unfolding is_word is_view is_sync
+unfolding is_word is_view is_sync is_scrub
 report_word (View group call answer) reads fits =
     or_none _ _ _ (behind_other 114 118 _ _ refl) ∙ or_some _ _ _ _ (behind_front (codes "view ") _)
     ∙ or_some _ _ _ _ (before_back 32 group.0 _ refl reads.0) ∙ view_back answer reads.1 fits
 report_word (Sync group answer) reads fits =
     or_none _ _ _ (behind_other 114 115 _ _ refl) ∙ or_none _ _ _ (behind_other 118 115 _ _ refl)
     ∙ or_some _ _ _ _ (behind_front (codes "sync ") _) ∙ or_some _ _ _ _ (before_back 32 group.0 _ refl reads.0) ∙ sync_back answer reads.1
+report_word (Scrub call members answer) reads fits =
+    or_none _ _ _ (behind_other 114 115 _ _ refl) ∙ or_none _ _ _ (behind_other 118 115 _ _ refl) ∙ or_none _ _ _ (scrub_not_sync _)
+    ∙ or_some _ _ _ _ (behind_front (codes "scrub ") _) ∙ or_some _ _ _ _ (before_back 32 call.group.0 _ refl reads.0)
+    ∙ or_some _ _ _ _ (before_back 32 call.stripe.0 _ refl reads.1) ∙ scrub_back answer reads.2
 
 -- so it has their form
 word_form : (text : List ℕ) → is_word text ≡ true → form text ≡ Some Other

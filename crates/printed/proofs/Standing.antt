@@ -7,7 +7,7 @@ use Rattle.fab_base.specs.Layouts.{Layout}
 use Rattle.reg_model.specs.declared.marks.Mark.{Mark}
 use Rattle.reg_model.specs.declared.marks.Mark.TheVariants.{Begin, End, Crash}
 use Rattle.protocol.specs.Settings.{Setting}
-use Rattle.protocol.specs.Nodes.{refusal_of, proposed, synced_at}
+use Rattle.protocol.specs.Nodes.{refusal_of, proposed, synced_at, scrubbed_at}
 use Rattle.protocol.specs.Worlds.{World, Event, is_brick, is_up, run, first_world}
 use Rattle.protocol_laws.proofs.BooksEvents.{BeginFits, begin_fits}
 use Rattle.reg_model.proofs.AddedMarks.{slice_get_push}
@@ -53,6 +53,11 @@ stand_cases setting w all = record {
       (λ x nodes held packets choices holds. holds) w all;
   syncs = λ brick group may.
       stepped_each (MarksStand setting) setting brick (synced_at setting brick (w.clocks brick.0) (w.nodes brick.0) group) (λ x seq t base holds. holds)
+      (λ x seq v holds. holds) (λ x nodes call holds. holds) (λ x seq cause holds. holds)
+      (λ x one holds. one_more setting x.marks (End (length x.marks) _ one.answer) holds tt)
+      (λ x nodes held packets choices holds. holds) w all;
+  scrubs = λ brick group stripe members may.
+      stepped_each (MarksStand setting) setting brick (scrubbed_at setting brick (w.clocks brick.0) (w.nodes brick.0) group stripe members) (λ x seq t base holds. holds)
       (λ x seq v holds. holds) (λ x nodes call holds. holds) (λ x seq cause holds. holds)
       (λ x one holds. one_more setting x.marks (End (length x.marks) _ one.answer) holds tt)
       (λ x nodes held packets choices holds. holds) w all;

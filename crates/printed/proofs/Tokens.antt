@@ -189,7 +189,7 @@ found_at end xs rest lacks =
     grind (arith, nat_tests)
 
 -- and cuts the text
-cut_at : (end : ℕ) (xs rest : List ℕ) → list_all (λ byte. not (byte == end)) xs ≡ true → cut end (xs ++ (end ∷ rest)) ≡ Some (xs, rest)
+pub cut_at : (end : ℕ) (xs rest : List ℕ) → list_all (λ byte. not (byte == end)) xs ≡ true → cut end (xs ++ (end ∷ rest)) ≡ Some (xs, rest)
 unfolding cut
 cut_at end xs rest lacks =
     let first : take (length xs) (xs ++ (end ∷ rest)) ≡ xs = take_at xs (end ∷ rest) (length xs) refl in
@@ -199,6 +199,18 @@ cut_at end xs rest lacks =
     past : (ys : List ℕ) → drop (length ys + 1) (ys ++ (end ∷ rest)) ≡ rest
     past [] = refl
     past (y ∷ ys) = let next : length (y ∷ ys) + 1 ≡ suc (length ys + 1) = omega arith in rw next (past ys)
+
+-- where it is not among them nothing is cut
+no_place : (end : ℕ) (xs : List ℕ) → list_all (λ byte. not (byte == end)) xs ≡ true → position (λ byte. byte == end) xs ≡ None
+no_place end [] lacks = refl
+no_place end (x ∷ xs) lacks =
+    let parts = and_parts (not (x == end)) (list_all (λ byte. not (byte == end)) xs) lacks in
+    let more = no_place end xs parts.1 in
+    grind (arith, nat_tests)
+
+pub cut_none : (end : ℕ) (xs : List ℕ) → list_all (λ byte. not (byte == end)) xs ≡ true → cut end xs ≡ None
+unfolding cut
+cut_none end xs lacks = rw (no_place end xs lacks) refl
 
 -- a byte that ends a number
 abbrev pub IsNoDigit : ℕ → Type 0

@@ -1,5 +1,5 @@
 -- Numbers that have a spelling, the causes that marks tell, and what bricks report: a text of them reads back.
-use Rattle.std.specs.Prelude.{ℕ, ◌<◌, ◌^◌, List, ⊤, Option, Some, None, IfSome}
+use Rattle.std.specs.Prelude.{ℕ, ◌<◌, ◌≤◌, ◌^◌, List, ⊤, length, Option, Some, None, IfSome}
 use Rattle.std.specs.List.{All}
 use Rattle.fab_base.specs.declared.answers.Answer.TheVariants.{Data, Done, Aborted}
 use Rattle.fab_base.specs.declared.answers.Cause.{Cause}
@@ -11,8 +11,10 @@ use Rattle.protocol.specs.declared.tellings.ViewAnswer.{ViewAnswer}
 use Rattle.protocol.specs.declared.tellings.ViewAnswer.TheVariants as ended
 use Rattle.protocol.specs.declared.tellings.SyncAnswer.{SyncAnswer}
 use Rattle.protocol.specs.declared.tellings.SyncAnswer.TheVariants as synced
+use Rattle.protocol.specs.declared.tellings.ScrubAnswer.{ScrubAnswer}
+use Rattle.protocol.specs.declared.tellings.ScrubAnswer.TheVariants as scrubbed
 use Rattle.protocol.specs.declared.tellings.Report.{Report}
-use Rattle.protocol.specs.declared.tellings.Report.TheVariants.{View, Sync}
+use Rattle.protocol.specs.declared.tellings.Report.TheVariants.{View, Sync, Scrub}
 use Rattle.protocol.specs.Worlds.{World}
 use Rattle.reg_model.specs.declared.marks.Mark.{Mark}
 use Rattle.reg_model.specs.declared.marks.Mark.TheVariants.{Begin, End, Crash}
@@ -75,10 +77,17 @@ SyncAnswerReads (synced.Synced view) = IsSmall view.0
 SyncAnswerReads (synced.Stopped stripe cause) = IsSmall stripe.0 × CauseReads cause
 SyncAnswerReads (synced.Spent stripe) = IsSmall stripe.0
 
+-- those of how a scrub ended; the bricks that it names are no more than may keep a group
+abbrev pub ScrubAnswerReads : ScrubAnswer → Type 0
+ScrubAnswerReads scrubbed.Clean = ⊤
+ScrubAnswerReads (scrubbed.Repaired stamp lagging) = StampReads stamp × BricksRead lagging × (length lagging ≤ 32)
+ScrubAnswerReads (scrubbed.Aborted cause) = CauseReads cause
+
 -- those of a report
 abbrev pub ReportReads : Report → Type 0
 ReportReads (View group call answer) = IsSmall group.0 × ViewAnswerReads answer
 ReportReads (Sync group answer) = IsSmall group.0 × SyncAnswerReads answer
+ReportReads (Scrub call members answer) = IsSmall call.group.0 × IsSmall call.stripe.0 × ScrubAnswerReads answer
 
 -- what each of these bricks reported has a spelling
 abbrev pub AllReportsRead : List (BrickId × Report) → Type 0

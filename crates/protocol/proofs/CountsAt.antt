@@ -1,11 +1,11 @@
--- Which replies count: those to the very phase, from a seat that has none yet.
+-- Which replies count: those to the very phase, of a member that may count, and from a seat that has none yet.
 use Rattle.std.proofs.Common.{◌≡◌, ℕ, ◌-◌, nat_lt, true, false, ◌&&◌, List, Option, Some, None, refl, sym, ◌∙◌, subst}
 use Rattle.std.specs.Prelude.{nat_eq, ◌^◌}
 use Rattle.std.proofs.lemmas.Bool.{cond_both, eqb-true, and_parts}
 use Rattle.messages.specs.declared.calls.Call.{Call}
 use Rattle.messages.specs.declared.replies.Reply.{Reply}
 use Rattle.fab_base.specs.Layouts.{seat_in}
-use Rattle.protocol.specs.Coordinators.{Coordinator, Counted, call_same, answers_phase, has_seat, new_seat, asked_group, answering_seat, counts_at}
+use Rattle.protocol.specs.Coordinators.{Coordinator, Counted, call_same, answers_phase, has_seat, new_seat, asked_group, may_count, counting_seat, answering_seat, counts_at}
 
 -- calls that test the same are equal
 call_of : ℕ → ℕ → ℕ → ℕ → ℕ → ℕ → Call
@@ -39,6 +39,7 @@ pub record CountsAt (block : ℕ) (c : Coordinator) (from : ℕ) (call : Call) (
   pub call_is : call ≡ c.call
   pub answers : answers_phase block c.stamp seat c.phase reply ≡ true
   pub seat_is : seat_in (asked_group c).members from ≡ Some seat
+  pub may : may_count c from ≡ true
   pub first : has_seat seat c.counted ≡ false
 
 new_seat_is : (counted : List Counted) (o : Option ℕ) (seat : ℕ) → new_seat counted o ≡ Some seat → (o ≡ Some seat) × (has_seat seat counted ≡ false)
@@ -60,18 +61,28 @@ answering_seat_is block c reply (Some s) seat is =
     (λ isnt e. cc)
     is
 
+counting_seat_is : (c : Coordinator) (from seat : ℕ) → counting_seat c from ≡ Some seat
+    → (seat_in (asked_group c).members from ≡ Some seat) × (may_count c from ≡ true)
+counting_seat_is c from seat is =
+    cond_both (may_count c from) (seat_in (asked_group c).members from) None
+    (λ (z : Option ℕ). z ≡ Some seat → (seat_in (asked_group c).members from ≡ Some seat) × (may_count c from ≡ true))
+    (λ may e. (e, may))
+    (λ isnt e. cc)
+    is
+
 -- what is known of a reply that counts
 pub counts_facts : (block : ℕ) (c : Coordinator) (from : ℕ) (call : Call) (reply : Reply) (seat : ℕ)
     → counts_at block c from call reply ≡ Some seat → CountsAt block c from call reply seat
 unfolding counts_at
 counts_facts block c from call reply seat is =
     cond_both (call_same call c.call && nat_lt c.call.phase (2 ^ 32 - 1))
-    (new_seat c.counted (answering_seat block c reply (seat_in (asked_group c).members from))) None
+    (new_seat c.counted (answering_seat block c reply (counting_seat c from))) None
     (λ (z : Option ℕ). z ≡ Some seat → CountsAt block c from call reply seat)
     (λ test e.
     let p = and_parts (call_same call c.call) (nat_lt c.call.phase (2 ^ 32 - 1)) test in
-    let n = new_seat_is c.counted (answering_seat block c reply (seat_in (asked_group c).members from)) seat e in
-    let a = answering_seat_is block c reply (seat_in (asked_group c).members from) seat n.0 in
-    record { call_is = call_same_true call c.call p.0; answers = a.1; seat_is = a.0; first = n.1 })
+    let n = new_seat_is c.counted (answering_seat block c reply (counting_seat c from)) seat e in
+    let a = answering_seat_is block c reply (counting_seat c from) seat n.0 in
+    let s = counting_seat_is c from seat a.0 in
+    record { call_is = call_same_true call c.call p.0; answers = a.1; seat_is = s.0; may = s.1; first = n.1 })
     (λ test e. cc)
     is

@@ -1,9 +1,10 @@
--- What an event makes of a world: nothing, or one of eight things. So a fact holds in every world of a run where it holds at first, and each of
+-- What an event makes of a world: nothing, or one of nine things. So a fact holds in every world of a run where it holds at first, and each of
 -- these keeps it.
 use Rattle.std.proofs.Common.{◌≡◌, ℕ, true, List, [], ◌∷◌, ◌++◌, Option, Some, None, refl, ap, subst, Bool}
 use Rattle.std.proofs.lemmas.Bool.{cond_both}
 use Rattle.fab_base.specs.declared.identities.BrickId.{BrickId}
 use Rattle.fab_base.specs.declared.identities.GroupId.{GroupId}
+use Rattle.fab_base.specs.declared.identities.StripeNo.{StripeNo}
 use Rattle.fab_base.specs.declared.asks.Ask.{Ask}
 use Rattle.fab_base.specs.declared.answers.Cause.{Cause}
 use Rattle.fab_base.specs.declared.stamps.Stamp.{Stamp}
@@ -13,8 +14,8 @@ use Rattle.protocol.specs.Settings.{Setting}
 use Rattle.protocol.specs.declared.tellings.Told.{Told}
 use Rattle.protocol.specs.declared.tellings.Told.TheVariants.{Made, Seen, Began, Closed}
 use Rattle.protocol.specs.declared.tellings.Answered.{Answered}
-use Rattle.protocol.specs.Nodes.{Node, NodeStep, put, invoked, proposed, synced_at, received}
-use Rattle.protocol.specs.Worlds.{World, Choices, Found, Before, After, Event, Invokes, Proposes, Syncs, Delivers, Sets, Ticks, Stops, Starts, first_world, is_brick, is_up, may_begin, may_propose, may_sync, may_start, replies_with, voiced, delivered, packet_of, world_began, world_told, world_tells, world_answered, world_answers, world_stepped, world_ticked, world_stopped, world_found, world_started, happens, run}
+use Rattle.protocol.specs.Nodes.{Node, NodeStep, put, invoked, proposed, synced_at, scrubbed_at, received}
+use Rattle.protocol.specs.Worlds.{World, Choices, Found, Before, After, Event, Invokes, Proposes, Syncs, Scrubs, Delivers, Sets, Ticks, Stops, Starts, first_world, is_brick, is_up, may_begin, may_propose, may_sync, may_scrub, may_start, replies_with, voiced, delivered, packet_of, world_began, world_told, world_tells, world_answered, world_answers, world_stepped, world_ticked, world_stopped, world_found, world_started, happens, run}
 
 -- a brick's step on a packet
 abbrev pub step_on : Setting → World → Packet → NodeStep
@@ -36,6 +37,9 @@ pub record EachEvent (setting : Setting) (w : World) (P : Event → World → Ty
       → P (Proposes brick group members) (world_stepped setting w brick (proposed setting brick (w.nodes brick.0) group members))
   pub syncs : (brick : BrickId) (group : GroupId) → may_sync setting w brick group ≡ true
       → P (Syncs brick group) (world_stepped setting w brick (synced_at setting brick (w.clocks brick.0) (w.nodes brick.0) group))
+  pub scrubs : (brick : BrickId) (group : GroupId) (stripe : StripeNo) (members : List BrickId) → may_scrub setting w brick group stripe members ≡ true
+      → P (Scrubs brick group stripe members)
+      (world_stepped setting w brick (scrubbed_at setting brick (w.clocks brick.0) (w.nodes brick.0) group stripe members))
   pub handles : (number : ℕ) (packet : Packet) → packet_of w.packets number ≡ Some packet → is_up setting.layout w packet.to ≡ true
       → P (Delivers number) (world_handled setting w number packet)
   pub sets : (brick : BrickId) (time : ℕ) → is_brick setting.layout brick ≡ true
@@ -73,6 +77,9 @@ event_each P setting w cases still (Proposes brick group members) =
     (λ isnt. still (Proposes brick group members))
 event_each P setting w cases still (Syncs brick group) =
     cond_both (may_sync setting w brick group) _ _ (P (Syncs brick group)) (cases.syncs brick group) (λ isnt. still (Syncs brick group))
+event_each P setting w cases still (Scrubs brick group stripe members) =
+    cond_both (may_scrub setting w brick group stripe members) _ _ (P (Scrubs brick group stripe members)) (cases.scrubs brick group stripe members)
+    (λ isnt. still (Scrubs brick group stripe members))
 event_each P setting w cases still (Delivers number) =
     handled_or_not (P (Delivers number)) setting w (still (Delivers number)) number (cases.handles number)
 event_each P setting w cases still (Sets brick time) =

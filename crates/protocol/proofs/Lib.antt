@@ -2,9 +2,12 @@ pub mod Blocks
 pub mod ChangeExample
 pub mod CountsAt
 pub mod Events
+pub mod Needed
 pub mod Packets
 pub mod Puts
 pub mod RunExample
+pub mod ScrubExample
+pub mod ScrubRun
 pub mod Served
 pub mod SyncExample
 pub mod SyncRun

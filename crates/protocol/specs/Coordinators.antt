@@ -1,5 +1,5 @@
 -- What a coordinator does with the replies to a phase (Frølund 2004, write-stripe, read-stripe and recover).
-use Rattle.std.specs.Prelude.{ℕ, ◌+◌, ◌-◌, ◌^◌, Bool, true, false, not, nat_eq, nat_lt, ◌&&◌, ◌||◌, if◌then◌else◌, List, [], ◌∷◌, ◌++◌, length, Option, Some, None, filter}
+use Rattle.std.specs.Prelude.{ℕ, ◌+◌, ◌-◌, ◌^◌, ◌≤◌, Bool, true, false, not, nat_eq, nat_lt, ◌&&◌, ◌||◌, if◌then◌else◌, List, [], ◌∷◌, ◌++◌, length, Option, Some, None, is_some, filter}
 use Rattle.std.specs.Option.{option_map}
 use Rattle.fab_base.specs.declared.identities.BrickId.{BrickId}
 use Rattle.fab_base.specs.declared.identities.ViewNo.{ViewNo}
@@ -33,12 +33,13 @@ use Rattle.protocol.specs.Settings.{Code, Piece}
 use Rattle.protocol.specs.Views.{floor_of, kept_by}
 use Rattle.protocol.specs.Replicas.{is_changed}
 
--- An open operation at its coordinator: the group, with the members of the operation's view; the members of the view before that; what is asked; its stamp; how many rounds of
--- ordering it has begun; the version that it makes its own on, once it found one; the content that it stores, once it knows that, or what its data
+-- An open operation at its coordinator: the group, with the members of the operation's view; the members of the view before that; the members of its own view
+-- that alone count, of a scrub; what is asked; its stamp; how many rounds of ordering it has begun; the version that it makes its own on, once it found one; the content that it stores, once it knows that, or what its data
 -- block changes by, while it modifies; the call of its present phase; and the replies that count in it.
 pub record Coordinator : Type 0 where
   pub group : Group
   pub prior : List BrickId
+  pub only : Option (List BrickId)
   pub ask : Ask
   pub stamp : Stamp
   pub round : ℕ
@@ -60,6 +61,40 @@ asked_view t phase = if looks_back phase then record { 0 = t.view.0 - 1 } else t
 -- the group as the members keep it that the present phase asks
 abbrev pub asked_group : Coordinator → Group
 asked_group c = if looks_back c.phase then kept_by c.prior c.group else c.group
+
+-- a phase that each member is to answer whom a scrub brings to one version: it finds what they keep, has them promise, or has them store
+abbrev pub asks_each : Phase → Bool
+asks_each Looks = true
+asks_each Recovers = true
+asks_each Stores = true
+asks_each phase = false
+
+-- how many replies decide a phase that asks this group: a quorum of those who are asked; or all of the members that alone count, where it is for each of them
+abbrev pub needed_of : Group → Phase → Option (List BrickId) → ℕ
+needed_of group phase None = quorum_of group
+needed_of group phase (Some only) = if asks_each phase then length only else quorum_of group
+
+-- how many replies decide the present phase
+abbrev pub needed : Coordinator → ℕ
+needed c = needed_of (asked_group c) c.phase c.only
+
+-- where some members of a group alone count, they are at least a quorum of it
+abbrev pub AreEnough : Group → Option (List BrickId) → Type 0
+AreEnough group None = Unit {0}
+AreEnough group (Some only) = quorum_of group ≤ length only
+
+-- a member's reply may count in a phase: where some alone count, it is one of them, or the phase looks back
+abbrev pub may_count_in : Phase → Option (List BrickId) → ℕ → Bool
+may_count_in phase None brick = true
+may_count_in phase (Some only) brick = looks_back phase || is_some (seat_in only brick)
+
+-- a member's reply may count in the present phase
+abbrev pub may_count : Coordinator → ℕ → Bool
+may_count c brick = may_count_in c.phase c.only brick
+
+-- the seat of a brick whose reply may count: it is one of those who are asked
+abbrev pub counting_seat : Coordinator → ℕ → Option ℕ
+counting_seat c brick = if may_count c brick then seat_in (asked_group c).members brick else None
 
 -- the stamp below which a phase that looks back finds versions: its bound, or the first stamp of the operation's view, which all of the view before are below
 abbrev pub old_bound : Stamp → Option Stamp → Stamp
@@ -135,12 +170,12 @@ abbrev pub answering_seat : ℕ → Coordinator → Reply → Option ℕ → Opt
 answering_seat block c reply None = None
 answering_seat block c reply (Some seat) = if answers_phase block c.stamp seat c.phase reply then Some seat else None
 
--- The seat at which a brick's reply counts: it is to this very phase, answers it, and is its seat's first.
+-- The seat at which a brick's reply counts: it may count, is to this very phase, answers it, and is its seat's first.
 -- In the last phase that a call can number nothing counts.
 unfoldable pub counts_at : ℕ → Coordinator → ℕ → Call → Reply → Option ℕ
 counts_at block c from call reply =
     if call_same call c.call && nat_lt c.call.phase (2 ^ 32 - 1)
-    then new_seat c.counted (answering_seat block c reply (seat_in (asked_group c).members from))
+    then new_seat c.counted (answering_seat block c reply (counting_seat c from))
     else None
 
 -- the version that a reply tells
@@ -485,7 +520,7 @@ abbrev pub answer_with : Option (List ℕ) → Answer
 answer_with None = Done
 answer_with (Some bytes) = Data bytes
 
--- what a quorum of replies decides, where a new round would have this fresh stamp
+-- what as many replies decide as are needed, where a new round would have this fresh stamp
 unfoldable pub decided : ℕ → Code → Option Stamp → Coordinator → Next
 decided block code fresh c =
     unless_told_moved (lowest_mover c.counted)
@@ -507,9 +542,14 @@ decided block code fresh c =
 abbrev pub with_reply : Coordinator → ℕ → BrickId → Reply → Coordinator
 with_reply c seat brick reply = record c { counted = c.counted ++ (record { seat = seat; brick = brick; reply = reply } ∷ []) }
 
--- with a quorum of the replies of those that are asked the phase is decided
+-- with as many replies as are needed the phase is decided
 abbrev pub once_full : ℕ → Code → Option Stamp → Coordinator → Next
-once_full block code fresh c = if nat_lt (length c.counted) (quorum_of (asked_group c)) then Waits c else decided block code fresh c
+once_full block code fresh c = if nat_lt (length c.counted) (needed c) then Waits c else decided block code fresh c
+
+-- the coordinator once it heard a reply, which counts at this seat, if it does
+abbrev pub hearing : Coordinator → BrickId → Reply → Option ℕ → Coordinator
+hearing c from reply None = c
+hearing c from reply (Some seat) = with_reply c seat from reply
 
 abbrev pub counted_at : ℕ → Code → Option Stamp → Coordinator → BrickId → Reply → Option ℕ → Next
 counted_at block code fresh c from reply None = Ignores

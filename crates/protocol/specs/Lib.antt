@@ -6,6 +6,7 @@ pub mod Requests
 pub mod Ballots
 pub mod Proposals
 pub mod Jobs
+pub mod Scrubs
 pub mod Nodes
 pub mod Worlds
 pub mod Happenings

@@ -3,6 +3,7 @@ use Rattle.std.specs.Prelude.{ℕ, zero, suc, ◌+◌, ◌-◌, ◌*◌, ◌^◌
 use Rattle.fab_base.specs.declared.identities.BrickId.{BrickId}
 use Rattle.fab_base.specs.declared.identities.CallId.{CallId}
 use Rattle.fab_base.specs.declared.identities.GroupId.{GroupId}
+use Rattle.fab_base.specs.declared.identities.StripeNo.{StripeNo}
 use Rattle.fab_base.specs.declared.identities.ViewNo.{ViewNo}
 use Rattle.fab_base.specs.declared.member_lists.View.{View}
 use Rattle.fab_base.specs.declared.stamps.Ballot.{Ballot}
@@ -28,12 +29,13 @@ pub use Rattle.protocol.specs.Requests.{to_members, resent_to}
 use Rattle.synod_laws.specs.Synods.{Kept, last_of}
 use Rattle.protocol.specs.Proposals.{Proposal, ViewAnswer, Voting, Ignored, Waited, Asks, Ended, begun_proposal, ballot_packets, seat_voting, voted, round_after, next_ballot}
 use Rattle.protocol.specs.Jobs.{Job, JobNext, Reads, Finishes, GivesUp, sync_refusal_in, begun_job, job_ask, job_after, abort_cause, synced_answer, stopped_answer, spent_answer}
+use Rattle.protocol.specs.Scrubs.{Scrub, ScrubAnswer, names_quorum, scrub_ask, scrub_answer, lagging_after}
 use Rattle.fab_base.specs.Layouts.{Layout, Group, group_of, seat_in}
 use Rattle.protocol.specs.Settings.{Setting, are_bytes}
 use Rattle.protocol.specs.Views.{Learnt, first_learnt, first_kept, group_kept, floor_of, is_later, learns, is_unsynced, notes_synced, may_be_taught, view_told}
 use Rattle.protocol.specs.Ballots.{Voted, voting, moved_to}
 use Rattle.protocol.specs.Replicas.{Replica, Reaction, fresh_replica, handle, is_changed, newest_of, stamp_max, top_of, under}
-use Rattle.protocol.specs.Coordinators.{Phase, Looks, LooksAt, Orders, OrdersAt, Coordinator, Next, Ignores, Waits, Sends, Makes, Ends, asked_group, counts_at, request_of, on_reply}
+use Rattle.protocol.specs.Coordinators.{Phase, Looks, LooksAt, Orders, OrdersAt, Coordinator, Next, Ignores, Waits, Sends, Makes, Ends, asked_group, counts_at, hearing, request_of, on_reply}
 
 -- a function with one value changed
 abbrev pub put : {A : Type 0} → (ℕ → A) → ℕ → A → ℕ → A
@@ -42,7 +44,7 @@ put f k v i = if nat_eq i k then v else f i
 -- A brick: how often its store was opened, its last call number, the greatest time that it knows, the greatest round of a ballot that it used or heard
 -- of, how many operations it has open, how many live records its store keeps, and how many of these are of each view (by group and view), the view
 -- that it has learnt of each group, what it keeps of ballots for the successor of that, its part of each stripe (by group, view and stripe), its open operations
--- (by call number), its proposal of a successor, and its synchronisation of a view.
+-- (by call number), its proposal of a successor, its synchronisation of a view, and its scrub of a stripe.
 pub record Node : Type 0 where
   pub boot : ℕ
   pub seq : ℕ
@@ -57,6 +59,7 @@ pub record Node : Type 0 where
   pub calls : ℕ → Option Coordinator
   pub proposal : Option Proposal
   pub job : Option Job
+  pub scrub : Option Scrub
 
 -- a brick whose fresh store was just opened
 abbrev pub first_node : Layout → Node
@@ -75,6 +78,7 @@ first_node layout =
       calls = λ k. None;
       proposal = None;
       job = None;
+      scrub = None;
     }
 
 -- the number of the view that a brick has learnt of a group
@@ -97,8 +101,8 @@ view_floor node group = floor_of (if has_accepted node group then view_at node g
 unfoldable pub top_at : Node → ℕ → ℕ → Stamp
 top_at node group stripe = stamp_max (view_floor node group) (top_of (node.replicas group (view_at node group) stripe))
 
--- What a step leaves, the packets that it sends, what it tells of operations, the answers that it gives, and what it reports of the brick's proposal and
--- synchronisation, each in order.
+-- What a step leaves, the packets that it sends, what it tells of operations, the answers that it gives, and what it reports of the brick's proposal,
+-- synchronisation and scrub, each in order.
 pub record NodeStep : Type 0 where
   pub node : Node
   pub packets : List Packet
@@ -201,6 +205,7 @@ coordinator_in group view me now node ask =
     record {
       group = group;
       prior = view.prior;
+      only = None;
       ask = ask;
       stamp = new_stamp me view.number now node.boot node.known;
       round = 1;
@@ -477,7 +482,7 @@ abbrev pub ended_packets : Layout → BrickId → Proposal → ViewAnswer → Li
 ended_packets layout me p (answer.Decided number members) = learn_packets me p.call.group (decided_view p number members) layout.bricks 0
 ended_packets layout me p ended = []
 
--- a brick reports the end of its proposal, and sends what that asks for
+-- a brick reports the end of its proposal, synchronisation or scrub, and sends what that asks for
 abbrev pub reporting : Node → List Packet → Report → NodeStep
 reporting node packets report = record { node = node; packets = packets; told = []; answers = []; reports = report ∷ [] }
 
@@ -511,20 +516,23 @@ then_does first second =
 abbrev pub with_job : Node → Option Job → Node
 with_job node job = record node { job = job }
 
--- the brick with a new read of its synchronisation: its call is the brick's last, and it is none of the operations of which a brick may have so many open
+-- the brick with a new read of its own, which no client asked for: its call is the brick's last, and it is none of the operations of which a brick may have so
+-- many open
+abbrev pub reading_aside : Node → Coordinator → Node
+reading_aside node c = record node { seq = c.call.seq; known = c.stamp.time; calls = put node.calls c.call.seq (Some c) }
+
+-- a read of its own begins, which leaves the brick so
+abbrev pub begun_aside : Setting → BrickId → Node → Coordinator → NodeStep
+begun_aside setting me node c =
+    record { node = node; packets = phase_packets setting me c; told = Began c.call ∷ []; answers = []; reports = [] }
+
+-- the brick with a new read of its synchronisation
 abbrev pub reading : Node → Job → Coordinator → Node
-reading node job c =
-    record node {
-      seq = c.call.seq;
-      known = c.stamp.time;
-      calls = put node.calls c.call.seq (Some c);
-      job = Some (record job { seq = c.call.seq });
-    }
+reading node job c = with_job (reading_aside node c) (Some (record job { seq = c.call.seq }))
 
 -- the read begins
 abbrev pub read_begun_by : Setting → BrickId → Node → Job → Coordinator → NodeStep
-read_begun_by setting me node job c =
-    record { node = reading node job c; packets = phase_packets setting me c; told = Began c.call ∷ []; answers = []; reports = [] }
+read_begun_by setting me node job c = begun_aside setting me (reading node job c) c
 
 -- A brick begins to read for its synchronisation, in the view of that. Where it has no later time or no further call number, the synchronisation ends.
 abbrev pub read_begun_in : Setting → BrickId → ℕ → Node → Job → Option Group → NodeStep
@@ -549,7 +557,7 @@ job_goes setting me now node job Finishes =
     reporting (with_job node None) (synced_packets me job.group job.view.number setting.layout.bricks 0) (Report.Sync job.group (synced_answer job.view.number))
 job_goes setting me now node job (GivesUp cause) = reporting (with_job node None) [] (Report.Sync job.group (stopped_answer job.attempt cause))
 
--- a read of a synchronisation ends: it is answered to nobody
+-- a read of the brick's own ends, for its synchronisation or its scrub: it is answered to nobody
 abbrev pub read_closed : BrickId → Node → ℕ → Coordinator → Answer → Option Stamp → Option Stamp → NodeStep
 read_closed me node known c answer seen stored =
     record {
@@ -572,10 +580,54 @@ abbrev pub job_reading : Option Job → ℕ → Option Job
 job_reading None seq = None
 job_reading (Some job) seq = if nat_eq job.seq seq then Some job else None
 
--- what a brick does with what a coordinator decided, that of a read for this synchronisation or of another operation
-abbrev pub carried_for : Setting → BrickId → ℕ → Node → ℕ → Coordinator → Next → Option Job → NodeStep
-carried_for setting me now node known c next None = carried_out setting me node known c next
-carried_for setting me now node known c next (Some job) = carried_read setting me now node known job c next
+-- ---- scrubs
+
+-- the brick with this scrub, or with none
+abbrev pub with_scrub : Node → Option Scrub → Node
+with_scrub node scrub = record node { scrub = scrub }
+
+-- the coordinator of a new scrub of these members of a stripe, in the view that its brick has learnt
+abbrev pub scrub_coordinator : Group → BrickId → ℕ → Node → GroupId → StripeNo → List BrickId → Coordinator
+scrub_coordinator group me now node number stripe members =
+    record (new_coordinator group me now node (scrub_ask number stripe)) { only = Some members }
+
+-- the brick with a new scrub
+abbrev pub scrubbing : Node → Coordinator → Node
+scrubbing node c = with_scrub (reading_aside node c) (Some (record { seq = c.call.seq; lagging = [] }))
+
+-- the scrub of these members ends: it is reported, with the call of its last phase
+abbrev pub scrub_ended : Node → Call → List BrickId → ScrubAnswer → NodeStep
+scrub_ended node call members answer = reporting (with_scrub node None) [] (Report.Scrub call members answer)
+
+-- the members that a coordinator counts alone, none where it counts all
+abbrev pub members_alone : Option (List BrickId) → List BrickId
+members_alone None = []
+members_alone (Some members) = members
+
+-- What a brick does with what the coordinator of its scrub decided upon these replies. Once it has ended it is reported; and as a phase begins, it is known who
+-- lagged.
+abbrev pub carried_scrub : Setting → BrickId → Node → ℕ → Scrub → Coordinator → Coordinator → Next → NodeStep
+carried_scrub setting me node known scrub c heard (Ends answer seen stored) =
+    (let closed : NodeStep = read_closed me node known c answer seen stored in
+    then_does closed (scrub_ended closed.node c.call (members_alone c.only) (scrub_answer scrub.lagging (abort_cause answer) stored)))
+carried_scrub setting me node known scrub c heard (Sends d) =
+    carried_out setting me (with_scrub node (Some (record scrub { lagging = lagging_after scrub heard }))) known c (Sends d)
+carried_scrub setting me node known scrub c heard next = carried_out setting me node known c next
+
+-- the scrub whose call has a number, if there is one
+abbrev pub scrub_of : Option Scrub → ℕ → Option Scrub
+scrub_of None seq = None
+scrub_of (Some scrub) seq = if nat_eq scrub.seq seq then Some scrub else None
+
+-- what a brick does with what a coordinator decided that is none of a synchronisation's read: that of this scrub, once it heard a reply, or of an operation
+abbrev pub carried_unless_scrub : Setting → BrickId → Node → ℕ → Coordinator → Coordinator → Next → Option Scrub → NodeStep
+carried_unless_scrub setting me node known c heard next None = carried_out setting me node known c next
+carried_unless_scrub setting me node known c heard next (Some scrub) = carried_scrub setting me node known scrub c heard next
+
+-- what a brick does with what a coordinator decided: that of a read for this synchronisation, of this scrub, or of an operation
+abbrev pub carried_for : Setting → BrickId → ℕ → Node → ℕ → Coordinator → Coordinator → Next → Option Job → Option Scrub → NodeStep
+carried_for setting me now node known c heard next None scrub = carried_unless_scrub setting me node known c heard next scrub
+carried_for setting me now node known c heard next (Some job) scrub = carried_read setting me now node known job c next
 
 -- ---- replies
 
@@ -585,8 +637,9 @@ replied_at setting me now from node call reply None =
     replied_ballot setting.layout me from (with_known node (known_after node.known reply)) call reply node.proposal
 replied_at setting me now from node call reply (Some c) =
     let known : ℕ = known_after node.known reply in
-    carried_for setting me now node known c
+    carried_for setting me now node known c (hearing c from reply (counts_at setting.layout.block c from.0 call reply))
     (on_reply setting.layout.block setting.code (fresh_stamp me c.stamp.view now node.boot known) c from call reply) (job_reading node.job c.call.seq)
+    (scrub_of node.scrub c.call.seq)
 
 -- a reply counts in this open operation, or else in this proposal
 abbrev pub counts_here : Layout → BrickId → Call → Reply → Option Proposal → Option Coordinator → Bool
@@ -680,17 +733,27 @@ abbrev pub calls_but_read : (ℕ → Option Coordinator) → Option Job → ℕ 
 calls_but_read calls None = calls
 calls_but_read calls (Some job) = put calls job.seq None
 
+-- the same but for this scrub
+abbrev pub calls_but_scrub : (ℕ → Option Coordinator) → Option Scrub → ℕ → Option Coordinator
+calls_but_scrub calls None = calls
+calls_but_scrub calls (Some scrub) = put calls scrub.seq None
+
 -- the read of this synchronisation
 abbrev pub job_call : (ℕ → Option Coordinator) → Option Job → Option Coordinator
 job_call calls None = None
 job_call calls (Some job) = calls job.seq
 
+-- the coordinator of this scrub
+abbrev pub scrub_call : (ℕ → Option Coordinator) → Option Scrub → Option Coordinator
+scrub_call calls None = None
+scrub_call calls (Some scrub) = calls scrub.seq
+
 -- what a brick sends at a tick of its clock: each open operation its present phase again, in the order of
--- beginning, then its proposal, and last the read of its synchronisation
+-- beginning, then its proposal, the read of its synchronisation, and last its scrub
 unfoldable pub ticked : Setting → BrickId → Node → List Packet
 ticked setting me node =
-    resent_up_to setting me (calls_but_read node.calls node.job) node.seq
-    ++ (ballot_resent me node.proposal ++ resent setting me (job_call node.calls node.job))
+    resent_up_to setting me (calls_but_scrub (calls_but_read node.calls node.job) node.scrub) node.seq
+    ++ (ballot_resent me node.proposal ++ (resent setting me (job_call node.calls node.job) ++ resent setting me (scrub_call node.calls node.scrub)))
 
 -- why a running brick does not begin to propose a successor of the view that it has learnt of a group, the first reason of these: there is no such group; it
 -- has a proposal; or the next round, the successor or the next call has no number
@@ -738,19 +801,42 @@ synced_at setting me now node group =
     if (node.learnt group.0).synced then reporting node [] (Report.Sync group (synced_answer (node.learnt group.0).view.number))
     else read_begun setting me now node (begun_job group (node.learnt group.0).view)
 
+-- Why a running brick does not begin to scrub these members of a stripe, the first reason of these: there is no such group or stripe; they are no distinct members
+-- of the view that it has learnt, or fewer than a quorum of it; it has a scrub; or no later time or no further call number is left.
+abbrev pub scrub_refusal_in : Node → StripeNo → List BrickId → Option Group → Option Refusal
+scrub_refusal_in node stripe members None = Some Refusal.NoStripe
+scrub_refusal_in node stripe members (Some group) =
+    if not (nat_lt stripe.0 group.stripes) then Some Refusal.NoStripe
+    else if not (names_quorum group members) then Some Refusal.NoQuorum
+    else if is_some node.scrub then Some Refusal.Busy
+    else if is_spent node then Some Refusal.Spent
+    else None
+
+unfoldable pub scrub_refusal : Layout → Node → GroupId → StripeNo → List BrickId → Option Refusal
+scrub_refusal layout node group stripe members = scrub_refusal_in node stripe members (group_at layout node group.0)
+
+-- A brick begins a scrub that is not refused, in the view that it has learnt.
+abbrev pub scrubbed_in : Setting → BrickId → ℕ → Node → GroupId → StripeNo → List BrickId → Option Group → NodeStep
+scrubbed_in setting me now node number stripe members None = no_step node
+scrubbed_in setting me now node number stripe members (Some group) =
+    (let c = scrub_coordinator group me now node number stripe members in begun_aside setting me (scrubbing node c) c)
+
+unfoldable pub scrubbed_at : Setting → BrickId → ℕ → Node → GroupId → StripeNo → List BrickId → NodeStep
+scrubbed_at setting me now node group stripe members = scrubbed_in setting me now node group stripe members (group_at setting.layout node group.0)
+
 -- no operation is open
 abbrev pub no_calls : ℕ → Option Coordinator
 no_calls k = None
 
--- a brick that stopped: its open operations, its proposal and its synchronisation are gone, and what it keeps of stripes stays
+-- a brick that stopped: its open operations, its proposal, its synchronisation and its scrub are gone, and what it keeps of stripes stays
 unfoldable pub stopped : Node → Node
-stopped node = record node { busy = 0; calls = no_calls; proposal = None; job = None }
+stopped node = record node { busy = 0; calls = no_calls; proposal = None; job = None; scrub = None }
 
 -- a stopped brick whose store was opened so many times since, the last time to run: it has made no call, and
 -- knows no time and no round
 unfoldable pub restarted : ℕ → Node → Node
 restarted openings node =
-    record node { boot = node.boot + openings; seq = 0; known = 0; round = 0; busy = 0; calls = no_calls; proposal = None; job = None }
+    record node { boot = node.boot + openings; seq = 0; known = 0; round = 0; busy = 0; calls = no_calls; proposal = None; job = None; scrub = None }
 
 -- the store can be opened so many times, at least once: it counts its openings, up to 2^32 - 1
 abbrev pub may_open : ℕ → Node → Bool

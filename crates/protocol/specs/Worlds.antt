@@ -1,8 +1,9 @@
 -- The whole disk, and what a schedule of steps makes of it. Every message that was ever sent may be
 -- delivered, once, often or never, in any order: that is all that a network may do to it.
-use Rattle.std.specs.Prelude.{ℕ, zero, suc, ◌+◌, Bool, true, false, not, nat_eq, nat_lt, ◌&&◌, ◌||◌, if◌then◌else◌, List, [], ◌∷◌, ◌++◌, length, map, Option, Some, None, is_some, slice_get}
+use Rattle.std.specs.Prelude.{ℕ, zero, suc, ◌+◌, Bool, true, false, not, nat_eq, nat_lt, ◌==◌, ◌&&◌, ◌||◌, if◌then◌else◌, List, [], ◌∷◌, ◌++◌, length, map, Option, Some, None, is_some, slice_get}
 use Rattle.fab_base.specs.declared.identities.BrickId.{BrickId}
 use Rattle.fab_base.specs.declared.identities.GroupId.{GroupId}
+use Rattle.fab_base.specs.declared.identities.StripeNo.{StripeNo}
 use Rattle.fab_base.specs.declared.stamps.Stamp.{Stamp}
 use Rattle.fab_base.specs.declared.asks.Ask.{Ask}
 use Rattle.fab_base.specs.declared.asks.Op.{Op}
@@ -26,7 +27,7 @@ use Rattle.protocol.specs.Replicas.{fresh_replica, is_held}
 use Rattle.protocol.specs.Coordinators.{Counted, Coordinator, counts_at}
 use Rattle.protocol.specs.Proposals.{Proposal, seat_voting}
 use Rattle.synod_laws.specs.Synods.{last_of, ballot_same}
-use Rattle.protocol.specs.Nodes.{Node, NodeStep, Report, Told, Made, Seen, Began, Closed, Answered, view_at, top_at, put, first_node, refusal_of, proposal_refusal, sync_refusal, invoked, proposed, synced_at, lists_fit, received, absorbed, ticked, stopped, restarted, may_open}
+use Rattle.protocol.specs.Nodes.{Node, NodeStep, Report, Told, Made, Seen, Began, Closed, Answered, view_at, top_at, put, first_node, refusal_of, proposal_refusal, sync_refusal, scrub_refusal, invoked, proposed, synced_at, scrubbed_at, lists_fit, received, absorbed, ticked, stopped, restarted, may_open}
 
 -- Which of two a store is found to hold, when its brick starts: what it held before the handling that the brick's stop cut short, or what that
 -- handling would have kept.
@@ -35,7 +36,7 @@ pub data Found : Type 0 where
   After : Found
 
 -- What happens next: a brick is asked for an operation, or to propose a list of members as the successor of the view that it has learnt of a group, or to
--- synchronise that view; the message of a number, counted from 1 in the order of sending, is delivered; a brick's clock reads another time from now on, or
+-- synchronise that view, or to scrub these members of a stripe; the message of a number, counted from 1 in the order of sending, is delivered; a brick's clock reads another time from now on, or
 -- ticks; a brick stops, during the handling of the message of a number, which was cut short or failed, or during none; or a stopped brick starts again, its
 -- store having been opened so many times since, the last time to run, and found to hold one of the two. A start that was itself cut short or failed is none:
 -- it may have counted an opening, and leaves both possible.
@@ -43,6 +44,7 @@ pub data Event : Type 0 where
   Invokes : (brick : BrickId) → (ask : Ask) → Event
   Proposes : (brick : BrickId) → (group : GroupId) → (members : List BrickId) → Event
   Syncs : (brick : BrickId) → (group : GroupId) → Event
+  Scrubs : (brick : BrickId) → (group : GroupId) → (stripe : StripeNo) → (members : List BrickId) → Event
   Delivers : (number : ℕ) → Event
   Sets : (brick : BrickId) → (time : ℕ) → Event
   Ticks : (brick : BrickId) → Event
@@ -68,7 +70,7 @@ pub record Operation : Type 0 where
   pub view : ℕ
   pub floor : ℕ → Stamp
 
--- What is known of the choices of successors: what bricks reported of proposals and synchronisations, in order; and, for the proof alone, what each brick has
+-- What is known of the choices of successors: what bricks reported of proposals, synchronisations and scrubs, in order; and, for the proof alone, what each brick has
 -- accepted to follow each view (by brick, group, view and ballot), and the replies that counted in each phase of a proposal (by brick, boot, call
 -- number and the phase's).
 pub record Choices : Type 0 where
@@ -110,13 +112,21 @@ abbrev pub zero_content : ℕ → Option Group → List ℕ
 zero_content block None = []
 zero_content block (Some group) = zero_registers group.m block
 
--- all bricks up, their stores fresh, their clocks at 0, and nothing sent
+-- the stores are made in the old format, which an opening brings over
+abbrev pub has_old_stores : Layout → Bool
+has_old_stores layout = layout.store == 1
+
+-- A brick of a fresh store, as the first world has it: the store was opened once. One of the old format was not opened yet.
+abbrev pub first_brick : Layout → Node
+first_brick layout = record (first_node layout) { boot = if has_old_stores layout then 0 else 1 }
+
+-- The stores fresh, the clocks at 0, and nothing sent. All bricks are up, or, where their stores are of the old format, down.
 abbrev pub first_world : Layout → World
 first_world layout =
     record {
-      nodes = λ i. first_node layout;
-      after = λ i. first_node layout;
-      up = λ i. true;
+      nodes = λ i. first_brick layout;
+      after = λ i. first_brick layout;
+      up = λ i. not (has_old_stores layout);
       clocks = λ i. 0;
       packets = [];
       marks = [];
@@ -154,6 +164,11 @@ may_propose setting w brick group =
 abbrev pub may_sync : Setting → World → BrickId → GroupId → Bool
 may_sync setting w brick group =
     is_up setting.layout w brick && not (is_some (sync_refusal setting.layout (w.nodes brick.0) group.0))
+
+-- the brick begins a scrub that is not refused
+abbrev pub may_scrub : Setting → World → BrickId → GroupId → StripeNo → List BrickId → Bool
+may_scrub setting w brick group stripe members =
+    is_up setting.layout w brick && not (is_some (scrub_refusal setting.layout (w.nodes brick.0) group stripe members))
 
 -- the numbers of calls, with that of a brick's last call
 abbrev pub with_number : (ℕ → ℕ → ℕ → ℕ) → ℕ → Node → ℕ → ℕ → ℕ → ℕ → ℕ
@@ -244,7 +259,7 @@ with_votes votes i node = put votes i (λ group view ballot. vote_with (votes i 
 abbrev pub number_of : World → ℕ → ℕ → ℕ
 number_of w i seq = w.numbers i (w.nodes i).boot seq
 
--- a read of a brick's synchronisation, which has this call, as it begins, the bricks being these: an operation without marks
+-- a read of a brick's own, for its synchronisation or its scrub, which has this call, as it begins, the bricks being these: an operation without marks
 abbrev pub read_of_call : (ℕ → Node) → World → BrickId → Call → Operation
 read_of_call nodes w brick call =
     record {
@@ -476,7 +491,7 @@ may_start layout w brick openings = is_brick layout brick && (not (w.up brick.0)
 abbrev pub known_in : World → ℕ → ℕ → ℕ
 known_in w i boot = if nat_eq boot (w.nodes i).boot then (w.nodes i).known else w.past i boot
 
--- the world after an event; what cannot happen changes nothing: an operation, a proposal or a synchronisation that is refused, a number that was not sent,
+-- the world after an event; what cannot happen changes nothing: an operation, a proposal, a synchronisation or a scrub that is refused, a number that was not sent,
 -- a brick that the layout has not, a stopped brick that is to stop, handle a message or tick, and one that is to start though it is up
 unfoldable pub happens : Setting → World → Event → World
 happens setting w (Invokes brick ask) =
@@ -485,6 +500,9 @@ happens setting w (Proposes brick group members) =
     if may_propose setting w brick group then world_stepped setting w brick (proposed setting brick (w.nodes brick.0) group members) else w
 happens setting w (Syncs brick group) =
     if may_sync setting w brick group then world_stepped setting w brick (synced_at setting brick (w.clocks brick.0) (w.nodes brick.0) group) else w
+happens setting w (Scrubs brick group stripe members) =
+    if may_scrub setting w brick group stripe members
+    then world_stepped setting w brick (scrubbed_at setting brick (w.clocks brick.0) (w.nodes brick.0) group stripe members) else w
 happens setting w (Delivers number) = delivered setting w number (packet_of w.packets number)
 happens setting w (Sets brick time) = if is_brick setting.layout brick then record w { clocks = put w.clocks brick.0 time } else w
 happens setting w (Ticks brick) = if is_up setting.layout w brick then world_ticked setting w brick else w

@@ -6,4 +6,4 @@ pub mod phases;
 pub mod tellings;
 
 pub use phases::{Counted, Dropper, FullMember, Mover, Phase, Refuser};
-pub use tellings::{Answered, Report, SyncAnswer, Told, ViewAnswer};
+pub use tellings::{Answered, Report, ScrubAnswer, SyncAnswer, Told, ViewAnswer};

@@ -1,10 +1,10 @@
-//! What a brick's step tells: of its operations, and of how its proposal and its synchronisation end.
+//! What a brick's step tells: of its operations, and of how its proposal, its synchronisation and its scrub end.
 
 use fab_base::{Answer, Ballot, BrickId, Cause, GroupId, Members, Stamp, StripeNo, ViewNo};
 use messages::Call;
 
-/// What a step tells of an operation of its brick: of its version, and of a read for a synchronisation, which no client asked for, also that it began and how it
-/// ended.
+/// What a step tells of an operation of its brick: of its version, and of a read for a synchronisation or a scrub, which no client asked for, also that it began
+/// and how it ended.
 #[derive(Clone, Copy, PartialEq, Eq)]
 pub enum Told {
     /// The operation makes a version: its first write is sent by this step.
@@ -23,12 +23,12 @@ pub enum Told {
         /// The version's stamp.
         stamp: Stamp,
     },
-    /// A read of a stripe for a synchronisation began.
+    /// A read of a stripe for a synchronisation or a scrub began.
     Began {
         /// The call of its first phase, which names the stripe and the view.
         call: Call,
     },
-    /// A read for a synchronisation ended.
+    /// Such a read ended.
     Closed {
         /// The number of the call.
         seq: u64,
@@ -97,7 +97,26 @@ pub enum SyncAnswer {
     },
 }
 
-/// What a brick reports of its proposal or its synchronisation once that ends.
+/// The end of a scrub, which brings some members of a stripe to one version.
+#[derive(Drop)]
+pub enum ScrubAnswer {
+    /// All of them told the same newest version, and no order above it. Nothing was stored.
+    Clean,
+    /// All of them have stored one version.
+    Repaired {
+        /// The version's stamp.
+        stamp: Stamp,
+        /// Those of them whose newest version was behind the greatest that was told, by seat.
+        lagging: Members,
+    },
+    /// It was given up.
+    Aborted {
+        /// Why.
+        cause: Cause,
+    },
+}
+
+/// What a brick reports of its proposal, its synchronisation or its scrub once that ends.
 #[derive(Drop)]
 pub enum Report {
     /// A proposal ended.
@@ -115,5 +134,14 @@ pub enum Report {
         group: GroupId,
         /// How it ended.
         answer: SyncAnswer,
+    },
+    /// A scrub ended.
+    Scrub {
+        /// The call of the phase in which it ended, which names the group and the stripe.
+        call: Call,
+        /// The members that it was to bring to one version, as they were named.
+        members: Members,
+        /// How it ended.
+        answer: ScrubAnswer,
     },
 }

@@ -25,8 +25,8 @@ use Rattle.protocol.specs.Replicas.{top_of, Replica}
 use Rattle.protocol.specs.declared.phases.Phase.{Phase}
 use Rattle.protocol.specs.declared.phases.Phase.TheVariants.{Looks, LooksAt, Orders, OrdersAt, Recovers, Descends, Modifies, Bases, Stores, LooksBack}
 use Rattle.protocol.specs.Coordinators.{Coordinator, request_of, asked_group}
-use Rattle.protocol.specs.Jobs.{Job, job_ask}
-use Rattle.protocol.specs.Nodes.{Node, NodeStep, put, first_phase, coordinator_in, new_coordinator, began_in, read_begun_by, phase_packets, top_at, view_at, view_floor}
+use Rattle.protocol.specs.Jobs.{Job}
+use Rattle.protocol.specs.Nodes.{Node, NodeStep, put, first_phase, new_coordinator, began_in, read_begun_by, phase_packets, top_at, view_at, view_floor, begun_aside, reading_aside, scrubbing, scrub_coordinator}
 use Rattle.protocol.specs.Worlds.{World, Operation, Choices, world_began, world_stepped, with_call_number, with_held, choices_after}
 use Rattle.view_laws.proofs.SyncReads.{read_call}
 use Rattle.protocol_laws.proofs.Blocking.{PartsStay, NewIsLogged, stands_stays}
@@ -39,6 +39,10 @@ use Rattle.protocol_laws.proofs.Steps.{KeepsStamps, keeps_same, parts_kept, part
 use Rattle.protocol_laws.proofs.Stampings.{ComesFrom, ages_within, stays_known, later_unknown, with_stamp, stamp_now, stamps_other, stamp_last, stamps_grow, stamps_say}
 use Rattle.protocol_laws.specs.Laws.{AtQuorum, IsGuarded, part_in, top_in, Follows}
 use Rattle.protocol_laws.proofs.Tops.{top_cases, top_same, floor_time}
+use Rattle.protocol.specs.Scrubs.{Scrub, scrub_ask}
+use Rattle.fab_base.specs.declared.identities.StripeNo.{StripeNo}
+use Rattle.fab_base.specs.declared.identities.GroupId.{GroupId}
+use Rattle.protocol_laws.proofs.BooksBegins.{coordinator_of}
 
 -- an operation fits its first phase
 first_fits : (op : Op) → FitsPhase (first_phase op) op
@@ -62,9 +66,9 @@ is_first ReadStripe = tt
 is_first (WriteStripe bytes) = tt
 
 module _ (setting : Setting) (views : Views) (w : World) (stamps : Stamping) (me : BrickId) (now : ℕ) (ask : Ask) (view : View) (group : Group)
-    (books : Books setting w) (some : 1 ≤ view.number.0) (learnt : view.number.0 ≤ view_at (w.nodes me.0) ask.group.0)
+    (only : Option (List BrickId)) (books : Books setting w) (some : 1 ≤ view.number.0) (learnt : view.number.0 ≤ view_at (w.nodes me.0) ask.group.0)
     (passed : ArePassed setting views w ask.group.0 view.number.0) (said : Said setting views w stamps) (group_is : group_in setting.layout views ask.group.0 view.number.0 ≡ Some group)
-    (prior : 1 < view.number.0 → view.prior ≡ views ask.group.0 (view.number.0 - 1)) (busy : ℕ) (job : Option Job) (held : ℕ → ℕ → ℕ → Stamp → Bool)
+    (prior : 1 < view.number.0 → view.prior ≡ views ask.group.0 (view.number.0 - 1)) (busy : ℕ) (job : Option Job) (scrub : Option Scrub) (held : ℕ → ℕ → ℕ → Stamp → Bool)
     (marks : List Mark) (marked mark : ℕ) (floor : ℕ → Stamp) (choices : Choices) where
   -- the brick before
   abbrev old : Node
@@ -72,7 +76,7 @@ module _ (setting : Setting) (views : Views) (w : World) (stamps : Stamping) (me
 
   -- its new coordinator
   abbrev c : Coordinator
-  c = coordinator_in group view me now (w.nodes me.0) ask
+  c = coordinator_of group view only me now (w.nodes me.0) ask
 
   -- the brick after
   abbrev node : Node
@@ -83,6 +87,7 @@ module _ (setting : Setting) (views : Views) (w : World) (stamps : Stamping) (me
         busy = busy;
         calls = put (w.nodes me.0).calls c.call.seq (Some c);
         job = job;
+        scrub = scrub;
       }
 
   -- the phase that is begun
@@ -433,9 +438,9 @@ module _ (setting : Setting) (views : Views) (w : World) (stamps : Stamping) (me
   -- the invariant holds when an operation began
   pub said_began : IsSaid setting views began_world
   said_began =
-      said_next setting views w stamps me (w.clocks me.0) ask ((w.nodes me.0).learnt ask.group.0).view group books some (omega arith)
+      said_next setting views w stamps me (w.clocks me.0) ask ((w.nodes me.0).learnt ask.group.0).view group None books some (omega arith)
       (λ e s z least less z_is. follows.passed me.0 ask.group.0 e s z least less z_is) said group_is
-      (follows.prior me.0 ask.group.0) ((w.nodes me.0).busy + 1) (w.nodes me.0).job w.held (w.marks ++ (begin_mark ∷ [])) (w.marked + 1) (w.marked + 1)
+      (follows.prior me.0 ask.group.0) ((w.nodes me.0).busy + 1) (w.nodes me.0).job (w.nodes me.0).scrub w.held (w.marks ++ (begin_mark ∷ [])) (w.marked + 1) (w.marked + 1)
       (λ i. top_at (w.nodes i) ask.group.0 ask.stripe.0) w.choices
       (parts_kept w began_world me.0 began_step.node refl refl said.logged (refl, refl, refl))
       (new_none w began_world refl)
@@ -449,6 +454,37 @@ module _ (setting : Setting) (views : Views) (w : World) (stamps : Stamping) (me
       (get_grown w.marks (begin_mark ∷ []) k (End q a answer) at))
       (λ i. refl) (λ j is. inl is)
 
+-- a brick begins a read of its own, in a view that it knows
+module _ (setting : Setting) (views : Views) (w : World) (stamps : Stamping) (me : BrickId) (now : ℕ) (number : GroupId) (stripe : StripeNo) (view : View)
+    (group : Group) (only : Option (List BrickId)) (job : Option Job) (scrub : Option Scrub) (books : Books setting w) (said : Said setting views w stamps)
+    (some : 1 ≤ view.number.0) (learnt : view.number.0 ≤ view_at (w.nodes me.0) number.0) (passed : ArePassed setting views w number.0 view.number.0)
+    (its_group : group_in setting.layout views number.0 view.number.0 ≡ Some group)
+    (prior : 1 < view.number.0 → view.prior ≡ views number.0 (view.number.0 - 1)) where
+  -- its coordinator, and the brick that has begun it
+  abbrev reader : Coordinator
+  reader = coordinator_of group view only me now (w.nodes me.0) (scrub_ask number stripe)
+
+  abbrev aside : Node
+  aside = record (reading_aside (w.nodes me.0) reader) { job = job; scrub = scrub }
+
+  abbrev aside_world : World
+  aside_world = world_stepped setting w me (begun_aside setting me aside reader)
+
+  aside_parts : PartsStay w aside_world
+  aside_parts = parts_by w aside_world me.0 aside refl refl said.logged (keeps_same (w.nodes me.0) aside (refl, refl, refl))
+
+  -- the invariant holds when it began
+  said_aside : (PartsStay w aside_world → (j : Job) → job ≡ Some j → ((w.nodes me.0).job ≡ Some j) ⊎ JobSays setting views aside_world me.0 j)
+      → IsSaid setting views aside_world
+  said_aside jobs =
+      said_next setting views w stamps me now (scrub_ask number stripe) view group only books some learnt passed said its_group prior
+      (w.nodes me.0).busy job scrub (with_held w.held me.0 aside) w.marks w.marked 0
+      (λ i. top_at (put w.nodes me.0 aside i) number.0 stripe.0) (choices_after w.choices me aside [])
+      aside_parts (new_by w aside_world me.0 aside refl refl) (omega arith) (λ a. omega arith) (λ k q a answer at. at)
+      (λ i. put_each (λ j (n : Node). top_at n number.0 stripe.0 ≡ top_at (w.nodes j) number.0 stripe.0) w.nodes me.0 aside
+      (top_same (w.nodes me.0) aside (refl, refl, refl) number.0 stripe.0) (λ j other. refl) i)
+      (jobs aside_parts)
+
 -- a brick begins a read of its synchronisation
 module _ (setting : Setting) (views : Views) (w : World) (stamps : Stamping) (me : BrickId) (now : ℕ) (job : Job) (group : Group) (books : Books setting w)
     (said : Said setting views w stamps) (says : JobSays setting views w me.0 job)
@@ -459,9 +495,6 @@ module _ (setting : Setting) (views : Views) (w : World) (stamps : Stamping) (me
   abbrev read_world : World
   read_world = world_stepped setting w me read
 
-  read_parts : PartsStay w read_world
-  read_parts = parts_by w read_world me.0 read.node refl refl said.logged (keeps_same (w.nodes me.0) read.node (refl, refl, refl))
-
   -- the view has these members
   its_group : group_in setting.layout views job.group.0 job.view.number.0 ≡ Some group
   its_group = ap (λ (members : List BrickId). group_kept setting.layout members job.group.0) (sym says.members) ∙ group_is
@@ -469,21 +502,30 @@ module _ (setting : Setting) (views : Views) (w : World) (stamps : Stamping) (me
   -- the invariant holds when a read began
   pub said_read : IsSaid setting views read_world
   said_read =
-      said_next setting views w stamps me now (job_ask job) job.view group books says.known.0 says.known.1 says.passed said its_group says.prior
-      (w.nodes me.0).busy read.node.job (with_held w.held me.0 read.node) w.marks w.marked 0
-      (λ i. top_at (put w.nodes me.0 read.node i) job.group.0 job.attempt.stripe) (choices_after w.choices me read.node [])
-      read_parts (new_by w read_world me.0 read.node refl refl) (omega arith) (λ a. omega arith) (λ k q a answer at. at)
-      (λ i. put_each (λ j (n : Node). top_at n job.group.0 job.attempt.stripe ≡ top_at (w.nodes j) job.group.0 job.attempt.stripe) w.nodes me.0 read.node
-      (top_same (w.nodes me.0) read.node (refl, refl, refl) job.group.0 job.attempt.stripe) (λ j other. refl) i)
-      (λ j is. inr (subst (λ (z : Job). JobSays setting views read_world me.0 z) (same_Some (record job { seq = (w.nodes me.0).seq + 1 }) j is) (record {
-        known = (says.known.0, (let rises = read_parts.views me.0 job.group.0 in let was = says.known.1 in omega (arith, rises, was)));
+      said_aside setting views w stamps me now job.group (record { 0 = job.attempt.stripe }) job.view group None read.node.job (w.nodes me.0).scrub books said
+      says.known.0 says.known.1 says.passed its_group says.prior
+      (λ parts j is. inr (subst (λ (z : Job). JobSays setting views read_world me.0 z) (same_Some (record job { seq = (w.nodes me.0).seq + 1 }) j is) (record {
+        known = (says.known.0, (let rises = parts.views me.0 job.group.0 in let was = says.known.1 in omega (arith, rises, was)));
         members = says.members;
         prior = says.prior;
         passed = λ e s z least less z_is.
-            guarded_stays w read_world read_parts.tops job.group.0 s z (floor_of (e + 1)) (says.passed e s z least less z_is);
+            guarded_stays w read_world parts.tops job.group.0 s z (floor_of (e + 1)) (says.passed e s z least less z_is);
         read = λ s before. let had = says.read s before in (
           had.0,
           had.1,
-          (λ z z_is. stands_stays w read_world read_parts job.group.0 s z had.0 (had.2 z z_is)),
+          (λ z z_is. stands_stays w read_world parts job.group.0 s z had.0 (had.2 z z_is)),
         );
       })))
+
+-- a brick begins a scrub, in the view that it has learnt
+pub said_scrub : (setting : Setting) (views : Views) (w : World) (stamps : Stamping) (me : BrickId) (now : ℕ) (number : GroupId) (stripe : StripeNo)
+    (members : List BrickId) (group : Group) → Books setting w → Said setting views w stamps → 1 ≤ view_at (w.nodes me.0) number.0
+    → Follows setting.layout views w → group_in setting.layout views number.0 (view_at (w.nodes me.0) number.0) ≡ Some group
+    → (let its = scrub_coordinator group me now (w.nodes me.0) number stripe members in
+    IsSaid setting views (world_stepped setting w me (begun_aside setting me (scrubbing (w.nodes me.0) its) its)))
+said_scrub setting views w stamps me now number stripe members group books said some follows its_group =
+    let its : Coordinator = scrub_coordinator group me now (w.nodes me.0) number stripe members in
+    said_aside setting views w stamps me now number stripe ((w.nodes me.0).learnt number.0).view group (Some members) (w.nodes me.0).job
+    (scrubbing (w.nodes me.0) its).scrub books said some (omega arith)
+    (λ e s z least less z_is. follows.passed me.0 number.0 e s z least less z_is) its_group (follows.prior me.0 number.0)
+    (λ parts j is. inl is)

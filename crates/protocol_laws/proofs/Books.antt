@@ -1,5 +1,5 @@
 -- What a world's books say: operations, calls, numbers and marks agree, at every moment of every run.
-use Rattle.std.proofs.Common.{◌≡◌, ℕ, ◌+◌, ◌<◌, ◌≤◌, ◌⊎◌, true, false, List, Option, Some, None}
+use Rattle.std.proofs.Common.{◌≡◌, ℕ, ◌+◌, ◌<◌, ◌≤◌, ◌⊎◌, true, false, List, Option, Some, None, is_some}
 use Rattle.std.specs.Prelude.{slice_get}
 use Rattle.fab_base.specs.declared.stamps.Stamp.{Stamp}
 use Rattle.fab_base.specs.declared.asks.Op.TheVariants.{ReadStripe}
@@ -12,10 +12,12 @@ use Rattle.protocol.specs.Settings.{Setting}
 use Rattle.protocol.specs.declared.phases.Counted.{Counted}
 use Rattle.protocol.specs.declared.phases.Phase.{Phase}
 use Rattle.protocol.specs.declared.phases.Phase.TheVariants.{Looks, LooksAt, Orders, OrdersAt, Recovers, Descends, Modifies, Bases, Stores, LooksBack}
-use Rattle.protocol.specs.Coordinators.{Coordinator, most_rounds, asked_view}
+use Rattle.protocol.specs.Coordinators.{Coordinator, most_rounds, asked_view, AreEnough}
 use Rattle.protocol.specs.Jobs.{Job, job_ask}
-use Rattle.protocol.specs.Nodes.{has_block, has_length}
+use Rattle.protocol.specs.Nodes.{has_block, has_length, Node}
 use Rattle.protocol.specs.Worlds.{World, Operation, number_of}
+use Rattle.protocol.specs.Scrubs.{Scrub}
+use Rattle.std.specs.Option.{option_map}
 
 -- the replies that have counted, by operation and phase
 abbrev pub Replies : Type 0
@@ -68,6 +70,24 @@ InRound c (Modifies base j) = Unit {0}
 InRound c (Bases base) = Unit {0}
 InRound c Stores = Unit {0}
 
+-- The two reads of its own that a brick may have open at a time: that of its synchronisation, and its scrub.
+pub data Own : Type 0 where
+  ForJob : Own
+  ForScrub : Own
+
+-- the number of such a read's call, where the brick has it
+abbrev pub own_seq : Node → Own → Option ℕ
+own_seq node ForJob = option_map (λ (job : Job). job.seq) node.job
+own_seq node ForScrub = option_map (λ (scrub : Scrub). scrub.seq) node.scrub
+
+-- its synchronisation and its scrub have two calls
+abbrev pub AreApart : Node → Type 0
+AreApart node = (k : ℕ) → own_seq node ForJob ≡ Some k → own_seq node ForScrub ≡ Some k → ⊥
+
+-- a call is that of a read of the brick's own
+abbrev pub IsOwnCall : Node → ℕ → Type 0
+IsOwnCall node k = (own : Own) × (own_seq node own ≡ Some k)
+
 -- a stripe of a group; or stripe 0, which a synchronisation reads of any group
 abbrev pub IsReadable : Group → ℕ → Type 0
 IsReadable group stripe = (stripe ≡ 0) ⊎ (stripe < group.stripes)
@@ -84,7 +104,7 @@ pub record LifeBooks (w : World) (o : Operation) : Type 0 where
   pub open_call : IsOpen (Some life) → (o.boot ≡ (w.nodes o.brick.0).boot) × ((c : Coordinator) × IsCall w o.brick.0 o.seq c)
   pub unclosed : o.closed ≡ None
 
--- an operation that has no marks is a read of a synchronisation: it was answered where it ended without a cause
+-- an operation that has no marks is a read of its brick's own, for its synchronisation or its scrub: it was answered where it ended without a cause
 pub record UnmarkedBooks (o : Operation) : Type 0 where
   pub op : o.ask.op ≡ ReadStripe
   pub answered : o.answered ≡ true → o.closed ≡ Some None
@@ -132,28 +152,36 @@ pub record CallBooks (setting : Setting) (w : World) (i k : ℕ) (c : Coordinato
   pub unended : 1 ≤ operation.mark → (life : Life) → life_of w.marks operation.mark ≡ Some life → IsOpen (Some life)
   pub unclosed : operation.closed ≡ None
   pub unanswered : operation.answered ≡ false
-  pub reads : operation.mark ≡ 0 → (job : Job) × ((w.nodes i).job ≡ Some job) × (job.seq ≡ k)
+  pub reads : operation.mark ≡ 0 → IsOwnCall (w.nodes i) k
+  pub enough : AreEnough c.group c.only
+  pub alone : is_some c.only ≡ true → own_seq (w.nodes i) ForScrub ≡ Some k
 
--- the synchronisation of brick i, and the read that it began last, which may have ended
-pub record JobBooks (w : World) (i : ℕ) (job : Job) : Type 0 where
+-- the read of brick i's own whose call has this number, which may have ended
+pub record OwnBooks (w : World) (i k : ℕ) : Type 0 where
   pub operation : Operation
-  pub operation_is : IsOperation w (number_of w i job.seq) operation
+  pub operation_is : IsOperation w (number_of w i k) operation
   pub mark : operation.mark ≡ 0
   pub brick : operation.brick.0 ≡ i
   pub boot : operation.boot ≡ (w.nodes i).boot
-  pub seq : operation.seq ≡ job.seq
-  pub ask : operation.ask ≡ job_ask job
-  pub view : operation.view ≡ job.view.number.0
+  pub seq : operation.seq ≡ k
+
+-- the synchronisation of brick i, and the read that it began last
+pub record JobBooks (w : World) (i : ℕ) (job : Job) : Type 0 where
+  pub own : OwnBooks w i job.seq
+  pub ask : own.operation.ask ≡ job_ask job
+  pub view : own.operation.view ≡ job.view.number.0
 
 -- the books of a world
 pub record Books (setting : Setting) (w : World) : Type 0 where
   pub well_formed : IsWellFormed w.marks
   pub places : (k : ℕ) (mark : Mark) → slice_get w.marks k ≡ Some mark → position_of mark ≡ k
-  pub boots : (i : ℕ) → 1 ≤ (w.nodes i).boot
+  pub boots : (i : ℕ) → w.up i ≡ true → 1 ≤ (w.nodes i).boot
   pub own : OwnMarks w
   pub all_begun : (n : ℕ) → 1 ≤ n → n ≤ w.begun → (o : Operation) × IsOperation w n o
   pub operations : (n : ℕ) (o : Operation) → IsOperation w n o → OperationBooks setting w n o
   pub calls : (i k : ℕ) (c : Coordinator) → IsCall w i k c → CallBooks setting w i k c
   pub fresh_calls : (i k : ℕ) → (w.nodes i).seq < k → (w.nodes i).calls k ≡ None
   pub jobs : (i : ℕ) (job : Job) → (w.nodes i).job ≡ Some job → JobBooks w i job
+  pub scrubs : (i k : ℕ) → own_seq (w.nodes i) ForScrub ≡ Some k → OwnBooks w i k
+  pub apart : (i : ℕ) → AreApart (w.nodes i)
   pub lives : (n : ℕ) (life : Life) → life_of w.marks n ≡ Some life → (1 ≤ n) × (n ≤ w.marked)

@@ -1,6 +1,6 @@
 -- The books of a world where an open operation ended, or where a brick stopped.
 use Rattle.fab_base.specs.declared.stamps.Stamp.{Stamp}
-use Rattle.std.proofs.Common.{◌≡◌, ◌≢◌, ℕ, ◌<◌, ◌≤◌, ⊎_elim, inl, true, false, not, is_some, Option, Some, None, refl, sym, ap, ◌∙◌, subst, arith, List, [], ◌∷◌, ◌++◌, length, Bool}
+use Rattle.std.proofs.Common.{◌≡◌, ◌≢◌, ℕ, ◌<◌, ◌≤◌, ⊎_elim, true, false, not, is_some, Option, Some, None, refl, sym, ap, ◌∙◌, subst, arith, List, [], ◌∷◌, ◌++◌, length, Bool}
 use Rattle.std.specs.Prelude.{slice_get}
 use Rattle.std.proofs.lemmas.Option.{same_Some}
 use Rattle.std.proofs.lemmas.Bool.{cases_eq, false≢true}
@@ -18,11 +18,11 @@ use Rattle.fab_base.specs.Layouts.{group_of}
 use Rattle.protocol.specs.Settings.{Setting}
 use Rattle.protocol.specs.declared.phases.Counted.{Counted}
 use Rattle.protocol.specs.Coordinators.{Coordinator}
-use Rattle.protocol.specs.Nodes.{Node, has_length, no_calls, stopped, has_block}
+use Rattle.protocol.specs.Nodes.{Node, put, has_length, no_calls, stopped, has_block}
 use Rattle.protocol.specs.Worlds.{World, Operation, is_answer, number_of, world_stopped, Choices}
-use Rattle.protocol_laws.proofs.Books.{Books, IsReadable, OperationBooks, LifeBooks, UnmarkedBooks, CallBooks, IsOperation, IsCall}
+use Rattle.protocol_laws.proofs.Books.{Books, IsReadable, OperationBooks, LifeBooks, UnmarkedBooks, CallBooks, IsOperation, IsCall, ForScrub, own_seq}
 use Rattle.protocol_laws.proofs.MarkNumbers.{cases_marked, own_by, other_mark}
-use Rattle.protocol_laws.proofs.BooksKept.{KeepsNumbers, KeepsAsk, keeps_ask, LivesOn, lives_same, job_kept, operation_stays, operation_kept, call_kept, number_at, calls_apart, cases_call, keeps_all}
+use Rattle.protocol_laws.proofs.BooksKept.{KeepsNumbers, KeepsAsk, keeps_ask, LivesOn, lives_same, job_kept, operation_stays, operation_kept, call_kept, number_at, calls_apart, cases_call, keeps_all, same_reads, own_kept, apart_kept}
 use Rattle.reg_model.proofs.GrowingLives.{Stays-push, Stays-crash, life_onward, life_of-append, lived_before_crash, cases_open, unended_not_answered, with_ending, life_of-end, life_of-crash}
 use Rattle.reg_model.proofs.AddedMarks.{Places-push, well_formed_end, well_formed_crash}
 use Rattle.protocol.proofs.Puts.{put_other}
@@ -59,6 +59,7 @@ pub record Ended (w : World) (i k : ℕ) (c : Coordinator) (before o : Operation
   pub answered_version : o.answered ≡ true → (v : _) × (o.version ≡ Some v)
   pub keeps : (j : ℕ) → KeepsNumbers (w.nodes j) (nodes j)
   pub jobs : (j : ℕ) → (nodes j).job ≡ (w.nodes j).job
+  pub scrubs : (j : ℕ) → own_seq (nodes j) ForScrub ≡ own_seq (w.nodes j) ForScrub
   pub call_is : (nodes i).calls k ≡ None
   pub other_calls : (j l : ℕ) → (j ≡ i → l ≡ k → ⊥) → (nodes j).calls l ≡ (w.nodes j).calls l
   pub operation_is : operations (number_of w i k) ≡ Some o
@@ -165,7 +166,7 @@ module _ (setting : Setting) (w : World) (i k : ℕ) (c : Coordinator) (before o
           places = places;
           own = own_by w.marked w.operations books.own (number_of w i k) before o operations ended.operation_was ended.operation_is ended.same.mark
               ended.other_operations;
-          boots = λ j. (let e : (nodes j).boot ≡ (w.nodes j).boot = (ended.keeps j).boot in omega (arith, books.boots j));
+          boots = λ j up. (let e : (nodes j).boot ≡ (w.nodes j).boot = (ended.keeps j).boot in omega (arith, books.boots j up));
           all_begun = λ n low high. ⊎_elim
               (λ (mine : n ≡ number_of w i k). (o, subst (λ (m : ℕ). IsOperation later m o) (sym mine) ended.operation_is))
               (λ (other : n ≢ number_of w i k).
@@ -196,7 +197,7 @@ module _ (setting : Setting) (w : World) (i k : ℕ) (c : Coordinator) (before o
               call_kept setting w later j l e old mine refl (ended.keeps j).boot (ap (λ (b : ℕ). w.numbers j b l) (ended.keeps j).boot)
               (ended.other_operations (number_of w j l) number) (ended.keeps j).known
               (others (number_of w j l) mine.operation number mine.operation_is)
-              (books.operations (number_of w j l)) (inl (ended.jobs j)))
+              (books.operations (number_of w j l)) (same_reads (w.nodes j) (nodes j) (ended.jobs j) (ended.scrubs j)))
               (cases_call i k j l);
           fresh_calls = λ j l lt. ⊎_elim
               (λ (mine : (j ≡ i) × (l ≡ k)).
@@ -208,6 +209,10 @@ module _ (setting : Setting) (w : World) (i k : ℕ) (c : Coordinator) (before o
           jobs = λ j job is.
               job_kept w later j job (books.jobs j job (sym (ended.jobs j) ∙ is)) (ended.keeps j).boot (ap (λ (b : ℕ). w.numbers j b job.seq) (ended.keeps j).boot)
               (goes_on (number_of w j job.seq));
+          scrubs = λ j l is.
+              (own_kept w later j l (books.scrubs j l (sym (ended.scrubs j) ∙ is)) (ended.keeps j).boot (ap (λ (b : ℕ). w.numbers j b l) (ended.keeps j).boot)
+              (goes_on (number_of w j l))).0;
+          apart = λ j. apart_kept (w.nodes j) (nodes j) (ended.jobs j) (ended.scrubs j) (books.apart j);
           lives = lives;
         }
 
@@ -258,7 +263,7 @@ module _ (setting : Setting) (w : World) (i k : ℕ) (c : Coordinator) (before o
         places
         (λ n life is. (let old = lived_before_end w.marks (length w.marks) before.mark n answer life is in books.lives n old.0 old.1))
 
-  -- a read of a synchronisation ends without
+  -- a read of a brick's own ends without
   module _ (cause : Option Cause) (none : before.mark ≡ 0) (closed : o.closed ≡ Some cause) (answered : o.answered ≡ not (is_some cause)) where
     closed_only : (z : Option Cause) → Some z ≡ Some None → not (is_some z) ≡ true
     closed_only None is = refl
@@ -268,7 +273,7 @@ module _ (setting : Setting) (w : World) (i k : ℕ) (c : Coordinator) (before o
     answered_none None is = refl
     answered_none (Some why) is = absurd (false≢true is)
 
-    -- the end of an open read of a synchronisation keeps the books
+    -- the end of an open read of a brick's own keeps the books
     pub books_closed : Books setting (after w.marks)
     books_closed =
         books_gone w.marks (λ m x other is. lives_same w (after w.marks) x refl)
@@ -301,6 +306,7 @@ module _ (setting : Setting) (w : World) (brick : BrickId) (during : Option ℕ)
     calls = no_calls;
     proposal = None;
     job = None;
+    scrub = None;
   }
 
   -- the world once it has stopped
@@ -323,7 +329,7 @@ module _ (setting : Setting) (w : World) (brick : BrickId) (during : Option ℕ)
   unfolding stopped
   unstopped_calls j k other = ap (λ (x : Node). x.calls k) (put_other w.nodes i node j other)
 
-  -- nor has it a synchronisation, and others keep theirs
+  -- nor has it a synchronisation or a scrub, and others keep theirs
   stopped_job : (shut.nodes i).job ≡ None
   unfolding stopped
   stopped_job = ap (λ (x : Node). x.job) (put_same w.nodes i node)
@@ -331,6 +337,14 @@ module _ (setting : Setting) (w : World) (brick : BrickId) (during : Option ℕ)
   unstopped_job : (j : ℕ) → j ≢ i → (shut.nodes j).job ≡ (w.nodes j).job
   unfolding stopped
   unstopped_job j other = ap (λ (x : Node). x.job) (put_other w.nodes i node j other)
+
+  stopped_scrub : own_seq (shut.nodes i) ForScrub ≡ None
+  unfolding stopped
+  stopped_scrub = ap (λ (x : Node). own_seq x ForScrub) (put_same w.nodes i node)
+
+  unstopped_scrub : (j : ℕ) → j ≢ i → own_seq (shut.nodes j) ForScrub ≡ own_seq (w.nodes j) ForScrub
+  unfolding stopped
+  unstopped_scrub j other = ap (λ (x : Node). own_seq x ForScrub) (put_other w.nodes i node j other)
 
   -- the life of an operation of another brick, or of one that is not open
   life_stays : (n : ℕ) (o : Operation) → OperationBooks setting w n o → (IsOpen (life_of w.marks o.mark) → o.brick.0 ≢ i) → LivesOn w shut o
@@ -417,7 +431,7 @@ module _ (setting : Setting) (w : World) (brick : BrickId) (during : Option ℕ)
       (ap (λ (b : ℕ). w.numbers j b k) (stopped_keeps j).boot)
       refl (stopped_keeps j).known
       (life_stays (number_of w j k) mine.operation theirs (λ open' at. other (sym mine.brick ∙ at)))
-      (books.operations (number_of w j k)) (inl (unstopped_job j other))
+      (books.operations (number_of w j k)) (same_reads (w.nodes j) (shut.nodes j) (unstopped_job j other) (unstopped_scrub j other))
 
   -- a stop keeps the books
   pub books_stopped : Books setting shut
@@ -427,7 +441,12 @@ module _ (setting : Setting) (w : World) (brick : BrickId) (during : Option ℕ)
         well_formed = well_formed_crash w.marks (length w.marks) brick books.well_formed places;
         places = places;
         own = books.own;
-        boots = λ j. (let e : (shut.nodes j).boot ≡ (w.nodes j).boot = (stopped_keeps j).boot in omega (arith, books.boots j));
+        boots = λ j up. ⊎_elim
+            (λ (mine : j ≡ i). absurd (false≢true (sym (ap (λ (x : ℕ). put w.up i false x) mine ∙ put_same w.up i false) ∙ up)))
+            (λ (other : j ≢ i).
+            let e : (shut.nodes j).boot ≡ (w.nodes j).boot = (stopped_keeps j).boot in
+            omega (arith, books.boots j (sym (put_other w.up i false j other) ∙ up)))
+            (cases_eq j i);
         all_begun = books.all_begun;
         operations = λ n o is. ⊎_elim
             (λ (mine : o.brick.0 ≡ i). own_stays n o (books.operations n o is) mine)
@@ -452,6 +471,20 @@ module _ (setting : Setting) (w : World) (brick : BrickId) (during : Option ℕ)
             (λ (other : j ≢ i).
             job_kept w shut j job (books.jobs j job (sym (unstopped_job j other) ∙ is)) (stopped_keeps j).boot
             (ap (λ (b : ℕ). w.numbers j b job.seq) (stopped_keeps j).boot) (λ o at. (o, at, keeps_ask o)))
+            (cases_eq j i);
+        scrubs = λ j l is. ⊎_elim
+            (λ (mine : j ≡ i).
+            let none : own_seq (shut.nodes j) ForScrub ≡ None = ap (λ (x : ℕ). own_seq (shut.nodes x) ForScrub) mine ∙ stopped_scrub in
+            absurd (let never : None ≡ Some l = sym none ∙ is in cc))
+            (λ (other : j ≢ i).
+            (own_kept w shut j l (books.scrubs j l (sym (unstopped_scrub j other) ∙ is)) (stopped_keeps j).boot
+            (ap (λ (b : ℕ). w.numbers j b l) (stopped_keeps j).boot) (λ o at. (o, at, keeps_ask o))).0)
+            (cases_eq j i);
+        apart = λ j. ⊎_elim
+            (λ (mine : j ≡ i) k reads scrubs.
+            let none : own_seq (shut.nodes j) ForScrub ≡ None = ap (λ (x : ℕ). own_seq (shut.nodes x) ForScrub) mine ∙ stopped_scrub in
+            let never : None ≡ Some k = sym none ∙ scrubs in let e : ⊥ = cc in e)
+            (λ (other : j ≢ i). apart_kept (w.nodes j) (shut.nodes j) (unstopped_job j other) (unstopped_scrub j other) (books.apart j))
             (cases_eq j i);
         lives = λ n life is. (let old = lived_before_crash w.marks (length w.marks) n brick life is in books.lives n old.0 old.1);
       }

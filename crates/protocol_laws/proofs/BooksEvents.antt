@@ -1,13 +1,13 @@
 -- Every event keeps the books.
 use Rattle.view_laws.proofs.Syncing.{synced_each}
-use Rattle.view_laws.proofs.SyncReads.{synced_at_each}
+use Rattle.view_laws.proofs.SyncReads.{synced_at_each, scrubbed_at_each}
 use Rattle.protocol_laws.proofs.StampViews.{waits_view, next_view}
 use Rattle.std.specs.Option.{option_map}
 use Rattle.protocol.specs.Views.{kept_by, group_kept, view_told}
 use Rattle.std.proofs.Common.{◌≡◌, ◌≢◌, ℕ, ◌+◌, ◌-◌, ◌<◌, ◌≤◌, ◌⊎◌, inl, inr, ◌^◌, Bool, true, false, not, ◌&&◌, cond, is_some, Option, Some, None, refl, sym, ap, ◌∙◌, subst, arith, List, [], ◌∷◌, ◌++◌, length, ⊎_elim}
 use Rattle.std.specs.Prelude.{nat_lt, max}
 use Rattle.std.proofs.lemmas.Option.{same_Some}
-use Rattle.std.proofs.lemmas.Bool.{cond_both, and_parts, not-true, not-false, ltb-true, both_ways, false≢true}
+use Rattle.std.proofs.lemmas.Bool.{cond_both, and_parts, not-true, not-false, ltb-true, both_ways, false≢true, ltb-false}
 use Rattle.fab_base.specs.declared.identities.BrickId.{BrickId}
 use Rattle.fab_base.specs.declared.identities.ViewNo.{ViewNo}
 use Rattle.fab_base.specs.declared.asks.Ask.{Ask}
@@ -24,7 +24,7 @@ use Rattle.messages.specs.declared.packets.Message.{Message}
 use Rattle.messages.specs.declared.packets.Packet.{Packet}
 use Rattle.messages.specs.declared.requests.Request.{Request}
 use Rattle.messages.specs.declared.replies.Reply.{Reply}
-use Rattle.fab_base.specs.Layouts.{Layout, Group, group_of}
+use Rattle.fab_base.specs.Layouts.{Layout, Group, group_of, seat_in}
 use Rattle.fab_base.specs.declared.identities.GroupId.{GroupId}
 use Rattle.fab_base.specs.declared.member_lists.View.{View}
 use Rattle.protocol.specs.Ballots.{Voted}
@@ -34,28 +34,35 @@ use Rattle.protocol.specs.Replicas.{handle}
 use Rattle.protocol.specs.declared.phases.Phase.{Phase}
 use Rattle.protocol.specs.declared.phases.Phase.TheVariants.{Looks, LooksAt, Orders, OrdersAt, Recovers, Descends, Modifies, Bases, Stores, LooksBack}
 use Rattle.protocol.specs.declared.phases.Counted.{Counted}
-use Rattle.protocol.specs.Coordinators.{Coordinator, Next, Ignores, Waits, Sends, Makes, Ends, most_rounds, with_reply, once_full, counted_at, counts_at, on_reply, asked_view}
-use Rattle.protocol.specs.Nodes.{Node, NodeStep, put, no_step, has_block, has_length, refusal_in, refusal_of, began, invoked, with_replica, replica_at, full_at, reply_packets, requested, ticked, may_open, has_later_time, next_time, new_stamp, fresh_stamp, known_after, with_call, with_known, carried_out, phase_packets, collect_packets, synced_packets, reporting, with_job, carried_for, job_reading, synced_at, sync_refusal, sending, replied_at, heard, received, group_at, vote_at, with_round, proposed, node_taught_by, node_learnt, view_counted, lists_fit, node_synced}
-use Rattle.protocol.specs.Worlds.{World, world_found, Operation, Found, Before, After, Found, Before, After, Event, is_answer, first_world, is_brick, is_up, may_begin, number_of, may_start, world_found, world_began, world_stepped, with_made, with_seen, with_answer, with_closed, with_content, may_sync, replies_with, voiced, run, with_held, choices_after, Choices}
+use Rattle.protocol.specs.Coordinators.{Coordinator, Next, Ignores, Waits, Sends, Makes, Ends, most_rounds, with_reply, once_full, counted_at, counts_at, on_reply, asked_view, AreEnough}
+use Rattle.protocol.specs.Nodes.{Node, NodeStep, put, no_step, has_block, has_length, refusal_in, refusal_of, began, invoked, with_replica, replica_at, full_at, reply_packets, requested, ticked, may_open, has_later_time, next_time, new_stamp, fresh_stamp, known_after, with_call, with_known, carried_out, phase_packets, collect_packets, synced_packets, reporting, with_job, job_reading, synced_at, sync_refusal, sending, replied_at, heard, received, group_at, vote_at, with_round, proposed, node_taught_by, node_learnt, view_counted, lists_fit, node_synced, scrub_of, scrub_ended, scrubbed_at, scrub_refusal_in, scrub_refusal}
+use Rattle.protocol.specs.Worlds.{World, world_found, Operation, Found, Before, After, Found, Before, After, Event, is_answer, has_old_stores, first_world, is_brick, is_up, may_begin, number_of, may_start, world_found, world_began, world_stepped, with_made, with_seen, with_answer, with_closed, with_content, may_sync, replies_with, voiced, run, with_held, choices_after, Choices, may_scrub}
 use Rattle.protocol_laws.specs.Laws.{WasSent}
 use Rattle.protocol.proofs.Served.{request_each}
 use Rattle.protocol_laws.proofs.Left.{IsLeft, kept_of, Leaves, always_leaves, found_down}
-use Rattle.protocol_laws.proofs.Books.{Replies, version_after, Books, IsReadable, IsOperation, OperationBooks, JobBooks, CallBooks, IsCall, IsUnmade, MadeInPhase, InRound, IsMade}
+use Rattle.protocol_laws.proofs.Books.{Replies, version_after, Books, IsReadable, IsOperation, OperationBooks, JobBooks, CallBooks, IsCall, IsUnmade, MadeInPhase, InRound, IsMade, Own, ForJob, ForScrub, own_seq}
 use Rattle.protocol_laws.proofs.MarkNumbers.{mark_at, mark_seen}
-use Rattle.protocol_laws.proofs.BooksKept.{KeepsNumbers, KeepsCalls, KeepsJob, HasNoRead, call_marked, call_unmarked, reading_is, keeps_all, keeps_itself, keeps_known, keeps_with_call}
+use Rattle.protocol_laws.proofs.BooksKept.{KeepsNumbers, KeepsCalls, HasNoRead, call_marked, call_unmarked, reading_is, keeps_all, keeps_itself, keeps_known, keeps_with_call, KeepsReads, reads_stay, calls_reads, scrub_is, job_seq, scrub_seq, own_books}
 use Rattle.protocol_laws.proofs.Votes.{with_vote}
 use Rattle.protocol_laws.proofs.Proposing.{ballot_each, proposed_each}
 use Rattle.protocol_laws.proofs.Teaching.{told_each, learnt_each}
-use Rattle.protocol_laws.proofs.Closing.{AfterClose, ClosesNone, closed_world, closing_each}
+use Rattle.protocol_laws.proofs.Closing.{AfterClose, ClosesNone, closed_world, closing_each, carried_noted, closed_no_read}
 use Rattle.protocol_laws.proofs.Hearing.{kept_world, taught_by, hearing_each}
 use Rattle.protocol_laws.proofs.BooksQuiet.{books_quiet, books_started}
 use Rattle.protocol_laws.proofs.BooksTurns.{IsBookedStamp, books_turned}
 use Rattle.protocol_laws.proofs.BooksEnds.{Ended, ended_world, books_ended, books_closed, books_stopped}
-use Rattle.protocol_laws.proofs.BooksBegins.{books_began, books_read}
+use Rattle.protocol_laws.proofs.BooksBegins.{books_began, books_read, books_scrub}
 use Rattle.protocol_laws.proofs.Outcomes.{SameOperation, IsRound, ReordersFits, RecoversFits, SendsFits, EndFits, NextFits, once_full_fits, IsLook, IsMaking, RebuildsIn, RebuildsFits, MakesIn, unmade_again, unmade_recovers, BackFits, back_phase, call_after}
 use Rattle.protocol.proofs.Puts.{put_other}
 use Rattle.protocol.proofs.Tables.{put_each, put_same}
 use Rattle.protocol.proofs.Events.{EventCases, always_where, world_counting, world_handled}
+use Rattle.protocol.specs.Scrubs.{Scrub, names_quorum}
+use Rattle.fab_base.specs.declared.identities.StripeNo.{StripeNo}
+use Rattle.protocol_laws.proofs.Noting.{noted_by, replied_noted, noting_each, noted_keeps}
+use Rattle.std.specs.List.{list_all}
+use Rattle.quorum.specs.Memberships.{are_distinct}
+use Rattle.quorum.specs.Quorums.{quorum_of}
+use Rattle.protocol.specs.declared.tellings.ScrubAnswer.{ScrubAnswer}
 
 -- a brick that keeps its numbers, among those that stay
 pub keeps_put : (w : World) (i : ℕ) (node : Node) → KeepsNumbers (w.nodes i) node → (j : ℕ) → KeepsNumbers (w.nodes j) (put w.nodes i node j)
@@ -63,9 +70,9 @@ keeps_put w i node keeps j =
     put_each (λ (x : ℕ) (y : Node). KeepsNumbers (w.nodes x) y) w.nodes i node keeps
     (λ x other. keeps_all (w.nodes x)) j
 
--- so with its synchronisation
-jobs_put : (w : World) (i : ℕ) (node : Node) → KeepsJob (w.nodes i) node → (j : ℕ) → KeepsJob (w.nodes j) (put w.nodes i node j)
-jobs_put w i node keeps j = put_each (λ (x : ℕ) (y : Node). KeepsJob (w.nodes x) y) w.nodes i node keeps (λ x other. inl refl) j
+-- so with its own reads
+pub reads_put : (w : World) (i : ℕ) (node : Node) → KeepsReads (w.nodes i) node → (j : ℕ) → KeepsReads (w.nodes j) (put w.nodes i node j)
+reads_put w i node keeps j = put_each (λ (x : ℕ) (y : Node). KeepsReads (w.nodes x) y) w.nodes i node keeps (λ x other. reads_stay (w.nodes x)) j
 
 module _ (setting : Setting) (w : World) where
   -- the world after a brick's step, with these counted replies
@@ -80,7 +87,7 @@ module _ (setting : Setting) (w : World) where
       books_quiet setting w (put w.nodes brick.0 node) (with_held w.held brick.0 node) w.clocks (w.packets ++ packets) replies w.reached _ books
       (keeps_put w brick.0 node keeps.0)
       (λ j l. put_each (λ (x : ℕ) (y : Node). y.calls l ≡ (w.nodes x).calls l) w.nodes brick.0 node (keeps.1 l) (λ x other. refl) j)
-      (jobs_put w brick.0 node (inl keeps.2))
+      (reads_put w brick.0 node (calls_reads (w.nodes brick.0) node keeps))
 
   books_nothing : (replies : Replies) (brick : BrickId) (node : Node) (packets : List Packet) → Books setting w
       → KeepsCalls (w.nodes brick.0) node → Books setting (stepped replies brick (sending node packets))
@@ -92,7 +99,7 @@ module _ (setting : Setting) (w : World) where
       books_quiet setting w (put w.nodes me.0 node) (with_held w.held me.0 node) w.clocks w.packets w.replies w.reached _ books
       (keeps_put w me.0 node keeps.0)
       (λ j l. put_each (λ (x : ℕ) (y : Node). y.calls l ≡ (w.nodes x).calls l) w.nodes me.0 node (keeps.1 l) (λ x other. refl) j)
-      (jobs_put w me.0 node (inl keeps.2))
+      (reads_put w me.0 node (calls_reads (w.nodes me.0) node keeps))
 
   -- a brick that changes nothing
   books_no_step : (replies : Replies) (brick : BrickId) → Books setting w
@@ -104,17 +111,29 @@ module _ (setting : Setting) (w : World) where
   books_known : (replies : Replies) (brick : BrickId) (known : ℕ) → Books setting w → (w.nodes brick.0).known ≤ known
       → Books setting (stepped replies brick (no_step (with_known (w.nodes brick.0) known)))
   books_known replies brick known books grows =
-      books_nothing replies brick (with_known (w.nodes brick.0) known) [] books (keeps_known (w.nodes brick.0) known grows, λ l. refl, refl)
+      books_nothing replies brick (with_known (w.nodes brick.0) known) [] books (keeps_known (w.nodes brick.0) known grows, λ l. refl, refl, refl)
 
-  -- a synchronisation ends that has no read open
-  pub books_dropped : (me : BrickId) (packets : List Packet) (report : Report) → Books setting w → HasNoRead (w.nodes me.0)
-      → Books setting (world_stepped setting w me (reporting (with_job (w.nodes me.0) None) packets report))
-  books_dropped me packets report books ended =
-      let node : Node = with_job (w.nodes me.0) None in
+  -- a synchronisation ends that has no read open, or a scrub that is not open
+  books_dropped : (me : BrickId) (job : Option Job) (scrub : Option Scrub) (packets : List Packet) (report : Report) → Books setting w
+      → (let node = record (w.nodes me.0) { job = job; scrub = scrub } in
+      KeepsReads (w.nodes me.0) node → Books setting (world_stepped setting w me (reporting node packets report)))
+  books_dropped me job scrub packets report books keeps =
+      let node : Node = record (w.nodes me.0) { job = job; scrub = scrub } in
       books_quiet setting w (put w.nodes me.0 node) (with_held w.held me.0 node) w.clocks (w.packets ++ packets) w.replies w.reached _ books
       (keeps_put w me.0 node (record { boot = refl; seq = omega arith; known = omega arith }))
       (λ j l. put_each (λ (x : ℕ) (y : Node). y.calls l ≡ (w.nodes x).calls l) w.nodes me.0 node refl (λ x other. refl) j)
-      (jobs_put w me.0 node (inr (refl, ended)))
+      (reads_put w me.0 node keeps)
+
+  -- the synchronisation ends
+  pub books_jobless : (me : BrickId) (packets : List Packet) (report : Report) → Books setting w → HasNoRead (w.nodes me.0) ForJob
+      → Books setting (world_stepped setting w me (reporting (with_job (w.nodes me.0) None) packets report))
+  books_jobless me packets report books ended = books_dropped me None (w.nodes me.0).scrub packets report books (inr (refl, ended), inl refl)
+
+  -- the scrub ends
+  pub books_scrubless : (me : BrickId) (call : Call) (members : List BrickId) (answer : ScrubAnswer) → Books setting w → HasNoRead (w.nodes me.0) ForScrub
+      → Books setting (world_stepped setting w me (scrub_ended (w.nodes me.0) call members answer))
+  books_scrubless me call members answer books ended =
+      books_dropped me (w.nodes me.0).job None [] (Report.Scrub call members answer) books (inl refl, inr (refl, ended))
 
   -- a request
   books_requested : (replies : Replies) (me from : BrickId) (call : Call) (request : Request) → Books setting w
@@ -126,11 +145,11 @@ module _ (setting : Setting) (w : World) where
       (λ group seat here served.
       let reaction = handle setting.code group.m (full_at setting.layout.records (w.nodes me.0).live) seat (replica_at (w.nodes me.0) call) request in
       books_nothing replies me (with_replica (w.nodes me.0) call reaction) (reply_packets me from call reaction.reply) books
-      (record { boot = refl; seq = omega arith; known = omega arith }, λ l. refl, refl))
+      (record { boot = refl; seq = omega arith; known = omega arith }, λ l. refl, refl, refl))
       (λ group ballot asked here.
       let vote : Voted = vote_at (w.nodes me.0) call ballot asked in
       books_nothing replies me (with_vote (w.nodes me.0) call vote) (reply_packets me from call (Some vote.reply)) books
-      (record { boot = refl; seq = omega arith; known = omega arith }, λ l. refl, refl))
+      (record { boot = refl; seq = omega arith; known = omega arith }, λ l. refl, refl, refl))
 
   -- a brick begins a proposal
   books_proposed : (me : BrickId) (group : GroupId) (members : List BrickId) → Books setting w
@@ -139,7 +158,7 @@ module _ (setting : Setting) (w : World) where
       proposed_each (λ (step : NodeStep). Books setting (stepped w.replies me step)) setting me (w.nodes me.0) group members
       (λ seq round proposal packets reports more are.
       books_silent w.replies me (record (w.nodes me.0) { seq = seq; round = round; proposal = proposal }) packets reports books
-      (record { boot = refl; seq = more; known = omega arith }, λ l. refl, refl))
+      (record { boot = refl; seq = more; known = omega arith }, λ l. refl, refl, refl))
 
 -- what an operation made is of its stamp and on its base, whatever else its coordinator holds
 made_same : (c d : Coordinator) (o : Operation) (p q : Phase) → d.stamp ≡ c.stamp → d.base ≡ c.base → q ≡ p → MadeInPhase c o p → MadeInPhase d o q
@@ -357,6 +376,7 @@ module _ (setting : Setting) (w : World) (me : BrickId) (now known : ℕ) (c : C
   then' = record {
     group = c.group;
     prior = c.prior;
+    only = c.only;
     ask = c.ask;
     stamp = c.stamp;
     round = c.round;
@@ -373,7 +393,7 @@ module _ (setting : Setting) (w : World) (me : BrickId) (now known : ℕ) (c : C
   -- the replies that count are no part of the operation
   same_of : (d : Coordinator) → SameOperation then' d → SameOperation c d
   same_of d same =
-      record { ask = same.ask; members = same.members; prior = same.prior; boot = same.boot; seq = same.seq; group = same.group; stripe = same.stripe }
+      record { ask = same.ask; members = same.members; prior = same.prior; only = same.only; boot = same.boot; seq = same.seq; group = same.group; stripe = same.stripe }
 
   mine : CallBooks setting w i k c
   mine = books.calls i k c is_call
@@ -392,6 +412,11 @@ module _ (setting : Setting) (w : World) (me : BrickId) (now known : ℕ) (c : C
   keeps_call : (time busy : ℕ) (d : Option Coordinator) → node.known ≤ time
       → (j : ℕ) → KeepsNumbers (w.nodes j) (put w.nodes i (with_call node time busy k d) j)
   keeps_call time busy d later = keeps_put w i (with_call node time busy k d) (keeps_with_call node time busy k d later)
+
+  scrubs_call : (time busy : ℕ) (d : Option Coordinator) (j : ℕ)
+      → own_seq (put w.nodes i (with_call node time busy k d) j) ForScrub ≡ own_seq (w.nodes j) ForScrub
+  scrubs_call time busy d j =
+      put_each (λ (x : ℕ) (y : Node). own_seq y ForScrub ≡ own_seq (w.nodes x) ForScrub) w.nodes i (with_call node time busy k d) refl (λ x other. refl) j
 
   jobs_call : (time busy : ℕ) (d : Option Coordinator) (j : ℕ) → (put w.nodes i (with_call node time busy k d) j).job ≡ (w.nodes j).job
   jobs_call time busy d j =
@@ -490,6 +515,7 @@ module _ (setting : Setting) (w : World) (me : BrickId) (now known : ℕ) (c : C
     answered_version = λ is. ends_version c mine.operation c.phase answer seen mine.made fits (answers is);
     keeps = keeps_call known busy None grows;
     jobs = jobs_call known busy None;
+    scrubs = scrubs_call known busy None;
     call_is = call_put known busy None;
     other_calls = other_put known busy None;
     operation_is = is_ended;
@@ -565,6 +591,7 @@ module _ (setting : Setting) (w : World) (me : BrickId) (now known : ℕ) (c : C
         made = made_same c d mine.operation c.phase d.phase fits.stamp fits.base fits.phase mine.made;
         keeps = keeps_call known node.busy (Some d) grows;
         jobs = jobs_call known node.busy (Some d);
+        scrubs = scrubs_call known node.busy (Some d);
         call_is = call_put known node.busy (Some d);
         other_calls = other_put known node.busy (Some d);
         operation_is = mine.operation_is;
@@ -586,6 +613,7 @@ module _ (setting : Setting) (w : World) (me : BrickId) (now known : ℕ) (c : C
         made = made_sends d fits.how;
         keeps = keeps_call time node.busy (Some d) (omega arith);
         jobs = jobs_call time node.busy (Some d);
+        scrubs = scrubs_call time node.busy (Some d);
         call_is = call_put time node.busy (Some d);
         other_calls = other_put time node.busy (Some d);
         operation_is = mine.operation_is;
@@ -622,6 +650,7 @@ module _ (setting : Setting) (w : World) (me : BrickId) (now known : ℕ) (c : C
         made = made_now d o fits.phase (refl, refl, refl);
         keeps = keeps_call known node.busy (Some d) grows;
         jobs = jobs_call known node.busy (Some d);
+        scrubs = scrubs_call known node.busy (Some d);
         call_is = call_put known node.busy (Some d);
         other_calls = other_put known node.busy (Some d);
         operation_is = put_same w.operations n (with_made d.stamp d.base (w.operations n))
@@ -642,11 +671,17 @@ module _ (setting : Setting) (w : World) (me : BrickId) (now known : ℕ) (c : C
       (put_same w.operations n (with_seen v (w.operations n)) ∙ ap (λ (x : Option Operation). with_seen v x) mine.operation_is))
       (λ m other. put_other seen n (with_answer answer (seen n)) m other ∙ put_other w.operations n (with_seen v (w.operations n)) m other)
 
-  -- an operation that ends, and is no read of the synchronisation, has marks
-  ends_marked : (next : Next) (reading : Option Job) → job_reading node.job k ≡ reading → ClosesNone reading next
+  -- an operation that ends, and is no read of the brick's own, has marks
+  ends_marked : (next : Next) → ClosesNone (job_reading node.job k) (scrub_of node.scrub k) next
       → (answer : Answer) (seen stored : Option Stamp) → next ≡ Ends answer seen stored → 1 ≤ mine.operation.mark
-  ends_marked next None is none answer seen stored ends = call_marked setting w i k c mine is
-  ends_marked next (Some job) is none answer seen stored ends = absurd (none job answer seen stored refl ends)
+  ends_marked next none answer seen stored ends =
+      let neither = none answer seen stored ends in call_marked setting w i k c mine neither.0 neither.1
+
+  -- a read of the brick's own ends
+  own_closes : (own : Own) → own_seq node own ≡ Some k → (answer : Answer) (seen stored : Option Stamp) → EndFits c.phase answer seen
+      → Books setting (closed_world setting w me known c answer seen stored)
+  own_closes own is answer seen stored fits =
+      books_closes answer seen stored fits (call_unmarked setting w i k c mine (own_books setting w books i k own is))
 
   -- a read of the synchronisation ends, and that goes on
   after_closed : (job : Job) → job_reading node.job k ≡ Some job → (answer : Answer) (seen stored : Option Stamp) → EndFits c.phase answer seen
@@ -655,19 +690,18 @@ module _ (setting : Setting) (w : World) (me : BrickId) (now known : ℕ) (c : C
   after_closed job reading answer seen stored fits =
       let is = reading_is node.job k job reading in
       let x : World = closed_world setting w me known c answer seen stored in
-      let booked : Books setting x =
-      books_closes answer seen stored fits (call_unmarked setting w i k c mine job (books.jobs i job is.0) is.1) in
-      let here : x.nodes i ≡ left node.busy = put_same w.nodes i (left node.busy) in
-      let over : HasNoRead (x.nodes i) = subst HasNoRead (sym here) none_left in
+      let seq : own_seq node ForJob ≡ Some k = job_seq node.job job k is.0 is.1 in
+      let booked : Books setting x = own_closes ForJob seq answer seen stored fits in
+      let over : HasNoRead (x.nodes i) ForJob = closed_no_read setting w me known c answer seen stored ForJob seq in
       record {
         stays = books_no_step setting x x.replies me booked;
-        ends = λ told. books_dropped setting x me [] (Report.Sync job.group told) booked over;
+        ends = λ told. books_jobless setting x me [] (Report.Sync job.group told) booked over;
         finishes = λ finished.
-            books_dropped setting x me (synced_packets me job.group job.view.number setting.layout.bricks 0) (Report.Sync job.group (synced_answer job.view.number))
+            books_jobless setting x me (synced_packets me job.group job.view.number setting.layout.bricks 0) (Report.Sync job.group (synced_answer job.view.number))
             booked over;
         reads = λ attempt group goes found.
             (let own = kept_is setting.layout job.view.members job.group.0 group found in
-            books_read setting x me now (record job { attempt = attempt }) group own.0 booked (closed_up setting w me known c answer seen stored ∙ mine.up)
+            books_read setting x me now booked (closed_up setting w me known c answer seen stored ∙ mine.up) (record job { attempt = attempt }) group own.0
             over own.1 own.2 (reads_on own.0 own.1 attempt goes));
       }
     where
@@ -677,9 +711,9 @@ module _ (setting : Setting) (w : World) (me : BrickId) (now known : ℕ) (c : C
       reads_on group found attempt goes =
           let is = reading_is node.job k job reading in
           let its : JobBooks w i job = books.jobs i job is.0 in
-          let there : w.operations n ≡ Some its.operation =
-          subst (λ (l : ℕ). IsOperation w (number_of w i l) its.operation) is.1 its.operation_is in
-          let one : its.operation ≡ mine.operation = same_Some its.operation mine.operation (sym there ∙ mine.operation_is) in
+          let there : w.operations n ≡ Some its.own.operation =
+          subst (λ (l : ℕ). IsOperation w (number_of w i l) its.own.operation) is.1 its.own.operation_is in
+          let one : its.own.operation ≡ mine.operation = same_Some its.own.operation mine.operation (sym there ∙ mine.operation_is) in
           let ask : mine.operation.ask ≡ job_ask job = ap (λ (x : Operation). x.ask) (sym one) ∙ its.ask in
           let own : OperationBooks setting w n mine.operation = books.operations n mine.operation mine.operation_is in
           let same : own.group ≡ group =
@@ -689,20 +723,30 @@ module _ (setting : Setting) (w : World) (me : BrickId) (now known : ℕ) (c : C
           next_readable group c.group.stripes job.attempt attempt (abort_cause answer)
           (mine.stripes group (ap (λ (a : Ask). group_of setting.layout a.group.0) (mine.ask ∙ ask) ∙ found)) readable goes
 
-      none_left : HasNoRead (left node.busy)
-      none_left one at =
-          let is = reading_is node.job k job reading in
-          let same : job ≡ one = same_Some job one (sym is.0 ∙ at) in
-          ap (put node.calls k None) (ap (λ (j : Job). j.seq) (sym same) ∙ is.1) ∙ put_same node.calls k None
+  -- a scrub ends
+  after_scrub : (s : Scrub) → scrub_of node.scrub k ≡ Some s → (answer : Answer) (seen stored : Option Stamp) → EndFits c.phase answer seen
+      → (members : List BrickId) (ended : ScrubAnswer)
+      → (let x = closed_world setting w me known c answer seen stored in
+      Books setting (world_stepped setting x me (scrub_ended (x.nodes me.0) c.call members ended)))
+  after_scrub s found answer seen stored fits members ended =
+      let is = scrub_is node.scrub k s found in
+      let seq : own_seq node ForScrub ≡ Some k = scrub_seq node.scrub s k is.0 is.1 in
+      books_scrubless setting (closed_world setting w me known c answer seen stored) me c.call members ended (own_closes ForScrub seq answer seen stored fits)
+      (closed_no_read setting w me known c answer seen stored ForScrub seq)
 
   -- what a brick does with what a coordinator decided
   books_carried_for : (next : Next) → NextFits fresh then' next
-      → Books setting (world_stepped setting w me (carried_for setting me now node known c next (job_reading node.job k)))
+      → Books setting (world_stepped setting w me (carried_noted setting me now node known c next (job_reading node.job k) (scrub_of node.scrub k)))
   books_carried_for next fits =
-      closing_each (Books setting) setting w me now known c next (job_reading node.job k)
-      (λ none. books_carried_out next fits (ends_marked next (job_reading node.job k) refl none))
-      (λ job reading answer seen stored ends.
-      after_closed job reading answer seen stored (let had : NextFits fresh then' (Ends answer seen stored) = subst (NextFits fresh then') ends fits in had.0))
+      closing_each (Books setting) setting w me now known c next (job_reading node.job k) (scrub_of node.scrub k)
+      (λ none. books_carried_out next fits (ends_marked next none))
+      (λ job reading answer seen stored ends. after_closed job reading answer seen stored (ended_fits next fits answer seen stored ends))
+      (λ s none found answer seen stored ends. after_scrub s found answer seen stored (ended_fits next fits answer seen stored ends) _ _)
+    where
+      ended_fits : (next : Next) → NextFits fresh then' next → (answer : Answer) (seen stored : Option Stamp) → next ≡ Ends answer seen stored
+          → EndFits c.phase answer seen
+      ended_fits next fits answer seen stored ends =
+          (let had : NextFits fresh then' (Ends answer seen stored) = subst (NextFits fresh then') ends fits in had.0)
 
 -- a brick that may begin to synchronise is up, and does not yet
 sync_up : (setting : Setting) (w : World) (me : BrickId) (group : GroupId) → may_sync setting w me group ≡ true → w.up me.0 ≡ true
@@ -721,24 +765,78 @@ sync_free setting w me group may =
     let both = and_parts (is_up setting.layout w me) (not (is_some (sync_refusal setting.layout (w.nodes me.0) group.0))) may in
     no_job (w.nodes me.0).job (group_of setting.layout group.0) (not-true _ both.1)
 
+-- a scrub that may begin: its group is there, and has the stripe; of its members a quorum is named; and its brick is up and has none
+pub record ScrubFits (setting : Setting) (w : World) (me : BrickId) (number : GroupId) (stripe : StripeNo) (members : List BrickId) : Type 0 where
+  pub up : w.up me.0 ≡ true
+  pub free : (w.nodes me.0).scrub ≡ None
+  pub kept : Group
+  pub kept_is : group_at setting.layout (w.nodes me.0) number.0 ≡ Some kept
+  pub stripe_fits : stripe.0 < kept.stripes
+  pub named : names_quorum kept members ≡ true
+
+pub scrub_fits : (setting : Setting) (w : World) (me : BrickId) (number : GroupId) (stripe : StripeNo) (members : List BrickId)
+    → may_scrub setting w me number stripe members ≡ true → ScrubFits setting w me number stripe members
+unfolding scrub_refusal
+scrub_fits setting w me number stripe members may =
+    let both = and_parts (is_up setting.layout w me) (not (is_some (scrub_refusal setting.layout (w.nodes me.0) number stripe members))) may in
+    let none : scrub_refusal setting.layout (w.nodes me.0) number stripe members ≡ None
+    = no_refusal (scrub_refusal setting.layout (w.nodes me.0) number stripe members) (not-true _ both.1) in
+    by (and_parts (is_brick setting.layout me) (w.up me.0) both.0).1 (group_at setting.layout (w.nodes me.0) number.0) refl none
+  where
+    no_refusal : (r : Option Refusal) → is_some r ≡ false → r ≡ None
+    no_refusal None h = refl
+    no_refusal (Some r) h = absurd (let never : true ≡ false = h in cc)
+
+    unless : (b : Bool) (r : Refusal) (rest : Option Refusal) → cond b (Some r) rest ≡ None → (b ≡ false) × (rest ≡ None)
+    unless true r rest h = absurd (let never : Some r ≡ None = h in cc)
+    unless false r rest h = (refl, h)
+
+    no_scrub : (s : Option Scrub) → is_some s ≡ false → s ≡ None
+    no_scrub None h = refl
+    no_scrub (Some s) h = absurd (let never : true ≡ false = h in cc)
+
+    by : w.up me.0 ≡ true → (z : Option Group) → group_at setting.layout (w.nodes me.0) number.0 ≡ z → scrub_refusal_in (w.nodes me.0) stripe members z ≡ None
+        → ScrubFits setting w me number stripe members
+    by up None is h = absurd (let never : Some Refusal.NoStripe ≡ None = h in cc)
+    by up (Some group) is h =
+        let first = unless (not (nat_lt stripe.0 group.stripes)) Refusal.NoStripe _ h in
+        let second = unless (not (names_quorum group members)) Refusal.NoQuorum _ first.1 in
+        let third = unless (is_some (w.nodes me.0).scrub) Refusal.Busy _ second.1 in
+        record {
+          up = up;
+          free = no_scrub (w.nodes me.0).scrub third.0;
+          kept = group;
+          kept_is = is;
+          stripe_fits = ltb-true stripe.0 group.stripes (not-false _ first.0);
+          named = not-false _ second.0;
+        }
+
+-- at least a quorum is named
+pub named_enough : (group : Group) (members : List BrickId) → names_quorum group members ≡ true → AreEnough group (Some members)
+named_enough group members named =
+    let all = and_parts (are_distinct members) _ named in
+    let most = and_parts (list_all (λ (member : BrickId). is_some (seat_in group.members member.0)) members) _ all.1 in
+    ltb-false (length members) (quorum_of group) (not-true _ most.1)
+
 -- what a reply makes known is no less
 pub known_grows : (known : ℕ) (reply : Reply) → known ≤ known_after known reply
 known_grows known (Reply.Later t) = omega arith
 known_grows known reply = omega arith
 
 module _ (setting : Setting) (w : World) where
-  -- a reply
+  -- a reply, once it is noted who lagged
   books_counted_at : (me : BrickId) (now : ℕ) (from : BrickId) (reply : Reply) (c : Coordinator)
       (seat : Option ℕ) → Books setting w → IsCall w me.0 c.call.seq c
       → (let known = known_after (w.nodes me.0).known reply in
-      Books setting (world_stepped setting w me (carried_for setting me now (w.nodes me.0) known c
+      Books setting (world_stepped setting w me (carried_noted setting me now (w.nodes me.0) known c
       (counted_at setting.layout.block setting.code (fresh_stamp me c.stamp.view now (w.nodes me.0).boot known) c from reply seat)
-      (job_reading (w.nodes me.0).job c.call.seq))))
+      (job_reading (w.nodes me.0).job c.call.seq) (scrub_of (w.nodes me.0).scrub c.call.seq))))
   books_counted_at me now from reply c None books is_call =
       let known = known_after (w.nodes me.0).known reply in
-      closing_each (Books setting) setting w me now known c Ignores (job_reading (w.nodes me.0).job c.call.seq)
+      closing_each (Books setting) setting w me now known c Ignores (job_reading (w.nodes me.0).job c.call.seq) (scrub_of (w.nodes me.0).scrub c.call.seq)
       (λ none. books_known setting w w.replies me known books (known_grows (w.nodes me.0).known reply))
       (λ job reading answer seen stored ends. absurd (let never : Ignores ≡ Ends answer seen stored = ends in cc))
+      (λ s none found answer seen stored ends. absurd (let never : Ignores ≡ Ends answer seen stored = ends in cc))
   books_counted_at me now from reply c (Some seat) books is_call =
       let known = known_after (w.nodes me.0).known reply in
       let fresh = fresh_stamp me c.stamp.view now (w.nodes me.0).boot known in
@@ -747,15 +845,15 @@ module _ (setting : Setting) (w : World) where
       (once_full setting.layout.block setting.code fresh (with_reply c seat from reply))
       (once_full_fits setting.layout.block setting.code fresh (with_reply c seat from reply))
 
-  -- once a reply ended a read of a synchronisation, before that goes on
+  -- once a reply ended a read of the brick's own, before what follows
   pub books_closing : (me : BrickId) (now : ℕ) (from : BrickId) (call : Call) (reply : Reply) (c : Coordinator) → Books setting w
-      → IsCall w me.0 c.call.seq c → (job : Job) → job_reading (w.nodes me.0).job c.call.seq ≡ Some job
+      → IsCall w me.0 c.call.seq c → (own : Own) → own_seq (w.nodes me.0) own ≡ Some c.call.seq
       → (answer : Answer) (seen stored : Option Stamp)
       → (let known = known_after (w.nodes me.0).known reply in
       on_reply setting.layout.block setting.code (fresh_stamp me c.stamp.view now (w.nodes me.0).boot known) c from call reply ≡ Ends answer seen stored)
       → Books setting (closed_world setting w me (known_after (w.nodes me.0).known reply) c answer seen stored)
   unfolding on_reply mine
-  books_closing me now from call reply c books is_call job reading answer seen stored =
+  books_closing me now from call reply c books is_call own is answer seen stored =
       by (counts_at setting.layout.block c from.0 call reply)
     where
       known : ℕ
@@ -771,64 +869,90 @@ module _ (setting : Setting) (w : World) where
           let had : NextFits fresh (with_reply c seat from reply) (Ends answer seen stored) =
           subst (NextFits fresh (with_reply c seat from reply)) ends
           (once_full_fits setting.layout.block setting.code fresh (with_reply c seat from reply)) in
-          let is = reading_is (w.nodes me.0).job c.call.seq job reading in
-          books_closes setting w me now known c (with_reply c seat from reply).counted books is_call (known_grows (w.nodes me.0).known reply)
+          own_closes setting w me now known c (with_reply c seat from reply).counted books is_call (known_grows (w.nodes me.0).known reply) own is
           answer seen stored had.0
-          (call_unmarked setting w me.0 c.call.seq c (books.calls me.0 c.call.seq c is_call) job (books.jobs me.0 job is.0) is.1)
 
-  books_replied_at : (me : BrickId) (now : ℕ) (from : BrickId) (call : Call) (reply : Reply)
+  books_replied_noted : (me : BrickId) (now : ℕ) (from : BrickId) (call : Call) (reply : Reply)
       (found : Option Coordinator) → Books setting w → (w.nodes me.0).calls call.seq ≡ found
-      → Books setting (world_stepped setting w me (replied_at setting me now from (w.nodes me.0) call reply found))
+      → Books setting (world_stepped setting w me (replied_noted setting me now from (w.nodes me.0) call reply found))
   unfolding on_reply
-  books_replied_at me now from call reply None books is =
+  books_replied_noted me now from call reply None books is =
       let known : ℕ = known_after (w.nodes me.0).known reply in
       ballot_each (λ (step : NodeStep). Books setting (world_stepped setting w me step)) setting.layout me from (with_known (w.nodes me.0) known) call reply
       (w.nodes me.0).proposal (λ seq round proposal packets reports more are.
       books_silent setting w w.replies me (record (w.nodes me.0) { known = known; seq = seq; round = round; proposal = proposal }) packets reports books
-      (record { boot = refl; seq = more; known = known_grows (w.nodes me.0).known reply }, λ l. refl, refl))
-  books_replied_at me now from call reply (Some c) books is =
+      (record { boot = refl; seq = more; known = known_grows (w.nodes me.0).known reply }, λ l. refl, refl, refl))
+  books_replied_noted me now from call reply (Some c) books is =
       let seq : c.call.seq ≡ call.seq = (books.calls me.0 call.seq c is).call_seq in
       books_counted_at me now from reply c (counts_at setting.layout.block c from.0 call reply) books
       (subst (λ (l : ℕ). IsCall w me.0 l c) (sym seq) is)
+
+  -- a brick begins a scrub
+  books_scrubbed : (me : BrickId) (now : ℕ) (group : GroupId) (stripe : StripeNo) (members : List BrickId) → Books setting w
+      → may_scrub setting w me group stripe members ≡ true
+      → Books setting (world_stepped setting w me (scrubbed_at setting me now (w.nodes me.0) group stripe members))
+  books_scrubbed me now group stripe members books may =
+      let fits = scrub_fits setting w me group stripe members may in
+      scrubbed_at_each (λ (step : NodeStep). Books setting (world_stepped setting w me step)) setting me now (w.nodes me.0) group stripe members
+      (books_no_step setting w w.replies me books)
+      (λ kept is.
+      let found = kept_is setting.layout ((w.nodes me.0).learnt group.0).view.members group.0 kept is in
+      let same : fits.kept ≡ kept = same_Some fits.kept kept (sym fits.kept_is ∙ is) in
+      books_scrub setting w me now books fits.up group stripe members kept found.0
+      (λ k has. absurd (let never : None ≡ Some k = ap (option_map (λ (z : Scrub). z.seq)) (sym fits.free) ∙ has in cc)) found.1 found.2
+      (inr (let stripes : fits.kept.stripes ≡ found.0.stripes = ap (λ (g : Group). g.stripes) same ∙ found.2 in omega (arith, fits.stripe_fits, stripes)))
+      (subst (λ (g : Group). AreEnough g (Some members)) same (named_enough fits.kept members fits.named)))
 
   -- a brick begins to synchronise
   books_synced : (me : BrickId) (now : ℕ) (group : GroupId) → Books setting w → may_sync setting w me group ≡ true
       → Books setting (world_stepped setting w me (synced_at setting me now (w.nodes me.0) group))
   books_synced me now group books may =
       let none : (w.nodes me.0).job ≡ None = sync_free setting w me group may in
-      let over : HasNoRead (w.nodes me.0) = λ job is. absurd (let never : None ≡ Some job = sym none ∙ is in cc) in
+      let over : HasNoRead (w.nodes me.0) ForJob =
+      λ k has. absurd (let never : None ≡ Some k = ap (option_map (λ (z : Job). z.seq)) (sym none) ∙ has in cc) in
       synced_at_each (λ (step : NodeStep). Books setting (world_stepped setting w me step)) setting me now (w.nodes me.0) group
       (books_no_step setting w w.replies me books)
       (λ answer. books_silent setting w w.replies me (w.nodes me.0) [] (Report.Sync group answer ∷ []) books (keeps_itself (w.nodes me.0)))
-      (λ answer. books_dropped setting w me [] (Report.Sync group answer) books over)
+      (λ answer. books_jobless setting w me [] (Report.Sync group answer) books over)
       (λ kept is.
       let job : Job = begun_job group ((w.nodes me.0).learnt group.0).view in
       let found = kept_is setting.layout job.view.members group.0 kept is in
-      books_read setting w me now job kept found.0 books (sync_up setting w me group may) over found.1 found.2 (inl refl))
+      books_read setting w me now books (sync_up setting w me group may) job kept found.0 over found.1 found.2 (inl refl))
 
 -- a brick that is taught a view keeps its numbers and calls
 pub taught_keeps : (block g : ℕ) (node : Node) (view : Option View) → KeepsCalls node (node_taught_by block g node view)
 taught_keeps block g node view =
     told_each (λ (n : Node). KeepsCalls node n) block g node view (keeps_itself node)
-    (λ v later. (record { boot = refl; seq = omega arith; known = omega arith }, λ l. refl, refl))
+    (λ v later. (record { boot = refl; seq = omega arith; known = omega arith }, λ l. refl, refl, refl))
 
 pub synced_keeps : (layout : Layout) (node : Node) (group : GroupId) (number : ViewNo) → KeepsCalls node (node_synced layout node group number)
 synced_keeps layout node group number =
     synced_each (λ (n : Node). KeepsCalls node n) layout node group number (keeps_itself node)
-    (λ now unsynced. (record { boot = refl; seq = omega arith; known = omega arith }, λ l. refl, refl))
+    (λ now unsynced. (record { boot = refl; seq = omega arith; known = omega arith }, λ l. refl, refl, refl))
 
 pub learnt_keeps : (layout : Layout) (node : Node) (group : GroupId) (view : View) → KeepsCalls node (node_learnt layout node group view)
 learnt_keeps layout node group view =
     learnt_each (λ (n : Node). KeepsCalls node n) layout node group view (keeps_itself node)
-    (λ later. (record { boot = refl; seq = omega arith; known = omega arith }, λ l. refl, refl))
+    (λ later. (record { boot = refl; seq = omega arith; known = omega arith }, λ l. refl, refl, refl))
 
 -- so does one that hears what a reply teaches
 pub hearing_keeps : (setting : Setting) (w : World) (me from : BrickId) (call : Call) (reply : Reply)
     → KeepsCalls (w.nodes me.0) (taught_by setting w me from call reply)
 hearing_keeps setting w me from call reply =
     told_each (λ (n : Node). KeepsCalls (w.nodes me.0) n) setting.layout.block call.group.0 (with_round (w.nodes me.0) reply)
-    (view_counted setting.layout from (w.nodes me.0) call reply) (record { boot = refl; seq = omega arith; known = omega arith }, λ l. refl, refl)
-    (λ v later. (record { boot = refl; seq = omega arith; known = omega arith }, λ l. refl, refl))
+    (view_counted setting.layout from (w.nodes me.0) call reply) (record { boot = refl; seq = omega arith; known = omega arith }, λ l. refl, refl, refl)
+    (λ v later. (record { boot = refl; seq = omega arith; known = omega arith }, λ l. refl, refl, refl))
+
+-- a reply to an open operation, or to a proposal
+books_replied_at : (setting : Setting) (w : World) (me : BrickId) (now : ℕ) (from : BrickId) (call : Call) (reply : Reply) (found : Option Coordinator)
+    → Books setting w → (w.nodes me.0).calls call.seq ≡ found
+    → Books setting (world_stepped setting w me (replied_at setting me now from (w.nodes me.0) call reply found))
+books_replied_at setting w me now from call reply found books is =
+    noting_each (Books setting) setting w me now from call reply found
+    (let node : Node = noted_by setting me now from (w.nodes me.0) call reply found in
+    let keeps = noted_keeps setting me now from (w.nodes me.0) call reply found in
+    books_replied_noted setting (kept_world w me node) me now from call reply found (books_kept setting w me node books keeps)
+    (ap (λ (n : Node). n.calls call.seq) (put_same w.nodes me.0 node) ∙ keeps.1 call.seq ∙ is))
 
 module _ (setting : Setting) (w : World) where
   books_heard : (me : BrickId) (now : ℕ) (from : BrickId) (call : Call) (reply : Reply)
@@ -836,8 +960,9 @@ module _ (setting : Setting) (w : World) where
   books_heard me now from call reply books =
       hearing_each (Books setting) setting w me now from call reply
       (books_silent setting w w.replies me (with_known (with_round (w.nodes me.0) reply) (known_after (w.nodes me.0).known reply)) [] [] books
-      (record { boot = refl; seq = omega arith; known = known_grows (w.nodes me.0).known reply }, λ l. refl, refl))
-      (let node : Node = taught_by setting w me from call reply in
+      (record { boot = refl; seq = omega arith; known = known_grows (w.nodes me.0).known reply }, λ l. refl, refl, refl))
+      (λ fit.
+      let node : Node = taught_by setting w me from call reply in
       let keeps = hearing_keeps setting w me from call reply in
       let x : World = kept_world w me node in
       books_replied_at setting x me now from call reply ((w.nodes me.0).calls call.seq) (books_kept setting w me node books keeps)
@@ -860,7 +985,8 @@ module _ (setting : Setting) (w : World) where
   pub books_beside : (replies : Replies) (reached : ℕ → Bool) (choices : Choices) → Books setting w
       → Books setting (record w { replies = replies; reached = reached; choices = choices })
   books_beside replies reached choices books =
-      books_quiet setting w w.nodes w.held w.clocks w.packets replies reached choices books (λ i. keeps_all (w.nodes i)) (λ i k. refl) (λ i. inl refl)
+      books_quiet setting w w.nodes w.held w.clocks w.packets replies reached choices books (λ i. keeps_all (w.nodes i)) (λ i k. refl)
+      (λ i. reads_stay (w.nodes i))
 
 -- a message is handled
 books_handled : (setting : Setting) (w : World) (number : ℕ) (packet : Packet) → Books setting w → Books setting (world_handled setting w number packet)
@@ -935,8 +1061,8 @@ pub requested_keeps : (setting : Setting) (me from : BrickId) (node : Node) (cal
     → KeepsCalls node (requested setting me from node call request).node
 requested_keeps setting me from node call request =
     request_each (λ (step : NodeStep). KeepsCalls node step.node) setting me from node call request (keeps_itself node) (λ moved is. keeps_itself node)
-    (λ group seat here served. (record { boot = refl; seq = omega arith; known = omega arith }, λ l. refl, refl))
-    (λ group ballot asked here. (record { boot = refl; seq = omega arith; known = omega arith }, λ l. refl, refl))
+    (λ group seat here served. (record { boot = refl; seq = omega arith; known = omega arith }, λ l. refl, refl, refl))
+    (λ group ballot asked here. (record { boot = refl; seq = omega arith; known = omega arith }, λ l. refl, refl, refl))
 
 -- so does what it keeps of a message
 pub kept_keeps : (setting : Setting) (me : BrickId) (node : Node) (from to : BrickId) (message : Message)
@@ -975,7 +1101,7 @@ module _ (setting : Setting) (w : World) where
   books_found brick After down leaves books =
       let keeps : (i : ℕ) → KeepsCalls (w.nodes i) ((world_found w brick After).nodes i) = found_keeps brick After down leaves in
       books_quiet setting w (put w.nodes brick.0 (w.after brick.0)) (with_held w.held brick.0 (w.after brick.0)) w.clocks w.packets w.replies w.reached _ books
-      (λ i. (keeps i).0) (λ i. (keeps i).1) (λ i. inl (keeps i).2)
+      (λ i. (keeps i).0) (λ i. (keeps i).1) (λ i. calls_reads (w.nodes i) ((world_found w brick After).nodes i) (keeps i))
 
   -- a brick may start that is down, and its store is opened at least once
   pub start_fits : (brick : BrickId) (openings : ℕ) → may_start setting.layout w brick openings ≡ true
@@ -993,18 +1119,25 @@ module _ (setting : Setting) (w : World) where
     begins = λ brick ask may. books_invoked setting w brick (w.clocks brick.0) ask books may;
     proposes = λ brick group members may. books_proposed setting w brick group members books;
     syncs = λ brick group may. books_synced setting w brick (w.clocks brick.0) group books may;
+    scrubs = λ brick group stripe members may. books_scrubbed setting w brick (w.clocks brick.0) group stripe members books may;
     handles = λ number packet at up. books_handled setting w number packet books;
     sets = λ brick time is.
-        books_quiet setting w w.nodes w.held (put w.clocks brick.0 time) w.packets w.replies w.reached _ books (λ i. keeps_all (w.nodes i)) (λ i k. refl) (λ i. inl refl);
+        books_quiet setting w w.nodes w.held (put w.clocks brick.0 time) w.packets w.replies w.reached _ books (λ i. keeps_all (w.nodes i)) (λ i k. refl)
+        (λ i. reads_stay (w.nodes i));
     ticks = λ brick up.
         books_quiet setting w w.nodes w.held w.clocks (w.packets ++ ticked setting brick (w.nodes brick.0)) w.replies w.reached _ books
-        (λ i. keeps_all (w.nodes i)) (λ i k. refl) (λ i. inl refl);
+        (λ i. keeps_all (w.nodes i)) (λ i k. refl) (λ i. reads_stay (w.nodes i));
     stops = λ brick during up. books_stopped setting w brick during books;
     starts = λ brick openings found may.
         (let fits = start_fits brick openings may in
         books_started setting (world_found w brick found) brick openings (books_found brick found fits.0 leaves books)
         (found_down w brick found fits.0) fits.1);
   }
+
+-- a brick that is up at first was opened once
+first_boots : (old : Bool) → not old ≡ true → 1 ≤ cond old 0 1
+first_boots true up = absurd (let never : false ≡ true = up in cc)
+first_boots false up = omega arith
 
 -- at first nothing is booked
 books_first : (setting : Setting) → Books setting (first_world setting.layout)
@@ -1015,7 +1148,7 @@ books_first setting = record {
     ends_are_of_open = λ i p n answer is. absurd (let never : None ≡ Some _ = is in cc);
   };
   places = λ k mark is. absurd (let never : None ≡ Some mark = is in cc);
-  boots = λ i. omega arith;
+  boots = λ i up. first_boots (has_old_stores setting.layout) up;
   own = record {
     within = λ n o is. absurd (let never : None ≡ Some o = is in cc);
     in_turn = λ n m o p is. absurd (let never : None ≡ Some o = is in cc);
@@ -1026,6 +1159,8 @@ books_first setting = record {
   calls = λ i k c is. absurd (let never : None ≡ Some c = is in cc);
   fresh_calls = λ i k lt. refl;
   jobs = λ i job is. absurd (let never : None ≡ Some job = is in cc);
+  scrubs = λ i k is. absurd (let never : None ≡ Some k = is in cc);
+  apart = λ i k reads scrubs. let never : None ≡ Some k = scrubs in cc;
   lives = λ n life is. absurd (let never : None ≡ Some life = is in cc);
 }
 

@@ -1,5 +1,5 @@
 -- What a step leaves as it was stays in the books.
-use Rattle.std.proofs.Common.{◌≡◌, ◌≢◌, ℕ, ◌≤◌, ◌⊎◌, inl, inr, ⊎_elim, Bool, List, Option, Some, None, refl, sym, ap, ◌∙◌, subst, arith}
+use Rattle.std.proofs.Common.{◌≡◌, ◌≢◌, ℕ, ◌≤◌, ◌⊎◌, inl, inr, ⊎_elim, Bool, List, Option, Some, None, refl, sym, ap, ◌∙◌, subst, arith, true, is_some}
 use Rattle.std.specs.Prelude.{nat_eq, if◌then◌else◌}
 use Rattle.std.proofs.lemmas.Option.{same_Some}
 use Rattle.std.proofs.lemmas.Bool.{cases_eq, eq-eqb, eqb-true, cond_both}
@@ -8,11 +8,14 @@ use Rattle.reg_model.specs.Marks.{Life, life_of, IsOpen}
 use Rattle.protocol.specs.Settings.{Setting}
 use Rattle.protocol.specs.Coordinators.{Coordinator}
 use Rattle.protocol.specs.Jobs.{Job}
-use Rattle.protocol.specs.Nodes.{Node, with_known, with_call, job_reading}
+use Rattle.protocol.specs.Nodes.{Node, with_known, with_call, job_reading, scrub_of}
 use Rattle.protocol.specs.Worlds.{World, Operation, number_of}
-use Rattle.protocol_laws.proofs.Books.{Books, OperationBooks, LifeBooks, CallBooks, JobBooks, IsOperation, IsCall}
+use Rattle.protocol_laws.proofs.Books.{Books, OperationBooks, LifeBooks, CallBooks, JobBooks, IsOperation, IsCall, Own, ForJob, ForScrub, own_seq, OwnBooks, AreApart}
 use Rattle.protocol_laws.proofs.MarkNumbers.{cases_marked}
 use Rattle.reg_model.proofs.GrowingLives.{Stays, Stays-refl, LifeStays, EndingStays-answered, EndingStays-answered_before, EndingStays-open, EndingStays-open_before}
+use Rattle.protocol.specs.Scrubs.{Scrub}
+use Rattle.std.specs.Option.{option_map}
+use Rattle.fab_base.specs.declared.identities.BrickId.{BrickId}
 
 -- the life of an operation that has marks stays
 abbrev pub LivesOn : World → World → Operation → Type 0
@@ -99,37 +102,74 @@ operation_kept setting w later n o books begun number boot seq life call =
       unmarked = books.unmarked;
     }
 
--- a brick's synchronisation has no read open
-abbrev pub HasNoRead : Node → Type 0
-HasNoRead node = (job : Job) → node.job ≡ Some job → node.calls job.seq ≡ None
+-- such a read of a brick's own is not open
+abbrev pub HasNoRead : Node → Own → Type 0
+HasNoRead node own = (k : ℕ) → own_seq node own ≡ Some k → node.calls k ≡ None
 
--- the brick's synchronisation is the same; or it had no read open
+-- each read of the brick's own is the same; or it was not open
 abbrev pub KeepsRead : Node → Node → Type 0
-KeepsRead node later = (later.job ≡ node.job) ⊎ HasNoRead node
+KeepsRead node later = (own : Own) → (own_seq later own ≡ own_seq node own) ⊎ HasNoRead node own
+
+-- so where the brick has the same synchronisation, and the same scrub
+pub same_reads : (node later : Node) → later.job ≡ node.job → own_seq later ForScrub ≡ own_seq node ForScrub → KeepsRead node later
+same_reads node later job scrub ForJob = inl (ap (option_map (λ (z : Job). z.seq)) job)
+same_reads node later job scrub ForScrub = inl scrub
 
 -- the brick's synchronisation is the same, or has ended, with no read open
 abbrev pub KeepsJob : Node → Node → Type 0
-KeepsJob node later = (later.job ≡ node.job) ⊎ ((later.job ≡ None) × HasNoRead node)
+KeepsJob node later = (later.job ≡ node.job) ⊎ ((later.job ≡ None) × HasNoRead node ForJob)
 
-pub keeps_read : (node later : Node) → KeepsJob node later → KeepsRead node later
-keeps_read node later = ⊎_elim (λ (same : later.job ≡ node.job). inl same) (λ (ended : (later.job ≡ None) × HasNoRead node). inr ended.1)
+-- its scrub is the same, or has ended, and is not open
+abbrev pub KeepsScrub : Node → Node → Type 0
+KeepsScrub node later = (own_seq later ForScrub ≡ own_seq node ForScrub) ⊎ ((later.scrub ≡ None) × HasNoRead node ForScrub)
+
+-- both
+abbrev pub KeepsReads : Node → Node → Type 0
+KeepsReads node later = KeepsJob node later × KeepsScrub node later
+
+-- a brick keeps its own
+pub reads_stay : (node : Node) → KeepsReads node node
+reads_stay node = (inl refl, inl refl)
+
+pub keeps_read : (node later : Node) → KeepsReads node later → KeepsRead node later
+keeps_read node later keeps ForJob =
+    ⊎_elim (λ (same : later.job ≡ node.job). inl (ap (option_map (λ (z : Job). z.seq)) same))
+    (λ (ended : (later.job ≡ None) × HasNoRead node ForJob). inr ended.1) keeps.0
+keeps_read node later keeps ForScrub =
+    ⊎_elim (λ (same : own_seq later ForScrub ≡ own_seq node ForScrub). inl same)
+    (λ (ended : (later.scrub ≡ None) × HasNoRead node ForScrub). inr ended.1) keeps.1
 
 pub job_was : (node later : Node) (job : Job) → KeepsJob node later → later.job ≡ Some job → node.job ≡ Some job
 job_was node later job keeps is =
     ⊎_elim (λ (same : later.job ≡ node.job). sym same ∙ is)
-    (λ (ended : (later.job ≡ None) × HasNoRead node). absurd (let never : None ≡ Some job = sym ended.0 ∙ is in cc)) keeps
+    (λ (ended : (later.job ≡ None) × HasNoRead node ForJob). absurd (let never : None ≡ Some job = sym ended.0 ∙ is in cc)) keeps
 
--- an open read of a synchronisation is still that of its brick's
-read_kept : (setting : Setting) (w : World) (i k : ℕ) (c : Coordinator) (later : Node) → IsCall w i k c → (books : CallBooks setting w i k c)
-    → KeepsRead (w.nodes i) later → books.operation.mark ≡ 0 → (job : Job) × (later.job ≡ Some job) × (job.seq ≡ k)
-read_kept setting w i k c later is books keeps none =
-    let old = books.reads none in
+pub scrub_was : (node later : Node) (k : ℕ) → KeepsScrub node later → own_seq later ForScrub ≡ Some k → own_seq node ForScrub ≡ Some k
+scrub_was node later k keeps is =
+    ⊎_elim (λ (same : own_seq later ForScrub ≡ own_seq node ForScrub). sym same ∙ is)
+    (λ (ended : (later.scrub ≡ None) × HasNoRead node ForScrub).
+    absurd (let never : None ≡ Some k = sym (ap (option_map (λ (z : Scrub). z.seq)) ended.0) ∙ is in cc)) keeps
+
+-- its own reads have two calls as before
+pub apart_kept : (node later : Node) → later.job ≡ node.job → own_seq later ForScrub ≡ own_seq node ForScrub → AreApart node → AreApart later
+apart_kept node later job scrub apart k reads scrubs = apart k (sym (ap (option_map (λ (z : Job). z.seq)) job) ∙ reads) (sym scrub ∙ scrubs)
+
+pub apart_reads : (node later : Node) → KeepsReads node later → AreApart node → AreApart later
+apart_reads node later keeps apart k reads scrubs =
     ⊎_elim
-    (λ (same : later.job ≡ (w.nodes i).job). (old.0, same ∙ old.1, old.2))
-    (λ (ended : HasNoRead (w.nodes i)).
-    let never : None ≡ Some c = sym (ended old.0 old.1) ∙ ap (λ (l : ℕ). (w.nodes i).calls l) old.2 ∙ is in
-    absurd (let e : ⊥ = cc in e))
-    keeps
+    (λ (same : later.job ≡ node.job). apart k (sym (ap (option_map (λ (z : Job). z.seq)) same) ∙ reads) (scrub_was node later k keeps.1 scrubs))
+    (λ (ended : (later.job ≡ None) × HasNoRead node ForJob).
+    let never : None ≡ Some k = sym (ap (option_map (λ (z : Job). z.seq)) ended.0) ∙ reads in cc)
+    keeps.0
+
+-- an open read of a brick's own is still that
+pub read_kept : (w : World) (i k : ℕ) (c : Coordinator) (later : Node) → IsCall w i k c → KeepsRead (w.nodes i) later → (own : Own)
+    → own_seq (w.nodes i) own ≡ Some k → own_seq later own ≡ Some k
+read_kept w i k c later is keeps own old =
+    ⊎_elim
+    (λ (same : own_seq later own ≡ own_seq (w.nodes i) own). same ∙ old)
+    (λ (ended : HasNoRead (w.nodes i) own). absurd (let never : None ≡ Some c = sym (ended k old) ∙ is in let e : ⊥ = cc in e))
+    (keeps own)
 
 -- the books of a call that a step leaves alone
 pub call_kept : (setting : Setting) (w later : World) (i k : ℕ) (c : Coordinator) → IsCall w i k c → (books : CallBooks setting w i k c)
@@ -170,7 +210,9 @@ call_kept setting w later i k c is books up boot number operation known stays be
           (EndingStays-open old.life.ending goes.0.ending goes.2.ending (books.unended from old.life old.life_is)));
       unclosed = books.unclosed;
       unanswered = books.unanswered;
-      reads = read_kept setting w i k c (later.nodes i) is books keeps;
+      reads = λ none. (let old = books.reads none in (old.0, read_kept w i k c (later.nodes i) is keeps old.0 old.1));
+      enough = books.enough;
+      alone = λ some. read_kept w i k c (later.nodes i) is keeps ForScrub (books.alone some);
     }
 
 -- an operation that keeps what it asks, its call, its view and its marks
@@ -185,47 +227,71 @@ pub record KeepsAsk (o later : Operation) : Type 0 where
 pub keeps_ask : (o : Operation) → KeepsAsk o o
 keeps_ask o = record { brick = refl; boot = refl; seq = refl; ask = refl; mark = refl; view = refl }
 
--- the books of a synchronisation that a step leaves alone, but for what its read has made or seen, or how it ended
+-- the books of a read of a brick's own that a step leaves alone, but for what it has made or seen, or how it ended
+pub own_kept : (w later : World) (i k : ℕ) (books : OwnBooks w i k) → (later.nodes i).boot ≡ (w.nodes i).boot → number_of later i k ≡ number_of w i k
+    → ((o : Operation) → IsOperation w (number_of w i k) o → (p : Operation) × IsOperation later (number_of w i k) p × KeepsAsk o p)
+    → (own : OwnBooks later i k) × KeepsAsk books.operation own.operation
+own_kept w later i k books boot number goes =
+    let now = goes books.operation books.operation_is in (
+      record {
+        operation = now.0;
+        operation_is = subst (λ (n : ℕ). IsOperation later n now.0) (sym number) now.1;
+        mark = now.2.mark ∙ books.mark;
+        brick = ap (λ b. b.0) now.2.brick ∙ books.brick;
+        boot = now.2.boot ∙ books.boot ∙ sym boot;
+        seq = now.2.seq ∙ books.seq;
+      },
+      now.2,
+    )
+
+-- so those of a synchronisation
 pub job_kept : (w later : World) (i : ℕ) (job : Job) → JobBooks w i job → (later.nodes i).boot ≡ (w.nodes i).boot
     → number_of later i job.seq ≡ number_of w i job.seq
     → ((o : Operation) → IsOperation w (number_of w i job.seq) o → (p : Operation) × IsOperation later (number_of w i job.seq) p × KeepsAsk o p)
     → JobBooks later i job
 job_kept w later i job books boot number goes =
-    let now = goes books.operation books.operation_is in
-    record {
-      operation = now.0;
-      operation_is = subst (λ (n : ℕ). IsOperation later n now.0) (sym number) now.1;
-      mark = now.2.mark ∙ books.mark;
-      brick = ap (λ b. b.0) now.2.brick ∙ books.brick;
-      boot = now.2.boot ∙ books.boot ∙ sym boot;
-      seq = now.2.seq ∙ books.seq;
-      ask = now.2.ask ∙ books.ask;
-      view = now.2.view ∙ books.view;
-    }
+    let now = own_kept w later i job.seq books.own boot number goes in
+    record { own = now.0; ask = now.1.ask ∙ books.ask; view = now.1.view ∙ books.view }
 
--- the number of a synchronisation's read is no later than its brick's last call
-pub job_called : (setting : Setting) (w : World) (i : ℕ) (job : Job) → Books setting w → JobBooks w i job → job.seq ≤ (w.nodes i).seq
-job_called setting w i job books mine =
-    let own : OperationBooks setting w (number_of w i job.seq) mine.operation =
-    books.operations (number_of w i job.seq) mine.operation mine.operation_is in
+-- the number of a read of a brick's own is no later than the brick's last call
+pub own_called : (setting : Setting) (w : World) (i k : ℕ) → Books setting w → OwnBooks w i k → k ≤ (w.nodes i).seq
+own_called setting w i k books mine =
+    let own : OperationBooks setting w (number_of w i k) mine.operation =
+    books.operations (number_of w i k) mine.operation mine.operation_is in
     let least : mine.operation.seq ≤ (w.nodes mine.operation.brick.0).seq =
     own.called.1 (mine.boot ∙ ap (λ (j : ℕ). (w.nodes j).boot) (sym mine.brick)) in
     let there : (w.nodes mine.operation.brick.0).seq ≡ (w.nodes i).seq = ap (λ (j : ℕ). (w.nodes j).seq) mine.brick in
-    let seq : mine.operation.seq ≡ job.seq = mine.seq in
+    let seq : mine.operation.seq ≡ k = mine.seq in
     omega arith
 
--- the operation of a call has marks where it is no read of its brick's synchronisation, and none where it is
+-- the read of a synchronisation whose call has this number, or the scrub, is found by that
+found_reading : (job : Option Job) (k : ℕ) → option_map (λ (z : Job). z.seq) job ≡ Some k → job_reading job k ≡ None → ⊥
+found_reading None k is none = cc
+found_reading (Some job) k is none =
+    let seq : job.seq ≡ k = same_Some job.seq k is in
+    let reading : job_reading (Some job) k ≡ Some job = ap (λ (b : Bool). if b then Some job else None) (eq-eqb job.seq k seq) in
+    let never : None ≡ Some job = sym none ∙ reading in
+    cc
+
+found_scrub : (scrub : Option Scrub) (k : ℕ) → option_map (λ (z : Scrub). z.seq) scrub ≡ Some k → scrub_of scrub k ≡ None → ⊥
+found_scrub None k is none = cc
+found_scrub (Some scrub) k is none =
+    let seq : scrub.seq ≡ k = same_Some scrub.seq k is in
+    let found : scrub_of (Some scrub) k ≡ Some scrub = ap (λ (b : Bool). if b then Some scrub else None) (eq-eqb scrub.seq k seq) in
+    let never : None ≡ Some scrub = sym none ∙ found in
+    cc
+
+-- the operation of a call has marks where it is no read of its brick's own, and none where it is
 pub call_marked : (setting : Setting) (w : World) (i k : ℕ) (c : Coordinator) (books : CallBooks setting w i k c)
-    → job_reading (w.nodes i).job k ≡ None → 1 ≤ books.operation.mark
-call_marked setting w i k c books isnt =
+    → job_reading (w.nodes i).job k ≡ None → scrub_of (w.nodes i).scrub k ≡ None → 1 ≤ books.operation.mark
+call_marked setting w i k c books no_read no_scrub =
     ⊎_elim (λ (from : 1 ≤ books.operation.mark). from)
-    (λ (none : books.operation.mark ≡ 0).
-    let job = books.reads none in
-    let reading : job_reading (w.nodes i).job k ≡ Some job.0 =
-    ap (λ (j : Option Job). job_reading j k) job.1 ∙ ap (λ (b : Bool). if b then Some job.0 else None) (eq-eqb job.0.seq k job.2) in
-    let never : None ≡ Some job.0 = sym isnt ∙ reading in
-    absurd (let e : ⊥ = cc in e))
+    (λ (none : books.operation.mark ≡ 0). let own = books.reads none in absurd (by own.0 own.1))
     (cases_marked books.operation)
+  where
+    by : (own : Own) → own_seq (w.nodes i) own ≡ Some k → ⊥
+    by ForJob is = found_reading (w.nodes i).job k is no_read
+    by ForScrub is = found_scrub (w.nodes i).scrub k is no_scrub
 
 pub reading_is : (found : Option Job) (k : ℕ) (job : Job) → job_reading found k ≡ Some job → (found ≡ Some job) × (job.seq ≡ k)
 reading_is None k job is = absurd (let never : None ≡ Some job = is in cc)
@@ -235,13 +301,48 @@ reading_is (Some job) k other is =
     (λ differ e. absurd (let never : None ≡ Some other = e in cc))
     is
 
-pub call_unmarked : (setting : Setting) (w : World) (i k : ℕ) (c : Coordinator) (books : CallBooks setting w i k c) (job : Job)
-    → JobBooks w i job → job.seq ≡ k → books.operation.mark ≡ 0
-call_unmarked setting w i k c books job mine seq =
-    let there : w.operations (number_of w i k) ≡ Some mine.operation =
-    subst (λ (l : ℕ). IsOperation w (number_of w i l) mine.operation) seq mine.operation_is in
-    let one : mine.operation ≡ books.operation = same_Some mine.operation books.operation (sym there ∙ books.operation_is) in
-    ap (λ (o : Operation). o.mark) (sym one) ∙ mine.mark
+pub scrub_is : (found : Option Scrub) (k : ℕ) (scrub : Scrub) → scrub_of found k ≡ Some scrub → (found ≡ Some scrub) × (scrub.seq ≡ k)
+scrub_is None k scrub is = absurd (let never : None ≡ Some scrub = is in cc)
+scrub_is (Some scrub) k other is =
+    cond_both (nat_eq scrub.seq k) (Some scrub) None (λ (z : Option Scrub). z ≡ Some other → (Some scrub ≡ Some other) × (other.seq ≡ k))
+    (λ same e. (e, (let one : scrub ≡ other = same_Some scrub other e in ap (λ (s : Scrub). s.seq) (sym one) ∙ eqb-true scrub.seq k same)))
+    (λ differ e. absurd (let never : None ≡ Some other = e in cc))
+    is
+
+-- the number of a synchronisation's read, and of a scrub
+pub job_seq : (found : Option Job) (job : Job) (k : ℕ) → found ≡ Some job → job.seq ≡ k → option_map (λ (z : Job). z.seq) found ≡ Some k
+job_seq found job k is seq = ap (option_map (λ (z : Job). z.seq)) is ∙ ap (λ (l : ℕ). Some l) seq
+
+pub scrub_seq : (found : Option Scrub) (scrub : Scrub) (k : ℕ) → found ≡ Some scrub → scrub.seq ≡ k → option_map (λ (z : Scrub). z.seq) found ≡ Some k
+scrub_seq found scrub k is seq = ap (option_map (λ (z : Scrub). z.seq)) is ∙ ap (λ (l : ℕ). Some l) seq
+
+-- so the books of a read of the brick's own
+pub own_books : (setting : Setting) (w : World) → Books setting w → (i k : ℕ) (own : Own) → own_seq (w.nodes i) own ≡ Some k → OwnBooks w i k
+own_books setting w books i k ForJob is = by (w.nodes i).job refl is
+  where
+    by : (found : Option Job) → (w.nodes i).job ≡ found → option_map (λ (z : Job). z.seq) found ≡ Some k → OwnBooks w i k
+    by None at seq = absurd (let never : None ≡ Some k = seq in cc)
+    by (Some job) at seq = subst (λ (l : ℕ). OwnBooks w i l) (same_Some job.seq k seq) (books.jobs i job at).own
+own_books setting w books i k ForScrub is = books.scrubs i k is
+
+-- its operation is that of its call
+pub own_operation : (setting : Setting) (w : World) (i k : ℕ) (c : Coordinator) (books : CallBooks setting w i k c) (mine : OwnBooks w i k)
+    → mine.operation ≡ books.operation
+own_operation setting w i k c books mine = same_Some mine.operation books.operation (sym mine.operation_is ∙ books.operation_is)
+
+pub call_unmarked : (setting : Setting) (w : World) (i k : ℕ) (c : Coordinator) (books : CallBooks setting w i k c) → OwnBooks w i k → books.operation.mark ≡ 0
+call_unmarked setting w i k c books mine =
+    ap (λ (o : Operation). o.mark) (sym (own_operation setting w i k c books mine)) ∙ mine.mark
+
+-- an operation that has marks counts every member
+pub counts_all : (setting : Setting) (w : World) → Books setting w → (i k : ℕ) (c : Coordinator) (mine : CallBooks setting w i k c) → 1 ≤ mine.operation.mark
+    → c.only ≡ None
+counts_all setting w books i k c mine from = by c.only mine.alone
+  where
+    by : (only : Option (List BrickId)) → (is_some only ≡ true → own_seq (w.nodes i) ForScrub ≡ Some k) → only ≡ None
+    by None alone = refl
+    by (Some only) alone =
+        (let none : mine.operation.mark ≡ 0 = call_unmarked setting w i k c mine (books.scrubs i k (alone refl)) in absurd (omega (arith, from, none)))
 
 -- the number of an operation of its brick's present boot is that of its call
 pub number_at : (setting : Setting) (w : World) (n : ℕ) (o : Operation) → OperationBooks setting w n o → o.boot ≡ (w.nodes o.brick.0).boot
@@ -286,9 +387,14 @@ pub keeps_with_call : (node : Node) (known busy seq : ℕ) (call : Option Coordi
     → KeepsNumbers node (with_call node known busy seq call)
 keeps_with_call node known busy seq call grows = record { boot = refl; seq = omega arith; known = grows }
 
--- its numbers, its calls and its synchronisation
+-- its numbers, its calls, its synchronisation and its scrub
 abbrev pub KeepsCalls : Node → Node → Type 0
-KeepsCalls node later = KeepsNumbers node later × ((l : ℕ) → later.calls l ≡ node.calls l) × (later.job ≡ node.job)
+KeepsCalls node later =
+    KeepsNumbers node later × ((l : ℕ) → later.calls l ≡ node.calls l) × (later.job ≡ node.job) × (own_seq later ForScrub ≡ own_seq node ForScrub)
+
+-- so it keeps its own reads
+pub calls_reads : (node later : Node) → KeepsCalls node later → KeepsReads node later
+calls_reads node later keeps = (inl keeps.2, inl keeps.3)
 
 pub keeps_itself : (node : Node) → KeepsCalls node node
-keeps_itself node = (keeps_all node, λ l. refl, refl)
+keeps_itself node = (keeps_all node, λ l. refl, refl, refl)

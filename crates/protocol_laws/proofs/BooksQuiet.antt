@@ -1,7 +1,7 @@
 -- The books of a world where a brick changed its part of a stripe, or learnt of a time, where a clock was set or ticks, or where a stopped brick was
 -- started again.
 use Rattle.fab_base.specs.declared.stamps.Stamp.{Stamp}
-use Rattle.std.proofs.Common.{◌≡◌, ◌≢◌, ℕ, ◌+◌, ◌≤◌, ⊎_elim, inl, Bool, true, false, None, Some, refl, sym, ap, ◌∙◌, subst, arith, List}
+use Rattle.std.proofs.Common.{◌≡◌, ◌≢◌, ℕ, ◌+◌, ◌≤◌, ⊎_elim, Bool, true, false, None, Some, refl, sym, ap, ◌∙◌, subst, arith, List}
 use Rattle.std.specs.Prelude.{nat_eq, if◌then◌else◌}
 use Rattle.std.proofs.lemmas.Bool.{cases_eq, both_ways, ne_eqb}
 use Rattle.std.proofs.lemmas.Option.{same_Some}
@@ -14,8 +14,8 @@ use Rattle.protocol.specs.Coordinators.{Coordinator}
 use Rattle.protocol.specs.Jobs.{Job}
 use Rattle.protocol.specs.Nodes.{Node, put, no_calls, restarted}
 use Rattle.protocol.specs.Worlds.{World, Operation, number_of, known_in, world_started, Choices}
-use Rattle.protocol_laws.proofs.Books.{Books, OperationBooks, LifeBooks, CallBooks, JobBooks, IsCall}
-use Rattle.protocol_laws.proofs.BooksKept.{KeepsNumbers, KeepsJob, keeps_read, job_was, lives_same, operation_stays, operation_kept, call_kept, keeps_ask, job_kept}
+use Rattle.protocol_laws.proofs.Books.{Books, OperationBooks, LifeBooks, CallBooks, JobBooks, IsCall, ForScrub, own_seq, OwnBooks}
+use Rattle.protocol_laws.proofs.BooksKept.{KeepsNumbers, keeps_read, job_was, lives_same, operation_stays, operation_kept, call_kept, keeps_ask, job_kept, KeepsReads, same_reads, own_kept, scrub_was, apart_kept, apart_reads}
 use Rattle.protocol.proofs.Puts.{put_other}
 use Rattle.protocol.proofs.Tables.{put_same}
 
@@ -41,11 +41,11 @@ quiet_world w nodes held clocks packets replies reached choices =
       reached = reached;
     }
 
--- bricks that keep their calls and numbers keep the books; a synchronisation ends only where its read has
+-- bricks that keep their calls and numbers keep the books; a synchronisation ends only where its read has, and a scrub where it is not open
 pub books_quiet : (setting : Setting) (w : World) (nodes : ℕ → Node) (held : ℕ → ℕ → ℕ → Stamp → Bool) (clocks : ℕ → ℕ) (packets : List Packet) (replies : ℕ → ℕ → List Counted)
     (reached : ℕ → Bool) (choices : Choices) → Books setting w
     → ((i : ℕ) → KeepsNumbers (w.nodes i) (nodes i)) → ((i k : ℕ) → (nodes i).calls k ≡ (w.nodes i).calls k)
-    → ((i : ℕ) → KeepsJob (w.nodes i) (nodes i))
+    → ((i : ℕ) → KeepsReads (w.nodes i) (nodes i))
     → Books setting (quiet_world w nodes held clocks packets replies reached choices)
 books_quiet setting w nodes held clocks packets replies reached choices books keeps calls jobs =
     let later : World = quiet_world w nodes held clocks packets replies reached choices in
@@ -53,7 +53,7 @@ books_quiet setting w nodes held clocks packets replies reached choices books ke
       well_formed = books.well_formed;
       places = books.places;
       own = books.own;
-      boots = λ i. (let e : (nodes i).boot ≡ (w.nodes i).boot = (keeps i).boot in omega (arith, books.boots i));
+      boots = λ i up. (let e : (nodes i).boot ≡ (w.nodes i).boot = (keeps i).boot in omega (arith, books.boots i up));
       all_begun = books.all_begun;
       operations = λ n o is. (let mine : OperationBooks setting w n o = books.operations n o is in
           let seqs : (w.nodes o.brick.0).seq ≤ (nodes o.brick.0).seq = (keeps o.brick.0).seq in
@@ -67,9 +67,13 @@ books_quiet setting w nodes held clocks packets replies reached choices books ke
       fresh_calls = λ i k lt. (let seqs : (w.nodes i).seq ≤ (nodes i).seq = (keeps i).seq in
           calls i k ∙ books.fresh_calls i k (omega arith));
       jobs = λ i job is.
-          (let was : (w.nodes i).job ≡ Some job = job_was (w.nodes i) (nodes i) job (jobs i) is in
+          (let was : (w.nodes i).job ≡ Some job = job_was (w.nodes i) (nodes i) job (jobs i).0 is in
           job_kept w later i job (books.jobs i job was) (keeps i).boot (ap (λ (b : ℕ). w.numbers i b job.seq) (keeps i).boot)
           (λ o at. (o, at, keeps_ask o)));
+      scrubs = λ i l is.
+          (own_kept w later i l (books.scrubs i l (scrub_was (w.nodes i) (nodes i) l (jobs i).1 is)) (keeps i).boot
+          (ap (λ (b : ℕ). w.numbers i b l) (keeps i).boot) (λ o at. (o, at, keeps_ask o))).0;
+      apart = λ i. apart_reads (w.nodes i) (nodes i) (jobs i) (books.apart i);
       lives = books.lives;
     }
 
@@ -95,6 +99,7 @@ module _ (setting : Setting) (w : World) (brick : BrickId) (openings : ℕ) (boo
     calls = no_calls;
     proposal = None;
     job = None;
+    scrub = None;
   }
 
   -- the world once it has started
@@ -181,7 +186,8 @@ module _ (setting : Setting) (w : World) (brick : BrickId) (openings : ℕ) (boo
       let old : IsCall w j k c = sym (ap (λ (x : Node). x.calls k) same) ∙ is in
       let mine : CallBooks setting w j k c = books.calls j k c old in
       call_kept setting w later j k c old mine (other_up j other) boot (ap (λ (b : ℕ). w.numbers j b k) boot) refl (omega arith)
-      (lives_same w later mine.operation refl) (books.operations (number_of w j k)) (inl (ap (λ (x : Node). x.job) same))
+      (lives_same w later mine.operation refl) (books.operations (number_of w j k))
+      (same_reads (w.nodes j) (later.nodes j) (ap (λ (x : Node). x.job) same) (ap (λ (x : Node). own_seq x ForScrub) same))
 
   -- the synchronisation of another brick
   other_job : (j : ℕ) (job : Job) → j ≢ i → (later.nodes j).job ≡ Some job → JobBooks later j job
@@ -191,6 +197,14 @@ module _ (setting : Setting) (w : World) (brick : BrickId) (openings : ℕ) (boo
       job_kept w later j job (books.jobs j job (sym (ap (λ (x : Node). x.job) same) ∙ is)) boot (ap (λ (b : ℕ). w.numbers j b job.seq) boot)
       (λ o at. (o, at, keeps_ask o))
 
+  -- and its scrub
+  other_scrub : (j l : ℕ) → j ≢ i → own_seq (later.nodes j) ForScrub ≡ Some l → OwnBooks later j l
+  other_scrub j l other is =
+      let same : later.nodes j ≡ w.nodes j = unstarted j other in
+      let boot : (later.nodes j).boot ≡ (w.nodes j).boot = ap (λ (x : Node). x.boot) same in
+      (own_kept w later j l (books.scrubs j l (sym (ap (λ (x : Node). own_seq x ForScrub) same) ∙ is)) boot (ap (λ (b : ℕ). w.numbers j b l) boot)
+      (λ o at. (o, at, keeps_ask o))).0
+
   -- a start keeps the books
   pub books_started : Books setting later
   unfolding restarted
@@ -198,11 +212,11 @@ module _ (setting : Setting) (w : World) (brick : BrickId) (openings : ℕ) (boo
     well_formed = books.well_formed;
     places = books.places;
     own = books.own;
-    boots = λ j. ⊎_elim
+    boots = λ j up. ⊎_elim
         (λ (mine : j ≡ i). let boot : (later.nodes j).boot ≡ (w.nodes i).boot + openings = ap (λ (x : ℕ). (later.nodes x).boot) mine
         ∙ own_boot in omega arith)
         (λ (other : j ≢ i). let boot : (later.nodes j).boot ≡ (w.nodes j).boot = ap (λ (x : Node). x.boot) (unstarted j other) in
-        omega (arith, books.boots j))
+        omega (arith, books.boots j (sym (put_other w.up i true j other) ∙ up)))
         (cases_eq j i);
     all_begun = books.all_begun;
     operations = λ n o is. ⊎_elim
@@ -227,6 +241,22 @@ module _ (setting : Setting) (w : World) (brick : BrickId) (openings : ℕ) (boo
         let none : (later.nodes j).job ≡ None = ap (λ (x : ℕ). (later.nodes x).job) mine ∙ ap (λ (x : Node). x.job) own_node in
         absurd (let never : None ≡ Some job = sym none ∙ is in cc))
         (λ (other : j ≢ i). other_job j job other is)
+        (cases_eq j i);
+    scrubs = λ j l is. ⊎_elim
+        (λ (mine : j ≡ i).
+        let none : own_seq (later.nodes j) ForScrub ≡ None
+        = ap (λ (x : ℕ). own_seq (later.nodes x) ForScrub) mine ∙ ap (λ (x : Node). own_seq x ForScrub) own_node in
+        absurd (let never : None ≡ Some l = sym none ∙ is in cc))
+        (λ (other : j ≢ i). other_scrub j l other is)
+        (cases_eq j i);
+    apart = λ j. ⊎_elim
+        (λ (mine : j ≡ i) k reads scrubs.
+        let none : own_seq (later.nodes j) ForScrub ≡ None
+        = ap (λ (x : ℕ). own_seq (later.nodes x) ForScrub) mine ∙ ap (λ (x : Node). own_seq x ForScrub) own_node in
+        let never : None ≡ Some k = sym none ∙ scrubs in let e : ⊥ = cc in e)
+        (λ (other : j ≢ i).
+        let same : later.nodes j ≡ w.nodes j = unstarted j other in
+        apart_kept (w.nodes j) (later.nodes j) (ap (λ (x : Node). x.job) same) (ap (λ (x : Node). own_seq x ForScrub) same) (books.apart j))
         (cases_eq j i);
     lives = books.lives;
   }

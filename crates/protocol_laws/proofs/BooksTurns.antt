@@ -1,5 +1,5 @@
 -- The books of a world where an open operation went on at its coordinator.
-use Rattle.std.proofs.Common.{◌≡◌, ◌≢◌, ℕ, ◌<◌, ◌≤◌, ⊎_elim, inl, false, Option, Some, None, refl, sym, ap, ◌∙◌, subst, arith, List, Bool}
+use Rattle.std.proofs.Common.{◌≡◌, ◌≢◌, ℕ, ◌<◌, ◌≤◌, ⊎_elim, false, Option, Some, None, refl, sym, ap, ◌∙◌, subst, arith, List, Bool, is_some}
 use Rattle.std.proofs.lemmas.Option.{same_Some}
 use Rattle.std.proofs.lemmas.Bool.{cases_eq, both_ways}
 use Rattle.fab_base.specs.declared.stamps.Stamp.{Stamp}
@@ -8,13 +8,14 @@ use Rattle.reg_model.specs.Marks.{life_of}
 use Rattle.fab_base.specs.Layouts.{Group}
 use Rattle.protocol.specs.Settings.{Setting}
 use Rattle.protocol.specs.declared.phases.Counted.{Counted}
-use Rattle.protocol.specs.Coordinators.{Coordinator, most_rounds, asked_view}
+use Rattle.protocol.specs.Coordinators.{Coordinator, most_rounds, asked_view, AreEnough}
 use Rattle.protocol.specs.Nodes.{Node}
 use Rattle.protocol.specs.Worlds.{World, Operation, number_of, Choices}
-use Rattle.protocol_laws.proofs.Books.{Books, IsReadable, OperationBooks, LifeBooks, UnmarkedBooks, CallBooks, IsOperation, IsCall, MadeInPhase, InRound}
+use Rattle.protocol_laws.proofs.Books.{Books, IsReadable, OperationBooks, LifeBooks, UnmarkedBooks, CallBooks, IsOperation, IsCall, MadeInPhase, InRound, ForScrub, own_seq}
 use Rattle.protocol_laws.proofs.MarkNumbers.{own_by}
-use Rattle.protocol_laws.proofs.BooksKept.{KeepsNumbers, KeepsAsk, keeps_ask, lives_same, operation_kept, call_kept, job_kept, number_at, calls_apart, cases_call}
+use Rattle.protocol_laws.proofs.BooksKept.{KeepsNumbers, KeepsAsk, keeps_ask, lives_same, operation_kept, call_kept, job_kept, number_at, calls_apart, cases_call, same_reads, read_kept, own_kept, apart_kept}
 use Rattle.protocol_laws.proofs.Outcomes.{SameOperation}
+use Rattle.fab_base.specs.declared.identities.BrickId.{BrickId}
 
 -- what is known of an operation that is open, but for its version
 pub record SameAsk (o later : Operation) : Type 0 where
@@ -49,6 +50,7 @@ pub record Turned (w : World) (i k : ℕ) (c d : Coordinator) (before o : Operat
   pub made : MadeInPhase d o d.phase
   pub keeps : (j : ℕ) → KeepsNumbers (w.nodes j) (nodes j)
   pub jobs : (j : ℕ) → (nodes j).job ≡ (w.nodes j).job
+  pub scrubs : (j : ℕ) → own_seq (nodes j) ForScrub ≡ own_seq (w.nodes j) ForScrub
   pub call_is : (nodes i).calls k ≡ Some d
   pub other_calls : (j l : ℕ) → (j ≡ i → l ≡ k → ⊥) → (nodes j).calls l ≡ (w.nodes j).calls l
   pub operation_is : operations (number_of w i k) ≡ Some o
@@ -141,7 +143,11 @@ module _ (setting : Setting) (w : World) (i k : ℕ) (c d : Coordinator) (before
             call.unended (omega arith) life (ap (λ (m : ℕ). life_of w.marks m) (sym mark) ∙ is));
         unclosed = turned.same_ask.closed ∙ ap (λ (x : Operation). x.closed) (sym same_before) ∙ call.unclosed;
         unanswered = turned.same_ask.answered ∙ ap (λ (x : Operation). x.answered) (sym same_before) ∙ call.unanswered;
-        reads = λ none. (let old = call.reads (sym own_mark ∙ none) in (old.0, turned.jobs i ∙ old.1, old.2));
+        reads = λ none. (let old = call.reads (sym own_mark ∙ none) in
+            (old.0, read_kept w i k c (nodes i) turned.was (same_reads (w.nodes i) (nodes i) (turned.jobs i) (turned.scrubs i)) old.0 old.1));
+        enough = subst (λ (o : Option (List BrickId)). AreEnough d.group o) (sym turned.same.only)
+            (subst (λ (g : Group). AreEnough g c.only) (sym turned.same.members) call.enough);
+        alone = λ some. turned.scrubs i ∙ call.alone (ap (λ (o : Option (List BrickId)). is_some o) (sym turned.same.only) ∙ some);
       }
 
   -- the operation's life at the turn
@@ -234,7 +240,7 @@ module _ (setting : Setting) (w : World) (i k : ℕ) (c d : Coordinator) (before
     places = books.places;
     own = own_by w.marked w.operations books.own (number_of w i k) before o operations turned.operation_was turned.operation_is turned.same_ask.mark
         turned.other_operations;
-    boots = λ j. (let e : (nodes j).boot ≡ (w.nodes j).boot = (turned.keeps j).boot in omega (arith, books.boots j));
+    boots = λ j up. (let e : (nodes j).boot ≡ (w.nodes j).boot = (turned.keeps j).boot in omega (arith, books.boots j up));
     all_begun = λ n low high. ⊎_elim
         (λ (mine : n ≡ number_of w i k). (o, subst (λ (m : ℕ). IsOperation later m o) (sym mine) turned.operation_is))
         (λ (other : n ≢ number_of w i k).
@@ -266,7 +272,7 @@ module _ (setting : Setting) (w : World) (i k : ℕ) (c d : Coordinator) (before
         let mine : CallBooks setting w j l e = books.calls j l e old in
         call_kept setting w later j l e old mine refl (turned.keeps j).boot (ap (λ (b : ℕ). w.numbers j b l) (turned.keeps j).boot)
         (turned.other_operations (number_of w j l) number) (turned.keeps j).known (lives_same w later mine.operation refl)
-        (books.operations (number_of w j l)) (inl (turned.jobs j)))
+        (books.operations (number_of w j l)) (same_reads (w.nodes j) (nodes j) (turned.jobs j) (turned.scrubs j)))
         (cases_call i k j l);
     fresh_calls = λ j l lt.
         (let seqs : (w.nodes j).seq ≤ (nodes j).seq = (turned.keeps j).seq in
@@ -277,5 +283,9 @@ module _ (setting : Setting) (w : World) (i k : ℕ) (c d : Coordinator) (before
     jobs = λ j job is.
         job_kept w later j job (books.jobs j job (sym (turned.jobs j) ∙ is)) (turned.keeps j).boot (ap (λ (b : ℕ). w.numbers j b job.seq) (turned.keeps j).boot)
         (goes_on (number_of w j job.seq));
+    scrubs = λ j l is.
+        (own_kept w later j l (books.scrubs j l (sym (turned.scrubs j) ∙ is)) (turned.keeps j).boot (ap (λ (b : ℕ). w.numbers j b l) (turned.keeps j).boot)
+        (goes_on (number_of w j l))).0;
+    apart = λ j. apart_kept (w.nodes j) (nodes j) (turned.jobs j) (turned.scrubs j) (books.apart j);
     lives = books.lives;
   }

@@ -103,7 +103,7 @@ order_answered block t x answers allows = told x.reply refl answers allows
     told reply e answers allows = absurd (false≢true answers)
 
 -- a reply to a write that allows it
-write_answered : (block : ℕ) (t : Stamp) (x : Counted) → answers_phase block t x.seat Stores x.reply ≡ true → Allows x → x.reply ≡ Reply.Stored
+pub write_answered : (block : ℕ) (t : Stamp) (x : Counted) → answers_phase block t x.seat Stores x.reply ≡ true → Allows x → x.reply ≡ Reply.Stored
 write_answered block t x answers allows = told x.reply refl answers allows
   where
     told : (reply : Reply) → x.reply ≡ reply → answers_phase block t x.seat Stores reply ≡ true
@@ -393,7 +393,7 @@ module _ (setting : Setting) (views : Views) (sound : IsSound setting) (w : Worl
       once many
 
   -- each counted reply, where none refuses and no store is full
-  each_allows : greatest_refuser counted ≡ None → NoneStops counted → EachCounted (λ x. CountedSays setting views w me.0 c x × Allows x) counted
+  pub each_allows : greatest_refuser counted ≡ None → NoneStops counted → EachCounted (λ x. CountedSays setting views w me.0 c x × Allows x) counted
   each_allows none roomy =
       each_both (CountedSays setting views w me.0 c) Allows counted each
       (each_both (λ x. refuser_of x ≡ None) (λ x. (full_member_of x ≡ None) × ((mover_of x ≡ None) × (dropper_of x ≡ None))) counted (none_refuses counted none)
@@ -436,7 +436,7 @@ module _ (setting : Setting) (views : Views) (sound : IsSound setting) (w : Worl
       each_then (λ x. CountedSays setting views w me.0 c x × Allows x) PromisesAt counted (λ x h. ordered_seat orders x h.0 h.1) (each_allows none roomy)
 
   -- the stamp of what a call has stored is its own
-  stored_by : (to : ℕ) (request : Request) (t : Stamp) → RequestSays setting views w stamps me.0 to c.call request → stamp_stored request ≡ Some t
+  pub stored_by : (to : ℕ) (request : Request) (t : Stamp) → RequestSays setting views w stamps me.0 to c.call request → stamp_stored request ≡ Some t
       → t ≡ c.stamp
   stored_by to (Request.Write z block) t says stores =
       let same : z ≡ t = cc in

@@ -19,20 +19,22 @@ use Rattle.view_laws.specs.Syncs.{SyncsAreSaidIn}
 use Rattle.view_laws.proofs.SyncedViews.{syncs_are_said}
 use Rattle.protocol_laws.proofs.OldFound.{synced_stand, old_found}
 use Rattle.protocol_laws.proofs.Replaced.{dropped_replaced}
-use Rattle.protocol_laws.proofs.TriesEvents.{always_tried, syncs_show}
+use Rattle.protocol_laws.proofs.TriesEvents.{always_tried, syncs_show, scrubs_show}
 use Rattle.protocol_laws.proofs.ViewLaws.{one_content, writes_guarded, bases_newest, collects_stand, drops_older}
 use Rattle.protocol_laws.proofs.Tallies.{Tallied}
 use Rattle.protocol_laws.proofs.TalliesEvents.{tallied}
 use Rattle.reg_model.proofs.StripeLives.{well_formed_stripe, numbers_from_one}
 use Rattle.protocol_laws.proofs.Walks.{happenings_strict}
 use Rattle.protocol_laws.proofs.Guards.{writes_were_guarded}
+use Rattle.protocol_laws.proofs.Tries.{Tried}
+use Rattle.protocol_laws.specs.ScrubEnds.{ScrubsShow}
 
 -- the laws, from the books, from what quorums show, and from the history of replies
 laws : (setting : Setting) (views : Views) (w : World) (stamps : Stamping) → Books setting w → Said setting views w stamps → Follows setting.layout views w
     → OldVersionsAreFound setting w
     → DroppedAreReplaced setting views w → SyncedStand setting views w → WritesWereGuarded setting views w → QuorumFacts setting views w → Tallied w
-    → SyncsShow w → IsNumbered w → RefusalsWereTrue setting w → Laws setting views w
-laws setting views w stamps booked said follows old replaced synced guards facts history stopped numbered truths = record {
+    → SyncsShow w → ScrubsShow setting views w → IsNumbered w → RefusalsWereTrue setting w → Laws setting views w
+laws setting views w stamps booked said follows old replaced synced guards facts history stopped scrubbed numbered truths = record {
   one_content = one_content setting views w stamps said;
   first_is_zero = facts.first;
   contents_are_made = facts.contents;
@@ -52,6 +54,7 @@ laws setting views w stamps booked said follows old replaced synced guards facts
   counted = history.counted;
   aborts = history.aborts;
   stopped = stopped;
+  scrubbed = scrubbed;
   own_marks = booked.own;
   refusals = truths;
   full = facts.full;
@@ -68,14 +71,17 @@ every_run setting views events sound follows =
     let w : World = run setting events (first_world setting.layout) in
     let said = always_said setting views events sound follows in
     let syncs : SyncsAreSaidIn setting.layout w = syncs_are_said setting events sound in
+    let history : Tallied w = tallied setting views events sound follows in
+    let tried : Tried setting views w = always_tried setting views events sound follows in
     laws setting views w said.0 (books setting events) said.1 (follows events [] (sym (append-nil events)))
     (old_found setting views sound w said.0 (books setting events) said.1 syncs.called)
     (dropped_replaced setting views sound w said.0 (books setting events) said.1 syncs)
     (synced_stand setting views sound w said.0 (books setting events) said.1)
     (writes_were_guarded setting views events sound follows)
     (facts setting views sound w said.0 (books setting events) said.1)
-    (tallied setting views events sound follows)
-    (syncs_show w (always_tried setting events) (tallied setting views events sound follows))
+    history
+    (syncs_show setting views w tried history)
+    (scrubs_show setting views w tried history)
     (always_numbered setting events)
     (refusals_true setting events)
 

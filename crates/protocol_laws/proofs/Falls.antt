@@ -1,5 +1,5 @@
 -- No event lowers what a brick has promised or stored, or drops a version that it holds.
-use Rattle.view_laws.proofs.SyncReads.{synced_at_each}
+use Rattle.view_laws.proofs.SyncReads.{synced_at_each, scrubbed_at_each}
 use Rattle.fab_base.specs.declared.identities.ViewNo.{ViewNo}
 use Rattle.view_laws.proofs.Syncing.{synced_of, synced_each, synced_views}
 use Rattle.protocol_laws.proofs.Logs.{LogAscends, IsKept}
@@ -14,7 +14,7 @@ use Rattle.messages.specs.declared.replies.Reply.{Reply}
 use Rattle.fab_base.specs.Layouts.{Layout, Group}
 use Rattle.protocol.specs.Settings.{Setting}
 use Rattle.protocol.specs.Replicas.{Replica, first_replica, fresh_replica, handle, is_held}
-use Rattle.protocol.specs.Nodes.{Node, put, began, invoked, replica_at, full_at, requested, stopped, restarted, known_after, group_at, replied_at, heard, received, view_at, top_at, NodeStep, with_known, with_round, with_learnt, node_taught_by, node_learnt, view_counted, lists_fit, vote_at, proposed, node_synced, synced_at}
+use Rattle.protocol.specs.Nodes.{Node, put, began, invoked, replica_at, full_at, requested, stopped, restarted, known_after, group_at, replied_at, heard, received, view_at, top_at, NodeStep, with_known, with_round, with_learnt, node_taught_by, node_learnt, view_counted, lists_fit, vote_at, proposed, node_synced, synced_at, scrubbed_at}
 use Rattle.protocol.specs.Worlds.{World, Found, Before, After, Event, world_ticked, world_stopped, world_found, world_started, world_stepped, happens, first_world, run}
 use Rattle.protocol_laws.specs.Laws.{WasSent}
 use Rattle.protocol_laws.proofs.Reactions.{handle_after}
@@ -40,6 +40,7 @@ use Rattle.fab_base.specs.Stamps.{stamp_below, stamp_same, first_stamp}
 use Rattle.fab_base.proofs.StampOrder.{stamp_below_irrefl, stamp_same_true}
 use Rattle.std.proofs.lemmas.Bool.{cond_both, cases_eq, false≢true, or_cases}
 use Rattle.protocol_laws.proofs.StampViews.{StampViews, NodeViews, RequestIsOf, MessageIsOf, free_for, part_below, always_views}
+use Rattle.fab_base.specs.declared.identities.StripeNo.{StripeNo}
 
 -- a part that begins anew ascends, and has no version but the first
 fresh_ascends : (block e : ℕ) → LogAscends (fresh_replica block e).log
@@ -286,6 +287,12 @@ module _ (setting : Setting) where
       synced_at_each (λ (step : NodeStep). KeepsPlaces node step.node) setting me now node group (refl, refl, refl) (λ answer. (refl, refl, refl))
       (λ answer. (refl, refl, refl)) (λ kept is. (refl, refl, refl))
 
+  scrub_places : (me : BrickId) (now : ℕ) (node : Node) (group : GroupId) (stripe : StripeNo) (members : List BrickId)
+      → KeepsPlaces node (scrubbed_at setting me now node group stripe members).node
+  scrub_places me now node group stripe members =
+      scrubbed_at_each (λ (step : NodeStep). KeepsPlaces node step.node) setting me now node group stripe members (refl, refl, refl)
+      (λ kept is. (refl, refl, refl))
+
   -- every event leaves the parts as they may become
   stay_cases : (w : World) → Leaves setting w → StampViews setting.layout w → LogsFit w → EventCases setting w (PartsStay w)
   stay_cases w leaves views logged = record {
@@ -300,6 +307,10 @@ module _ (setting : Setting) where
         parts_by w (world_stepped setting w brick (synced_at setting brick (w.clocks brick.0) (w.nodes brick.0) group)) brick.0
         (synced_at setting brick (w.clocks brick.0) (w.nodes brick.0) group).node refl refl logged
         (keeps_same (w.nodes brick.0) _ (sync_places brick (w.clocks brick.0) (w.nodes brick.0) group));
+    scrubs = λ brick group stripe members may.
+        parts_by w (world_stepped setting w brick (scrubbed_at setting brick (w.clocks brick.0) (w.nodes brick.0) group stripe members)) brick.0
+        (scrubbed_at setting brick (w.clocks brick.0) (w.nodes brick.0) group stripe members).node refl refl logged
+        (keeps_same (w.nodes brick.0) _ (scrub_places brick (w.clocks brick.0) (w.nodes brick.0) group stripe members));
     handles = λ number packet at up.
         parts_by w (world_handled setting w number packet) packet.to.0 (step_on setting w packet).node refl refl logged
         (message_keeps setting packet.to packet.from packet.to (w.clocks packet.to.0) (w.nodes packet.to.0) packet.message

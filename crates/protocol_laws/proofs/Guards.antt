@@ -1,7 +1,7 @@
 -- A request to store a version is sent while a quorum takes nothing below it, and while its operation is open: an event that sends one lowers and raises no
 -- brick, and sends it for a call that is open.
-use Rattle.protocol.specs.Jobs.{Job, job_ask, begun_job}
-use Rattle.view_laws.proofs.SyncReads.{carried_each, synced_at_each, each_tick, each_synced, read_call}
+use Rattle.protocol.specs.Jobs.{Job, begun_job}
+use Rattle.view_laws.proofs.SyncReads.{carried_each, synced_at_each, each_tick, each_synced, read_call, scrubbed_at_each}
 use Rattle.std.proofs.Common.{◌≡◌, ℕ, Bool, true, false, ⊎_elim, not, List, [], ◌∷◌, ◌++◌, length, Option, Some, None, refl, sym, ap, ◌∙◌, subst, arith}
 use Rattle.std.specs.Prelude.{slice_get, nat_lt, if◌then◌else◌}
 use Rattle.fab_base.specs.declared.identities.BrickId.{BrickId}
@@ -21,7 +21,6 @@ use Rattle.protocol.specs.Views.{Views, view_told}
 use Rattle.protocol.specs.declared.phases.Counted.{Counted}
 use Rattle.protocol.specs.declared.phases.Mover.{Mover}
 use Rattle.protocol.specs.Proposals.{Proposal}
-use Rattle.quorum.specs.Quorums.{quorum_of}
 use Rattle.fab_base.specs.declared.identities.GroupId.{GroupId}
 use Rattle.fab_base.specs.declared.identities.ViewNo.{ViewNo}
 use Rattle.fab_base.specs.declared.member_lists.View.{View}
@@ -31,8 +30,8 @@ use Rattle.protocol_laws.proofs.Counting.{mover_one}
 use Rattle.protocol_laws.proofs.Proposing.{AreOfViews, of_views_each, resent_of_views, ballot_each, proposed_each}
 use Rattle.protocol_laws.proofs.Teaching.{heard_each, replied_rests}
 use Rattle.protocol.specs.Replicas.{handle}
-use Rattle.protocol.specs.Coordinators.{mover_of, lower_mover, lowest_mover, aborted_moved, decided, Coordinator, Next, Ignores, Waits, Sends, Makes, Ends, with_reply, once_full, counted_at, counts_at, on_reply, request_of, asked_group}
-use Rattle.protocol.specs.Nodes.{Node, NodeStep, put, top_at, first_phase, phase_packets, new_coordinator, began, invoked, replica_at, full_at, known_after, fresh_stamp, carried_out, group_at, replied_at, heard, received, ticked, with_round, with_known, node_taught, node_taught_by, view_counted, counts_here, vote_at, replied_ballot, proposed, synced_at, carried_for, job_reading, collect_packets, read_closed, synced_packets}
+use Rattle.protocol.specs.Coordinators.{mover_of, lower_mover, lowest_mover, aborted_moved, decided, Coordinator, Next, Ignores, Waits, Sends, Makes, Ends, with_reply, once_full, counted_at, counts_at, on_reply, request_of, asked_group, needed, hearing}
+use Rattle.protocol.specs.Nodes.{Node, NodeStep, put, top_at, first_phase, phase_packets, new_coordinator, began, invoked, replica_at, full_at, known_after, fresh_stamp, carried_out, group_at, replied_at, heard, received, ticked, with_round, with_known, node_taught, node_taught_by, view_counted, counts_here, vote_at, replied_ballot, proposed, synced_at, carried_for, job_reading, collect_packets, read_closed, synced_packets, scrub_of, with_scrub, scrub_coordinator, scrubbed_at}
 use Rattle.protocol.specs.Worlds.{World, Event, first_world, world_began, world_stopped, happens, run, world_ticked, world_stepped, world_started, world_found, After}
 use Rattle.protocol.proofs.Events.{EventCases, step_on, world_handled, happens_each, started_each, run-append}
 use Rattle.protocol.proofs.Packets.{OfEach, each_none, each_both, each_member, each_collect, each_reply}
@@ -47,6 +46,9 @@ use Rattle.protocol_laws.proofs.SaidAlways.{always_said, follows_front}
 use Rattle.protocol_laws.proofs.Sendings.{Adds, adds_none, SentAt, sent_at}
 use Rattle.protocol_laws.proofs.Tops.{KeepsPlaces, top_same}
 use Rattle.protocol_laws.proofs.ViewLaws.{writes_guarded}
+use Rattle.protocol.specs.Scrubs.{Scrub, lagging_after}
+use Rattle.fab_base.specs.declared.identities.StripeNo.{StripeNo}
+use Rattle.protocol.specs.declared.phases.Phase.{Phase}
 
 -- a request to store is of an open call, and all bricks have come as far after the event that sends it as before
 abbrev StoresIn : World → World → BrickId → Message → Type 0
@@ -128,7 +130,7 @@ moved_ends block code fresh c from view lineage (Some seat) =
     let d : Coordinator = with_reply c seat from (Reply.Moved view lineage) in
     let one : Counted = record { seat = seat; brick = from; reply = Reply.Moved view lineage } in
     let lowest = some_mover c.counted one (record { seat = seat; brick = from; view = view }) refl in
-    cond_both (nat_lt (length d.counted) (quorum_of (asked_group d))) (Waits d) (decided block code fresh d) BeginsNone (λ few. tt)
+    cond_both (nat_lt (length d.counted) (needed d)) (Waits d) (decided block code fresh d) BeginsNone (λ few. tt)
     (λ full. subst BeginsNone (sym (decided_moved block code fresh d lowest.0 lowest.1)) tt)
 
 -- what is of views stores nothing
@@ -185,20 +187,23 @@ module _ (setting : Setting) (w next : World) (me : BrickId) (books : Books sett
   carried_none node known c (Ends answer seen stored) none =
       each_collect P me c stored (λ t to u stores. absurd (let never : None ≡ Some u = stores in cc))
 
-  -- nor does a read of a synchronisation that begins
-  read_stores : (now : ℕ) (node : Node) (job : Job) (group : Group) → OfEach P (phase_packets setting me (read_call group job me now node))
-  read_stores now node job group =
-      let c : Coordinator = read_call group job me now node in
+  -- nor does a read of the brick's own that begins
+  aside_stores : (c : Coordinator) → c.phase ≡ first_phase ReadStripe → OfEach P (phase_packets setting me c)
+  aside_stores c first =
       each_member P me c.call (request_of setting.code c)
-      (λ seat to t stores. absurd (first_stores setting.code c (job_ask job).op seat t stores)) 0 (asked_group c).members
+      (λ seat to t stores. absurd (first_stores setting.code c ReadStripe seat t
+      (ap (λ (p : Phase). stamp_stored (request_of setting.code (record c { phase = p }) seat)) (sym first) ∙ stores))) 0 (asked_group c).members
+
+  read_stores : (now : ℕ) (node : Node) (job : Job) (group : Group) → OfEach P (phase_packets setting me (read_call group job me now node))
+  read_stores now node job group = aside_stores (read_call group job me now node) refl
 
   -- what the coordinator of an operation, or of such a read, decided
-  carried_for_stores : (now : ℕ) (node : Node) (known : ℕ) (c : Coordinator) (decision : Next) (reading : Option Job) → KeepsPlaces (w.nodes me.0) node
-      → NextIsSame c decision → HasNotEnded w (w.numbers me.0 c.call.boot c.call.seq)
-      → next.nodes ≡ put w.nodes me.0 (carried_for setting me now node known c decision reading).node
-      → OfEach P (carried_for setting me now node known c decision reading).packets
-  carried_for_stores now node known c decision reading places same open' =
-      carried_each (λ (step : NodeStep). next.nodes ≡ put w.nodes me.0 step.node → OfEach P step.packets) setting me now node known c decision reading
+  carried_for_stores : (now : ℕ) (node : Node) (known : ℕ) (c heard : Coordinator) (decision : Next) (reading : Option Job)
+      (scrub : Option Scrub) → KeepsPlaces (w.nodes me.0) node → NextIsSame c decision → HasNotEnded w (w.numbers me.0 c.call.boot c.call.seq)
+      → next.nodes ≡ put w.nodes me.0 (carried_for setting me now node known c heard decision reading scrub).node
+      → OfEach P (carried_for setting me now node known c heard decision reading scrub).packets
+  carried_for_stores now node known c heard decision reading scrub places same open' =
+      carried_each (λ (step : NodeStep). next.nodes ≡ put w.nodes me.0 step.node → OfEach P step.packets) setting me now node known c heard decision reading scrub
       (carried_stores node known c decision places same open')
       (λ job is answer seen stored ends.
       let collects = each_collect P me c stored (λ t to u stores. absurd (let never : None ≡ Some u = stores in cc)) in
@@ -212,11 +217,19 @@ module _ (setting : Setting) (w next : World) (me : BrickId) (books : Books sett
             (phase_packets setting me (read_call group (record job { attempt = attempt }) me now closed.node)) collects
             (read_stores now closed.node (record job { attempt = attempt }) group);
       })
+      (record {
+        begins = λ s is d sends nodes.
+            let later : Node = with_scrub node (Some (record s { lagging = lagging_after s heard })) in
+            carried_stores later known c (Sends d) places (subst (λ (z : Next). NextIsSame c z) sends same) open' nodes;
+        ends = λ s is answer seen stored ended nodes. each_both P (collect_packets me c stored) []
+            (each_collect P me c stored (λ t to u stores. absurd (let never : None ≡ Some u = stores in cc))) (each_none P);
+      })
 
-  carried_for_none : (now : ℕ) (node : Node) (known : ℕ) (c : Coordinator) (decision : Next) (reading : Option Job) → BeginsNone decision
-      → OfEach P (carried_for setting me now node known c decision reading).packets
-  carried_for_none now node known c decision reading none =
-      carried_each (λ (step : NodeStep). OfEach P step.packets) setting me now node known c decision reading (carried_none node known c decision none)
+  carried_for_none : (now : ℕ) (node : Node) (known : ℕ) (c heard : Coordinator) (decision : Next) (reading : Option Job) (scrub : Option Scrub)
+      → BeginsNone decision
+      → OfEach P (carried_for setting me now node known c heard decision reading scrub).packets
+  carried_for_none now node known c heard decision reading scrub none =
+      carried_each (λ (step : NodeStep). OfEach P step.packets) setting me now node known c heard decision reading scrub (carried_none node known c decision none)
       (λ job is answer seen stored ends.
       let collects = each_collect P me c stored (λ t to u stores. absurd (let never : None ≡ Some u = stores in cc)) in
       let closed : NodeStep = read_closed me node known c answer seen stored in
@@ -229,12 +242,24 @@ module _ (setting : Setting) (w next : World) (me : BrickId) (books : Books sett
             (phase_packets setting me (read_call group (record job { attempt = attempt }) me now closed.node)) collects
             (read_stores now closed.node (record job { attempt = attempt }) group);
       })
+      (record {
+        begins = λ s is d sends. absurd (subst BeginsNone sends none);
+        ends = λ s is answer seen stored ended. each_both P (collect_packets me c stored) []
+            (each_collect P me c stored (λ t to u stores. absurd (let never : None ≡ Some u = stores in cc))) (each_none P);
+      })
 
   -- nor does a synchronisation that begins
   sync_stores : (now : ℕ) (group : GroupId) → OfEach P (synced_at setting me now (w.nodes me.0) group).packets
   sync_stores now group =
       synced_at_each (λ (step : NodeStep). OfEach P step.packets) setting me now (w.nodes me.0) group (each_none P) (λ answer. each_none P)
       (λ answer. each_none P) (λ kept is. read_stores now (w.nodes me.0) (begun_job group ((w.nodes me.0).learnt group.0).view) kept)
+
+  -- nor does a scrub that begins
+  scrub_stores : (now : ℕ) (group : GroupId) (stripe : StripeNo) (members : List BrickId)
+      → OfEach P (scrubbed_at setting me now (w.nodes me.0) group stripe members).packets
+  scrub_stores now group stripe members =
+      scrubbed_at_each (λ (step : NodeStep). OfEach P step.packets) setting me now (w.nodes me.0) group stripe members (each_none P)
+      (λ kept is. aside_stores (scrub_coordinator kept me now (w.nodes me.0) group stripe members) refl)
 
   -- nor does a proposal
   voted_stores : (node : Node) (from : BrickId) (call : Call) (reply : Reply) (proposal : Option Proposal)
@@ -256,7 +281,7 @@ module _ (setting : Setting) (w next : World) (me : BrickId) (books : Books sett
   replied_stores node now from call reply None places is nodes = voted_stores (with_known node (known_after node.known reply)) from call reply node.proposal
   replied_stores node now from call reply (Some c) places is nodes =
       let known : ℕ = known_after node.known reply in
-      carried_for_stores now node known c _ (job_reading node.job c.call.seq) places
+      carried_for_stores now node known c (hearing c from reply (counts_at setting.layout.block c from.0 call reply)) _ (job_reading node.job c.call.seq) (scrub_of node.scrub c.call.seq) places
       (decides (fresh_stamp me c.stamp.view now node.boot known) (counts_at setting.layout.block c from.0 call reply))
       (call_open setting w books me.0 call.seq c is) nodes
     where
@@ -273,7 +298,8 @@ module _ (setting : Setting) (w next : World) (me : BrickId) (books : Books sett
   unfolding on_reply
   moved_stores node now from call view lineage None = voted_stores (with_known node node.known) from call (Reply.Moved view lineage) node.proposal
   moved_stores node now from call view lineage (Some c) =
-      carried_for_none now node node.known c _ (job_reading node.job c.call.seq)
+      carried_for_none now node node.known c (hearing c from (Reply.Moved view lineage) (counts_at setting.layout.block c from.0 call (Reply.Moved view lineage))) _
+      (job_reading node.job c.call.seq) (scrub_of node.scrub c.call.seq)
       (moved_ends setting.layout.block setting.code (fresh_stamp me c.stamp.view now node.boot node.known) c from view lineage
       (counts_at setting.layout.block c from.0 call (Reply.Moved view lineage)))
 
@@ -350,6 +376,14 @@ stores_cases setting w books = record {
         each = sync_stores setting w (world_stepped setting w brick (synced_at setting brick (w.clocks brick.0) (w.nodes brick.0) group)) brick books
             (w.clocks brick.0) group;
       };
+  scrubs = λ brick group stripe members may.
+      record {
+        more = (scrubbed_at setting brick (w.clocks brick.0) (w.nodes brick.0) group stripe members).packets;
+        packets = refl;
+        each = scrub_stores setting w
+            (world_stepped setting w brick (scrubbed_at setting brick (w.clocks brick.0) (w.nodes brick.0) group stripe members)) brick books
+            (w.clocks brick.0) group stripe members;
+      };
   handles = λ number packet at up.
       record {
         more = (step_on setting w packet).packets;
@@ -363,7 +397,7 @@ stores_cases setting w books = record {
         more = ticked setting brick (w.nodes brick.0);
         packets = refl;
         each = each_tick (StoresOpen w (world_ticked setting w brick)) setting brick (w.nodes brick.0).calls
-            (λ k c is seat to t stores. ((λ g s i. refl), call_open setting w books brick.0 k c is)) (λ k c is later from to. tt) (w.nodes brick.0).job
+            (λ k c is seat to t stores. ((λ g s i. refl), call_open setting w books brick.0 k c is)) (λ k c is later from to. tt) (w.nodes brick.0).job (w.nodes brick.0).scrub
             (w.nodes brick.0).seq (w.nodes brick.0).proposal
             (ballots_store w (world_ticked setting w brick) _ (resent_of_views brick (w.nodes brick.0).proposal));
       };

@@ -268,10 +268,10 @@ replying_each P setting w me now from call reply handles =
 -- It hears a reply: it learns of a time and a round, or it handles it.
 pub hearing_each : (P : World → Type 0) (setting : Setting) (w : World) (me : BrickId) (now : ℕ) (from : BrickId) (call : Call) (reply : Reply)
     → P (world_stepped setting w me (no_step (with_known (with_round (w.nodes me.0) reply) (known_after (w.nodes me.0).known reply))))
-    → (let x : World = kept_world w me (taught_by setting w me from call reply) in
-    P (world_stepped setting x me (replied_at setting me now from (x.nodes me.0) call reply ((w.nodes me.0).calls call.seq))))
+    → (lists_fit setting.layout call reply ≡ true → (let x : World = kept_world w me (taught_by setting w me from call reply) in
+    P (world_stepped setting x me (replied_at setting me now from (x.nodes me.0) call reply ((w.nodes me.0).calls call.seq)))))
     → P (world_stepped setting w me (heard setting me now from (w.nodes me.0) call reply))
 hearing_each P setting w me now from call reply left handles =
     cond_both (lists_fit setting.layout call reply) (replied setting me now from (w.nodes me.0) call reply)
     (no_step (with_known (with_round (w.nodes me.0) reply) (known_after (w.nodes me.0).known reply)))
-    (λ (step : NodeStep). P (world_stepped setting w me step)) (λ fit. replying_each P setting w me now from call reply handles) (λ isnt. left)
+    (λ (step : NodeStep). P (world_stepped setting w me step)) (λ fit. replying_each P setting w me now from call reply (handles fit)) (λ isnt. left)

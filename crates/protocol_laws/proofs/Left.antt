@@ -19,7 +19,7 @@ use Rattle.protocol.specs.declared.tellings.Answered.{Answered}
 use Rattle.messages.specs.declared.replies.Reply.{Reply}
 use Rattle.fab_base.specs.declared.member_lists.View.{View}
 use Rattle.protocol.specs.Views.{learns, is_later, view_told, is_unsynced, notes_synced}
-use Rattle.protocol.specs.Nodes.{Node, NodeStep, group_at, put, refusal_of, requested_at, seat_now, is_void, moved_at, served_unless, requested_as, requested_in, requested, lists_fit, counts_here, may_teach, with_learnt, node_taught, node_taught_by, node_learnt, no_step, absorbed, stopped, restarted, proposed, proposal_refusal, invoked, node_synced, synced_at, sync_refusal}
+use Rattle.protocol.specs.Nodes.{Node, NodeStep, group_at, put, refusal_of, requested_at, seat_now, is_void, moved_at, served_unless, requested_as, requested_in, requested, lists_fit, counts_here, may_teach, with_learnt, node_taught, node_taught_by, node_learnt, no_step, absorbed, stopped, restarted, proposed, proposal_refusal, invoked, node_synced, synced_at, sync_refusal, scrub_refusal, scrubbed_at}
 use Rattle.protocol.specs.Worlds.{World, Choices, Found, Before, After, Event, first_world, is_brick, is_up, world_began, world_told, world_tells, world_answered, world_answers, world_stepped, world_ticked, left_after, packet_during, world_stopped, world_found, world_started, replies_with, voiced, packet_of, run}
 use Rattle.protocol_laws.specs.Laws.{WasSent}
 use Rattle.protocol.proofs.Puts.{put_other}
@@ -333,6 +333,10 @@ module _ (setting : Setting) (w : World) where
         (let up = and_parts (is_up setting.layout w brick) (not (is_some (sync_refusal setting.layout (w.nodes brick.0) group.0))) may in
         leaves_stepped setting w w.replies w.reached w.choices brick (synced_at setting brick (w.clocks brick.0) (w.nodes brick.0) group)
         (and_parts (is_brick setting.layout brick) (w.up brick.0) up.0).1 leaves);
+    scrubs = λ brick group stripe members may.
+        (let up = and_parts (is_up setting.layout w brick) (not (is_some (scrub_refusal setting.layout (w.nodes brick.0) group stripe members))) may in
+        leaves_stepped setting w w.replies w.reached w.choices brick (scrubbed_at setting brick (w.clocks brick.0) (w.nodes brick.0) group stripe members)
+        (and_parts (is_brick setting.layout brick) (w.up brick.0) up.0).1 leaves);
     handles = λ number packet at up.
         leaves_stepped setting w (replies_with setting w packet) (put w.reached number true) (voiced setting w packet) packet.to (step_on setting w packet)
         (and_parts (is_brick setting.layout packet.to) (w.up packet.to.0) up).1 leaves;
@@ -346,10 +350,10 @@ module _ (setting : Setting) (w : World) where
         found;
   }
 
--- at first every brick is up
+-- at first every brick is as it was made, up or down
 pub always_leaves : (setting : Setting) (events : List Event) → Leaves setting (run setting events (first_world setting.layout))
 always_leaves setting events =
-    always (Leaves setting) setting (λ i down. absurd (let never : true ≡ false = down in cc)) (leaves_cases setting) events
+    always (Leaves setting) setting (λ i down. inl refl) (leaves_cases setting) events
 
 -- a brick that starts with what its store is found to hold is still down
 pub found_down : (w : World) (brick : BrickId) (found : Found) → w.up brick.0 ≡ false → (world_found w brick found).up brick.0 ≡ false

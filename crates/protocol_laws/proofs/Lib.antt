@@ -26,6 +26,7 @@ pub mod Left
 pub mod Logs
 pub mod MarkNumbers
 pub mod Moments
+pub mod Noting
 pub mod Numbers
 pub mod Operated
 pub mod Outcomes
@@ -44,6 +45,8 @@ pub mod SaidAlways
 pub mod SaidQuiet
 pub mod SaidReads
 pub mod Sendings
+pub mod ScrubEnds
+pub mod ScrubShows
 pub mod Sends
 pub mod Sorting
 pub mod StampViews

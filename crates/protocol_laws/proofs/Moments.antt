@@ -1,6 +1,6 @@
 -- What a member told was true of it when it told it.
 use Rattle.protocol.specs.Jobs.{Job, begun_job}
-use Rattle.view_laws.proofs.SyncReads.{carried_each, synced_at_each, each_tick, each_synced, read_call}
+use Rattle.view_laws.proofs.SyncReads.{carried_each, synced_at_each, each_tick, each_synced, read_call, scrubbed_at_each}
 use Rattle.protocol.specs.Views.{first_kept}
 use Rattle.std.proofs.Common.{nat_lt, ◌≡◌, ◌≤◌, ⊎_elim, arith, not, Bool, ℕ, true, List, [], Option, Some, None, refl, sym, ap, ◌∙◌, subst, false, is_some, ltb-true}
 use Rattle.std.specs.Prelude.{nat_eq, if◌then◌else◌}
@@ -22,8 +22,8 @@ use Rattle.protocol.specs.Ballots.{Voted}
 use Rattle.protocol.specs.Settings.{Setting, Code}
 use Rattle.protocol_laws.proofs.Reactions.{modified_each}
 use Rattle.protocol.specs.Replicas.{Replica, Reaction, top_of, is_held, is_wanted, told_version, stays, unless_full, promised, stored, looked_up, handle, ignored, newest_of, under}
-use Rattle.protocol.specs.Coordinators.{Coordinator, Next, Ignores, Waits, Sends, Makes, Ends, request_of, on_reply, asked_group}
-use Rattle.protocol.specs.Nodes.{view_at, Node, replica_at, full_at, reply_packets, ticked, began, invoked, requested, known_after, fresh_stamp, carried_out, group_at, replied_at, heard, received, with_round, node_taught_by, view_counted, moved_at, is_void, requested_in, requested_as, no_step, vote_at, with_known, proposed, NodeStep, phase_packets, new_coordinator, view_floor, old_reply, synced_at, carried_for, job_reading, collect_packets, read_closed, synced_packets}
+use Rattle.protocol.specs.Coordinators.{Coordinator, Next, Ignores, Waits, Sends, Makes, Ends, request_of, on_reply, asked_group, hearing, counts_at}
+use Rattle.protocol.specs.Nodes.{view_at, Node, replica_at, full_at, reply_packets, ticked, began, invoked, requested, known_after, fresh_stamp, carried_out, group_at, replied_at, heard, received, with_round, node_taught_by, view_counted, moved_at, is_void, requested_in, requested_as, no_step, vote_at, with_known, proposed, NodeStep, phase_packets, new_coordinator, view_floor, old_reply, synced_at, carried_for, job_reading, collect_packets, read_closed, synced_packets, scrub_of, scrub_coordinator, scrubbed_at}
 use Rattle.protocol.specs.Worlds.{World, Event, first_world, world_stopped, happens, run}
 use Rattle.protocol_laws.specs.Laws.{RefusalIsTrue, RefusalsWereTrue, stamp_asked}
 use Rattle.protocol.proofs.Served.{request_each, TellsOld}
@@ -36,6 +36,8 @@ use Rattle.protocol_laws.proofs.Tops.{top_is_part}
 use Rattle.protocol_laws.proofs.StampViews.{StampViews, NodeViews, RequestIsOf, MessageIsOf, asks_above, free_for, always_views}
 use Rattle.protocol_laws.proofs.Left.{packet_was_sent}
 use Rattle.protocol_laws.proofs.Sendings.{Adds, adds_none, SentAt, sent_at}
+use Rattle.protocol.specs.Scrubs.{Scrub}
+use Rattle.fab_base.specs.declared.identities.StripeNo.{StripeNo}
 
 -- what a packet refuses is true of its sender in a world
 abbrev IsTrue : World → Packet → Type 0
@@ -206,11 +208,11 @@ module _ (setting : Setting) (w : World) where
   carried_true me node known c (Makes d) = phase_true setting w me d
   carried_true me node known c (Ends answer seen held) = each_collect (IsTrue w) me c held (λ t to. tt)
 
-  -- nor does what a brick sends for its synchronisation
-  carried_for_true : (me : BrickId) (now : ℕ) (node : Node) (known : ℕ) (c : Coordinator) (next : Next) (reading : Option Job)
-      → AreTrue w (carried_for setting me now node known c next reading).packets
-  carried_for_true me now node known c next reading =
-      carried_each (λ (step : NodeStep). AreTrue w step.packets) setting me now node known c next reading (carried_true me node known c next)
+  -- nor does what a brick sends for its synchronisation or its scrub
+  carried_for_true : (me : BrickId) (now : ℕ) (node : Node) (known : ℕ) (c heard : Coordinator) (next : Next) (reading : Option Job) (scrub : Option Scrub)
+      → AreTrue w (carried_for setting me now node known c heard next reading scrub).packets
+  carried_for_true me now node known c heard next reading scrub =
+      carried_each (λ (step : NodeStep). AreTrue w step.packets) setting me now node known c heard next reading scrub (carried_true me node known c next)
       (λ job is answer seen held ends.
       let collects = each_collect (IsTrue w) me c held (λ t to. tt) in
       record {
@@ -222,11 +224,22 @@ module _ (setting : Setting) (w : World) where
             let d : Coordinator = read_call group (record job { attempt = attempt }) me now (read_closed me node known c answer seen held).node in
             each_both (IsTrue w) (collect_packets me c held) (phase_packets setting me d) collects (phase_true setting w me d);
       })
+      (record {
+        begins = λ s is d sends. phase_true setting w me d;
+        ends = λ s is answer seen held ended.
+            each_both (IsTrue w) (collect_packets me c held) [] (each_collect (IsTrue w) me c held (λ t to. tt)) (each_none (IsTrue w));
+      })
 
   sync_true : (me : BrickId) (now : ℕ) (group : GroupId) → AreTrue w (synced_at setting me now (w.nodes me.0) group).packets
   sync_true me now group =
       synced_at_each (λ (step : NodeStep). AreTrue w step.packets) setting me now (w.nodes me.0) group (each_none (IsTrue w)) (λ answer. each_none (IsTrue w))
       (λ answer. each_none (IsTrue w)) (λ kept is. phase_true setting w me (read_call kept (begun_job group ((w.nodes me.0).learnt group.0).view) me now (w.nodes me.0)))
+
+  scrub_true : (me : BrickId) (now : ℕ) (group : GroupId) (stripe : StripeNo) (members : List BrickId)
+      → AreTrue w (scrubbed_at setting me now (w.nodes me.0) group stripe members).packets
+  scrub_true me now group stripe members =
+      scrubbed_at_each (λ (step : NodeStep). AreTrue w step.packets) setting me now (w.nodes me.0) group stripe members (each_none (IsTrue w))
+      (λ kept is. phase_true setting w me (scrub_coordinator kept me now (w.nodes me.0) group stripe members))
 
   -- what is of views refuses nothing
   ballots_true : (packets : List Packet) → AreOfViews packets → AreTrue w packets
@@ -239,9 +252,9 @@ module _ (setting : Setting) (w : World) where
       ballot_each (λ (step : NodeStep). AreTrue w step.packets) setting.layout me from (with_known node (known_after node.known reply)) call reply node.proposal
       (λ seq round proposal packets reports more are. ballots_true packets are)
   replied_true me now from node call reply (Some c) =
-      carried_for_true me now node (known_after node.known reply) c
+      carried_for_true me now node (known_after node.known reply) c (hearing c from reply (counts_at setting.layout.block c from.0 call reply))
       (on_reply setting.layout.block setting.code (fresh_stamp me c.stamp.view now node.boot (known_after node.known reply)) c from call reply)
-      (job_reading node.job c.call.seq)
+      (job_reading node.job c.call.seq) (scrub_of node.scrub c.call.seq)
 
   heard_true : (me : BrickId) (now : ℕ) (from : BrickId) (call : Call) (reply : Reply) → AreTrue w (heard setting me now from (w.nodes me.0) call reply).packets
   heard_true me now from call reply =
@@ -297,6 +310,12 @@ adds_cases setting w views = record {
         packets = refl;
         each = sync_true setting w brick (w.clocks brick.0) group;
       };
+  scrubs = λ brick group stripe members may.
+      record {
+        more = (scrubbed_at setting brick (w.clocks brick.0) (w.nodes brick.0) group stripe members).packets;
+        packets = refl;
+        each = scrub_true setting w brick (w.clocks brick.0) group stripe members;
+      };
   handles = λ number packet at up.
       record {
         more = (step_on setting w packet).packets;
@@ -309,7 +328,7 @@ adds_cases setting w views = record {
       record {
         more = ticked setting brick (w.nodes brick.0);
         packets = refl;
-        each = each_tick (IsTrue w) setting brick (w.nodes brick.0).calls (λ k c is seat to. tt) (λ k c is later from to. tt) (w.nodes brick.0).job
+        each = each_tick (IsTrue w) setting brick (w.nodes brick.0).calls (λ k c is seat to. tt) (λ k c is later from to. tt) (w.nodes brick.0).job (w.nodes brick.0).scrub
             (w.nodes brick.0).seq (w.nodes brick.0).proposal
             (ballots_true setting w _ (resent_of_views brick (w.nodes brick.0).proposal));
       };

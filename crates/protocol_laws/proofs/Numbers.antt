@@ -6,7 +6,7 @@ use Rattle.reg_model.specs.declared.marks.Mark.{Mark}
 use Rattle.reg_model.specs.declared.marks.Mark.TheVariants.{Begin, End, Crash}
 use Rattle.reg_model.specs.Marks.{begun_numbers}
 use Rattle.protocol.specs.Settings.{Setting}
-use Rattle.protocol.specs.Nodes.{proposed, synced_at}
+use Rattle.protocol.specs.Nodes.{proposed, synced_at, scrubbed_at}
 use Rattle.protocol.specs.Worlds.{World, Event, run, first_world}
 use Rattle.reg_model.proofs.AddedMarks.{begun_numbers-append, slice_get_push}
 use Rattle.protocol.proofs.Events.{EventCases, step_on, world_counting, stepped_each, started_each, always}
@@ -55,6 +55,10 @@ numbered_cases setting w numbered = record {
       (λ x nodes held packets choices holds. holds) w numbered;
   syncs = λ brick group may.
       stepped_each IsNumbered setting brick (synced_at setting brick (w.clocks brick.0) (w.nodes brick.0) group) (λ x seq t base holds. holds)
+      (λ x seq v holds. holds) (λ x nodes call holds. holds) (λ x seq cause holds. holds)
+      (λ x one holds. numbered_on x.marks (End (length x.marks) _ one.answer) x.marked refl holds) (λ x nodes held packets choices holds. holds) w numbered;
+  scrubs = λ brick group stripe members may.
+      stepped_each IsNumbered setting brick (scrubbed_at setting brick (w.clocks brick.0) (w.nodes brick.0) group stripe members) (λ x seq t base holds. holds)
       (λ x seq v holds. holds) (λ x nodes call holds. holds) (λ x seq cause holds. holds)
       (λ x one holds. numbered_on x.marks (End (length x.marks) _ one.answer) x.marked refl holds) (λ x nodes held packets choices holds. holds) w numbered;
   handles = λ number packet at up.

@@ -14,7 +14,6 @@ use Rattle.fab_base.specs.declared.answers.Answer.TheVariants.{Data, Done, Abort
 use Rattle.fab_base.specs.declared.answers.Cause.{Cause}
 use Rattle.messages.specs.declared.calls.Call.{Call}
 use Rattle.fab_base.specs.Layouts.{Group}
-use Rattle.quorum.specs.Quorums.{quorum_of}
 use Rattle.reg_model.specs.Registers.{read_of, after_op}
 use Rattle.protocol.specs.Settings.{Code}
 use Rattle.protocol.specs.declared.phases.Phase.{Phase}
@@ -22,7 +21,7 @@ use Rattle.protocol.specs.declared.phases.Phase.TheVariants.{Looks, LooksAt, Ord
 use Rattle.protocol.specs.declared.phases.Counted.{Counted}
 use Rattle.protocol.specs.declared.phases.Refuser.{Refuser}
 use Rattle.protocol.specs.declared.phases.FullMember.{FullMember}
-use Rattle.protocol.specs.Coordinators.{Coordinator, Next, Ignores, Waits, Sends, Makes, Ends, next_phase, in_phase, restoring, reordering, forgetting, most_rounds, aborted_by, unless_told_full, unless_told_moved, lowest_mover, ordered_again, once_ordered, unless_refused, answered_fast, read_back, answer_with, pieces_at, greatest_refuser, lowest_full, greatest_found, fast_version, decided, once_full, answered_fast_at, modified_if, once_modified, rebuilt, some_behind, bytes_at, block_written, fast_version_at, common_version_at, asked_view, asked_group, looks_back, may_look_back, lower_phase, lowest_dropper, unless_told_gone}
+use Rattle.protocol.specs.Coordinators.{Coordinator, Next, Ignores, Waits, Sends, Makes, Ends, next_phase, in_phase, restoring, reordering, forgetting, most_rounds, aborted_by, unless_told_full, unless_told_moved, lowest_mover, ordered_again, once_ordered, unless_refused, answered_fast, read_back, answer_with, pieces_at, greatest_refuser, lowest_full, greatest_found, fast_version, decided, once_full, answered_fast_at, modified_if, once_modified, rebuilt, some_behind, bytes_at, block_written, fast_version_at, common_version_at, asked_view, looks_back, may_look_back, lower_phase, lowest_dropper, unless_told_gone, needed}
 use Rattle.protocol.specs.Worlds.{is_answer}
 
 -- the call of an operation's next phase
@@ -34,6 +33,7 @@ pub record SameOperation (c d : Coordinator) : Type 0 where
   pub ask : d.ask ≡ c.ask
   pub members : d.group ≡ c.group
   pub prior : d.prior ≡ c.prior
+  pub only : d.only ≡ c.only
   pub boot : d.call.boot ≡ c.call.boot
   pub seq : d.call.seq ≡ c.call.seq
   pub group : d.call.group ≡ c.call.group
@@ -44,12 +44,19 @@ abbrev pub IsRebuild : Phase → Type 0
 IsRebuild (Bases base) = Unit {0}
 IsRebuild phase = ⊥
 
+-- a phase in which a read looks
+abbrev pub IsLook : Phase → Type 0
+IsLook Looks = Unit {0}
+IsLook (LooksAt j) = Unit {0}
+IsLook phase = ⊥
+
 -- it forgot the replies that counted: none refused what it was asked, or told a later stamp in a phase that orders; and none found a version, unless it reads a base back
 pub record Forgets (c d : Coordinator) : Type 0 where
   pub counted : d.counted ≡ []
   pub stops : NoneStops c.counted
   pub refused : looks_back c.phase ≡ false → greatest_refuser c.counted ≡ None
   pub found : (greatest_found c.counted ≡ None) ⊎ IsRebuild c.phase
+  pub later : IsLook c.phase → ⊥
 
 -- it waits in its phase, with the replies that count, or once it forgot them
 pub record WaitsFits (c d : Coordinator) : Type 0 where
@@ -73,12 +80,6 @@ IsRound (LooksBack bound) = ⊥
 IsRound (Modifies base j) = ⊥
 IsRound (Bases base) = ⊥
 IsRound Stores = ⊥
-
--- a phase in which a read looks
-abbrev pub IsLook : Phase → Type 0
-IsLook Looks = Unit {0}
-IsLook (LooksAt j) = Unit {0}
-IsLook phase = ⊥
 
 -- a phase that an operation is in once it made its version
 abbrev pub IsMaking : Phase → Type 0
@@ -146,6 +147,7 @@ MakesIn d = (d.phase ≡ Stores) ⊎ ((base : Stamp) × (j : ℕ) × (d.phase �
 pub record MakesFits (c d : Coordinator) : Type 0 where
   pub same : SameOperation c d
   pub unmade : IsMaking c.phase → ⊥
+  pub later : IsLook c.phase → ⊥
   pub phase : MakesIn d
   pub stamp : d.stamp ≡ c.stamp
   pub round : d.round ≡ c.round
@@ -240,18 +242,29 @@ NextFits fresh c (Makes d) = MakesFits c d
 NextFits fresh c (Ends answer seen stored) = EndFits c.phase answer seen × AnswerFits fresh c answer
 
 -- a coordinator of these parts
-abbrev at : Group → List BrickId → Ask → Stamp → ℕ → Option Stamp → List ℕ → Call → Phase → List Counted → Coordinator
-at group prior ask stamp round base content call phase counted =
-    record { group = group; prior = prior; ask = ask; stamp = stamp; round = round; base = base; content = content; call = call; phase = phase; counted = counted }
+abbrev at : Group → List BrickId → Option (List BrickId) → Ask → Stamp → ℕ → Option Stamp → List ℕ → Call → Phase → List Counted → Coordinator
+at group prior only ask stamp round base content call phase counted = record {
+  group = group;
+  prior = prior;
+  only = only;
+  ask = ask;
+  stamp = stamp;
+  round = round;
+  base = base;
+  content = content;
+  call = call;
+  phase = phase;
+  counted = counted;
+}
 
-module _ (group : Group) (prior : List BrickId) (ask : Ask) (stamp : Stamp) (round : ℕ) (base : Option Stamp) (content : List ℕ) (call : Call) (counted : List Counted) where
+module _ (group : Group) (prior : List BrickId) (only : Option (List BrickId)) (ask : Ask) (stamp : Stamp) (round : ℕ) (base : Option Stamp) (content : List ℕ) (call : Call) (counted : List Counted) where
   -- the coordinator in a phase
   abbrev within : Phase → Coordinator
-  within phase = at group prior ask stamp round base content call phase counted
+  within phase = at group prior only ask stamp round base content call phase counted
 
   waits_fits : (phase : Phase) → WaitsFits (within phase) (within phase)
   waits_fits phase = record {
-    same = record { ask = refl; members = refl; prior = refl; boot = refl; seq = refl; group = refl; stripe = refl };
+    same = record { ask = refl; members = refl; prior = refl; only = refl; boot = refl; seq = refl; group = refl; stripe = refl };
     stamp = refl;
     round = refl;
     base = refl;
@@ -260,26 +273,27 @@ module _ (group : Group) (prior : List BrickId) (ask : Ask) (stamp : Stamp) (rou
     counted = inl refl;
   }
 
-  forgets_fits : (phase : Phase) → (looks_back phase ≡ false → greatest_refuser counted ≡ None) → NoneStops counted
+  forgets_fits : (phase : Phase) → (IsLook phase → ⊥) → (looks_back phase ≡ false → greatest_refuser counted ≡ None) → NoneStops counted
       → (greatest_found counted ≡ None) ⊎ IsRebuild phase → WaitsFits (within phase) (forgetting (within phase))
-  forgets_fits phase none roomy nothing = record {
-    same = record { ask = refl; members = refl; prior = refl; boot = refl; seq = refl; group = refl; stripe = refl };
+  forgets_fits phase later none roomy nothing = record {
+    same = record { ask = refl; members = refl; prior = refl; only = refl; boot = refl; seq = refl; group = refl; stripe = refl };
     stamp = refl;
     round = refl;
     base = refl;
     call = refl;
     phase = refl;
-    counted = inr (record { counted = refl; stops = roomy; refused = none; found = nothing });
+    counted = inr (record { counted = refl; stops = roomy; refused = none; found = nothing; later = later });
   }
 
   same_next : (phase next : Phase) (base_of : Option Stamp) (bytes : List ℕ) → SameOperation (within phase)
       (record (in_phase (within phase) next) { base = base_of; content = bytes })
-  same_next phase next base_of bytes = record { ask = refl; members = refl; prior = refl; boot = refl; seq = refl; group = refl; stripe = refl }
+  same_next phase next base_of bytes = record { ask = refl; members = refl; prior = refl; only = refl; boot = refl; seq = refl; group = refl; stripe = refl }
 
-  makes_fits : (phase : Phase) → (IsMaking phase → ⊥) → MakesFits (within phase) (in_phase (within phase) Stores)
-  makes_fits phase unmade = record {
+  makes_fits : (phase : Phase) → (IsMaking phase → ⊥) → (IsLook phase → ⊥) → MakesFits (within phase) (in_phase (within phase) Stores)
+  makes_fits phase unmade later = record {
     same = same_next phase Stores base content;
     unmade = unmade;
+    later = later;
     phase = inl refl;
     stamp = refl;
     round = refl;
@@ -287,11 +301,12 @@ module _ (group : Group) (prior : List BrickId) (ask : Ask) (stamp : Stamp) (rou
     counted = refl;
   }
 
-  restores_fits : (block : ℕ) (phase : Phase) (v : Stamp) (bytes : List ℕ) → (IsMaking phase → ⊥)
+  restores_fits : (block : ℕ) (phase : Phase) (v : Stamp) (bytes : List ℕ) → (IsMaking phase → ⊥) → (IsLook phase → ⊥)
       → MakesFits (within phase) (restoring block (within phase) v bytes)
-  restores_fits block phase v bytes unmade = record {
+  restores_fits block phase v bytes unmade later = record {
     same = same_next phase Stores (Some v) (after_op block ask.op bytes);
     unmade = unmade;
+    later = later;
     phase = inl refl;
     stamp = refl;
     round = refl;
@@ -353,6 +368,7 @@ module _ (group : Group) (prior : List BrickId) (ask : Ask) (stamp : Stamp) (rou
   modified_fits code fresh j (Some v) = record {
     same = same_next (OrdersAt j) (Modifies v j) (Some v) (code.delta (bytes_at j counted) (block_written ask.op));
     unmade = λ is. is;
+    later = λ is. is;
     phase = inr (v, j, refl, refl);
     stamp = refl;
     round = refl;
@@ -380,7 +396,7 @@ module _ (group : Group) (prior : List BrickId) (ask : Ask) (stamp : Stamp) (rou
       cond_both (nat_lt (length (pieces_at v counted)) group.m) (Waits (forgetting (within (Bases v))))
       (Sends (restoring block (within (Bases v)) v (code.decode group.m (pieces_at v counted))))
       (λ (next : Next). NextFits fresh (within (Bases v)) next)
-      (λ few. forgets_fits (Bases v) (λ ahead. none) roomy (inr tt))
+      (λ few. forgets_fits (Bases v) (λ is. is) (λ ahead. none) roomy (inr tt))
       (λ enough. record {
         same = same_next (Bases v) Stores (Some v) (after_op block ask.op (code.decode group.m (pieces_at v counted)));
         call = refl;
@@ -389,19 +405,19 @@ module _ (group : Group) (prior : List BrickId) (ask : Ask) (stamp : Stamp) (rou
       })
 
   read_back_fits : (block : ℕ) (code : Code) (fresh : Option Stamp) (phase : Phase) (v : Option Stamp) → greatest_found counted ≡ v → (IsMaking phase → ⊥)
-      → (IsRebuild phase → ⊥) → (looks_back phase ≡ false → greatest_refuser counted ≡ None) → NoneStops counted
+      → (IsLook phase → ⊥) → (IsRebuild phase → ⊥) → (looks_back phase ≡ false → greatest_refuser counted ≡ None) → NoneStops counted
       → NextFits fresh (within phase) (read_back block code (within phase) v)
-  read_back_fits block code fresh phase None nothing unmade other none roomy =
+  read_back_fits block code fresh phase None nothing unmade later other none roomy =
       cond_both (may_look_back (within phase)) (Sends (in_phase (within phase) (LooksBack None))) (Waits (forgetting (within phase)))
       (λ (next : Next). NextFits fresh (within phase) next)
       (λ may. looks_back_fits fresh phase unmade other (not-true (looks_back phase) (and_parts (nat_lt 1 stamp.view.0) (not (looks_back phase)) may).1) nothing)
-      (λ isnt. forgets_fits phase none roomy (inl nothing))
-  read_back_fits block code fresh phase (Some v) found unmade other none roomy =
+      (λ isnt. forgets_fits phase later none roomy (inl nothing))
+  read_back_fits block code fresh phase (Some v) found unmade later other none roomy =
       cond_both (nat_lt (length (pieces_at v counted)) group.m) (Sends (in_phase (within phase) (lower_phase phase v)))
       (Makes (restoring block (within phase) v (code.decode group.m (pieces_at v counted))))
       (λ (next : Next). NextFits fresh (within phase) next)
       (λ few. lower_fits fresh phase v unmade)
-      (λ enough. restores_fits block phase v (code.decode group.m (pieces_at v counted)) unmade)
+      (λ enough. restores_fits block phase v (code.decode group.m (pieces_at v counted)) unmade later)
 
   -- an abort in a phase that is no round of ordering, or in the last one
   aborts_fits : (fresh : Option Stamp) (phase : Phase) (r : Refuser) → greatest_refuser counted ≡ Some r → LastFits fresh (within phase) phase
@@ -426,7 +442,7 @@ module _ (group : Group) (prior : List BrickId) (ask : Ask) (stamp : Stamp) (rou
       cond_both (nat_lt round most_rounds) (Sends (reordering (within phase) t)) (aborted_by r)
       (λ (next : Next). NextFits (Some t) (within phase) next)
       (λ few. record {
-        same = record { ask = refl; members = refl; prior = refl; boot = refl; seq = refl; group = refl; stripe = refl };
+        same = record { ask = refl; members = refl; prior = refl; only = refl; boot = refl; seq = refl; group = refl; stripe = refl };
         call = refl;
         counted = refl;
         how = inl (record {
@@ -444,7 +460,7 @@ module _ (group : Group) (prior : List BrickId) (ask : Ask) (stamp : Stamp) (rou
 
   ordered_fits : (fresh : Option Stamp) (r : Option Refuser) → greatest_refuser counted ≡ r
       → NextFits fresh (within Orders) (once_ordered fresh (within Orders) r (Makes (in_phase (within Orders) Stores)))
-  ordered_fits fresh None refused = makes_fits Orders (λ is. is)
+  ordered_fits fresh None refused = makes_fits Orders (λ is. is) (λ is. is)
   ordered_fits fresh (Some r) refused = again_fits fresh Orders r tt (λ f none. none) (λ is. is) refused
 
   ordered_at_fits : (code : Code) (fresh : Option Stamp) (j : ℕ) (r : Option Refuser) → greatest_refuser counted ≡ r
@@ -454,14 +470,14 @@ module _ (group : Group) (prior : List BrickId) (ask : Ask) (stamp : Stamp) (rou
 
   recovered_fits : (block : ℕ) (code : Code) (fresh : Option Stamp) (r : Option Refuser) → greatest_refuser counted ≡ r → NoneStops counted
       → NextFits fresh (within Recovers) (once_ordered fresh (within Recovers) r (read_back block code (within Recovers) (greatest_found counted)))
-  recovered_fits block code fresh None refused roomy = read_back_fits block code fresh Recovers (greatest_found counted) refl (λ is. is) (λ is. is) (λ ahead. refused) roomy
+  recovered_fits block code fresh None refused roomy = read_back_fits block code fresh Recovers (greatest_found counted) refl (λ is. is) (λ is. is) (λ is. is) (λ ahead. refused) roomy
   recovered_fits block code fresh (Some r) refused roomy = again_fits fresh Recovers r tt (λ f none. none) (λ is. is) refused
 
   descended_fits : (block : ℕ) (code : Code) (fresh : Option Stamp) (bound : Stamp) (r : Option Refuser) → greatest_refuser counted ≡ r
       → NoneStops counted
       → NextFits fresh (within (Descends bound)) (unless_refused r (read_back block code (within (Descends bound)) (greatest_found counted)))
   descended_fits block code fresh bound None refused roomy =
-      read_back_fits block code fresh (Descends bound) (greatest_found counted) refl (λ is. is) (λ is. is) (λ ahead. refused) roomy
+      read_back_fits block code fresh (Descends bound) (greatest_found counted) refl (λ is. is) (λ is. is) (λ is. is) (λ ahead. refused) roomy
   descended_fits block code fresh bound (Some r) refused roomy = aborts_fits fresh (Descends bound) r refused tt
 
   modifies_fits : (fresh : Option Stamp) (v : Stamp) (j : ℕ) (r : Option Refuser) → greatest_refuser counted ≡ r
@@ -497,7 +513,7 @@ module _ (group : Group) (prior : List BrickId) (ask : Ask) (stamp : Stamp) (rou
       unless_told_fits fresh (Descends bound) _ (lowest_mover counted) (lowest_dropper counted) (lowest_full counted) refl refl refl (descended_fits block code fresh bound (greatest_refuser counted) refl)
   decided_fits block code fresh (LooksBack bound) =
       unless_told_fits fresh (LooksBack bound) _ (lowest_mover counted) (lowest_dropper counted) (lowest_full counted) refl refl refl
-      (read_back_fits block code fresh (LooksBack bound) (greatest_found counted) refl (λ is. is) (λ is. is) (λ ahead. absurd (false≢true (sym ahead))))
+      (read_back_fits block code fresh (LooksBack bound) (greatest_found counted) refl (λ is. is) (λ is. is) (λ is. is) (λ ahead. absurd (false≢true (sym ahead))))
   decided_fits block code fresh (Modifies u j) =
       unless_told_fits fresh (Modifies u j) _ (lowest_mover counted) (lowest_dropper counted) (lowest_full counted) refl refl refl (λ roomy. modifies_fits fresh u j (greatest_refuser counted) refl)
   decided_fits block code fresh (Bases u) =
@@ -505,9 +521,9 @@ module _ (group : Group) (prior : List BrickId) (ask : Ask) (stamp : Stamp) (rou
   decided_fits block code fresh Stores =
       unless_told_fits fresh Stores _ (lowest_mover counted) (lowest_dropper counted) (lowest_full counted) refl refl refl (λ roomy. stored_fits fresh (Some stamp) (read_of block ask.op content) (greatest_refuser counted) refl)
 
--- what a coordinator decides, with a quorum of replies or without, fits it
+-- what a coordinator decides, with as many replies as are needed or without, fits it
 pub once_full_fits : (block : ℕ) (code : Code) (fresh : Option Stamp) (c : Coordinator) → NextFits fresh c (once_full block code fresh c)
 once_full_fits block code fresh c =
-    cond_both (nat_lt (length c.counted) (quorum_of (asked_group c))) _ _ (λ (next : Next). NextFits fresh c next)
-    (λ few. waits_fits c.group c.prior c.ask c.stamp c.round c.base c.content c.call c.counted c.phase)
-    (λ enough. decided_fits c.group c.prior c.ask c.stamp c.round c.base c.content c.call c.counted block code fresh c.phase)
+    cond_both (nat_lt (length c.counted) (needed c)) _ _ (λ (next : Next). NextFits fresh c next)
+    (λ few. waits_fits c.group c.prior c.only c.ask c.stamp c.round c.base c.content c.call c.counted c.phase)
+    (λ enough. decided_fits c.group c.prior c.only c.ask c.stamp c.round c.base c.content c.call c.counted block code fresh c.phase)

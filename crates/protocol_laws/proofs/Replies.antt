@@ -33,7 +33,7 @@ use Rattle.protocol.specs.declared.phases.Refuser.{Refuser}
 use Rattle.protocol.specs.declared.phases.FullMember.{FullMember}
 use Rattle.protocol.specs.declared.phases.Phase.{Phase}
 use Rattle.protocol.specs.declared.phases.Phase.TheVariants.{Looks, LooksAt, Orders, OrdersAt, Recovers, Descends, Modifies, Bases, Stores, LooksBack}
-use Rattle.protocol.specs.Coordinators.{Coordinator, Next, Waits, Sends, Makes, Ends, answers_phase, has_seat, counts_at, fast_version, pieces_of, pieces_at, greatest_found, greatest_refuser, lowest_full, in_phase, restoring, reordering, most_rounds, aborted_by, unless_told_full, unless_told_moved, lowest_mover, unless_refused, ordered_again, once_ordered, answered_fast, read_back, answer_with, decided, with_reply, once_full, counted_at, on_reply, request_of, fast_version_at, common_version, common_version_at, bytes_at, block_written, some_behind, answered_fast_at, modifying, modified_if, once_modified, rebuilt, forgetting, asked_group, looks_back, old_bound, lower_phase, may_look_back, lowest_dropper, unless_told_gone}
+use Rattle.protocol.specs.Coordinators.{Coordinator, Next, Waits, Sends, Makes, Ends, answers_phase, has_seat, counts_at, fast_version, pieces_of, pieces_at, greatest_found, greatest_refuser, lowest_full, in_phase, restoring, reordering, most_rounds, aborted_by, unless_told_full, unless_told_moved, lowest_mover, unless_refused, ordered_again, once_ordered, answered_fast, read_back, answer_with, decided, with_reply, once_full, counted_at, on_reply, request_of, fast_version_at, common_version, common_version_at, bytes_at, block_written, some_behind, answered_fast_at, modifying, modified_if, once_modified, rebuilt, forgetting, asked_group, looks_back, old_bound, lower_phase, may_look_back, lowest_dropper, unless_told_gone, needed}
 use Rattle.protocol.specs.Nodes.{Node, has_block, has_length, given_content, with_known, with_call, carried_out}
 use Rattle.protocol.specs.Worlds.{World, Operation, number_of, world_stepped, content_on, is_answer}
 use Rattle.protocol.specs.Happenings.{writes}
@@ -53,6 +53,7 @@ use Rattle.protocol_laws.proofs.Recoveries.{version_lower, version_above, versio
 use Rattle.protocol_laws.proofs.Stores.{MakesOn, SendsVersion, made_content, said_made}
 use Rattle.protocol_laws.proofs.Sends.{IsCovered, MayBegin, said_sent}
 use Rattle.protocol_laws.proofs.Ends.{WillShow, EndsWell}
+use Rattle.protocol.proofs.Needed.{needs_quorum}
 
 -- a brick that only learns a time keeps the invariant
 pub said_known : (setting : Setting) (views : Views) (w : World) (stamps : Stamping) (me : BrickId) (known : ℕ) → Books setting w → Said setting views w stamps
@@ -883,10 +884,13 @@ module _ (setting : Setting) (views : Views) (sound : IsSound setting) (w : Worl
     -- a reply that counts keeps the invariant
     counts : Goes (once_full setting.layout.block setting.code fresh d)
     counts =
-        cond_both (nat_lt (length d.counted) (quorum_of asked)) (Waits d) (decided setting.layout.block setting.code fresh d)
+        cond_both (nat_lt (length d.counted) (needed d)) (Waits d) (decided setting.layout.block setting.code fresh d)
         (λ (z : Next). Goes z)
         (λ fewer. said_waits d more_says)
-        (λ enough. decides (ltb-false (length d.counted) (quorum_of asked) enough))
+        (λ enough.
+        let all : needed d ≤ length d.counted = ltb-false (length d.counted) (needed d) enough in
+        let most : quorum_of asked ≤ needed d = needs_quorum d its.enough in
+        decides (omega (arith, all, most)))
 
   -- whether or not it counts
   counted_or_not : (from : BrickId) (call : Call) (reply : Reply) → WasSent w (record { from = from; to = me; message = Message.Reply call reply })

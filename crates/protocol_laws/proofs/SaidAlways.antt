@@ -11,7 +11,6 @@ use Rattle.fab_base.specs.declared.identities.BrickId.{BrickId}
 use Rattle.fab_base.specs.declared.identities.ViewNo.{ViewNo}
 use Rattle.fab_base.specs.declared.stamps.Stamp.{Stamp}
 use Rattle.fab_base.specs.declared.asks.Ask.{Ask}
-use Rattle.fab_base.specs.declared.answers.Answer.{Answer}
 use Rattle.fab_base.specs.Stamps.{stamp_below, stamp_same, first_stamp}
 use Rattle.fab_base.proofs.StampOrder.{stamp_same_refl, stamp_same_true, stamp_below_first}
 use Rattle.messages.specs.declared.calls.Call.{Call}
@@ -26,11 +25,11 @@ use Rattle.fab_base.specs.Layouts.{Group, group_of, Layout}
 use Rattle.protocol.specs.Settings.{Setting, IsSound}
 use Rattle.protocol.specs.Replicas.{Reaction, first_replica, top_of, handle, is_held, Replica}
 use Rattle.protocol.specs.Coordinators.{Coordinator, Next, Ignores, Waits, Sends, Makes, Ends, on_reply}
-use Rattle.protocol.specs.Jobs.{Job, sync_refusal_in}
-use Rattle.protocol.specs.Nodes.{Node, NodeStep, put, with_known, with_replica, replica_at, reacted, full_at, reply_packets, ticked, stopped, restarted, new_stamp, fresh_stamp, no_step, began, invoked, requested, known_after, replied_at, received, group_at, view_at, moved_at, vote_at, heard, with_round, proposed, node_taught_by, view_counted, lists_fit, carried_out, job_reading, sync_refusal}
+use Rattle.protocol.specs.Jobs.{Job, sync_refusal_in, abort_cause}
+use Rattle.protocol.specs.Nodes.{Node, NodeStep, put, with_known, with_replica, replica_at, reacted, full_at, reply_packets, ticked, stopped, restarted, new_stamp, fresh_stamp, no_step, began, invoked, requested, known_after, replied_at, received, group_at, view_at, moved_at, vote_at, heard, with_round, proposed, node_taught_by, view_counted, lists_fit, carried_out, job_reading, sync_refusal, scrub_of, scrubbed_at, members_alone}
 use Rattle.protocol.specs.Worlds.{World, Found, Before, After, Event, replies_with, first_world, is_up, zero_content, world_ticked, left_after, packet_during, world_stopped, world_found, world_started, may_begin, world_began, world_stepped, run, reached_during, voiced}
 use Rattle.protocol_laws.specs.Laws.{WasSent, Follows, RunFollows}
-use Rattle.protocol_laws.proofs.Books.{Books, IsCall}
+use Rattle.protocol_laws.proofs.Books.{Books, IsCall, ForJob, ForScrub, own_seq}
 use Rattle.protocol_laws.proofs.Left.{IsLeft, kept_of, Leaves, always_leaves, packet_was_sent}
 use Rattle.protocol_laws.proofs.Said.{Stamping, Said, IsSaid, IsStampOf, VersionSays, PacketSays, WasCollected, IsMadeOrFirst, IsBottom}
 use Rattle.protocol_laws.proofs.BooksEvents.{known_grows, fresh_is, BeginFits, begin_fits, start_fits, books_found, books, books_beside, books_kept, hearing_keeps, group_there, fits_at, books_closing}
@@ -47,20 +46,24 @@ use Rattle.protocol_laws.proofs.Hearing.{kept_world, taught_by, hearing_each}
 use Rattle.protocol_laws.proofs.Votes.{vote_each, moved_each}
 use Rattle.protocol_laws.proofs.Proposing.{AreOfViews, of_views_each, ballot_each, proposed_each}
 use Rattle.protocol.specs.declared.tellings.Report.{Report}
-use Rattle.protocol_laws.proofs.BooksKept.{KeepsCalls, keeps_itself, call_marked}
+use Rattle.protocol_laws.proofs.BooksKept.{KeepsCalls, keeps_itself, call_marked, reading_is, scrub_is, job_seq, scrub_seq, own_books, call_unmarked}
 use Rattle.protocol.specs.Ballots.{Voted}
 use Rattle.protocol.specs.Proposals.{Proposal}
 use Rattle.fab_base.specs.declared.identities.GroupId.{GroupId}
 use Rattle.fab_base.specs.declared.stamps.Ballot.{Ballot}
 use Rattle.protocol_laws.proofs.Sends.{ticked_was_sent}
 use Rattle.protocol_laws.proofs.Replies.{said_known, Goes, reply_goes}
-use Rattle.protocol_laws.proofs.Begins.{said_began}
-use Rattle.protocol_laws.proofs.Ends.{said_ended}
-use Rattle.protocol_laws.proofs.Closing.{ClosesNone, closing_each}
-use Rattle.protocol_laws.proofs.SaidReads.{said_after_read, said_syncs}
+use Rattle.protocol_laws.proofs.Begins.{said_began, said_scrub}
+use Rattle.protocol_laws.proofs.Ends.{said_ended, said_closed}
+use Rattle.protocol_laws.proofs.Closing.{ClosesNone, closing_each, closed_world, closed_no_read}
+use Rattle.protocol_laws.proofs.SaidReads.{said_after_read, said_syncs, said_scrubless}
 use Rattle.protocol.proofs.Events.{EventCases, world_handled, world_counting, run_along}
 use Rattle.protocol_laws.proofs.StampViews.{StampViews, always_views}
 use Rattle.protocol.specs.Views.{Views, view_of, group_in, group_kept, view_told}
+use Rattle.protocol.specs.Scrubs.{Scrub, scrub_answer}
+use Rattle.fab_base.specs.declared.identities.StripeNo.{StripeNo}
+use Rattle.protocol_laws.proofs.Noting.{noted_by, replied_noted, noting_each, noted_keeps, noted_places}
+use Rattle.view_laws.proofs.SyncReads.{scrubbed_at_each}
 
 -- the world after a brick's step
 abbrev stepped : Setting → World → BrickId → NodeStep → World
@@ -129,7 +132,7 @@ module _ (setting : Setting) (views : Views) (w : World) (stamps : Stamping) (bo
       })) stamps
   aside_said me known seq round proposal packets reports knows more are =
       let node : Node = record (w.nodes me.0) { known = known; seq = seq; round = round; proposal = proposal } in
-      let keeps : KeepsCalls (w.nodes me.0) node = (record { boot = refl; seq = more; known = knows }, λ l. refl, refl) in
+      let keeps : KeepsCalls (w.nodes me.0) node = (record { boot = refl; seq = more; known = knows }, λ l. refl, refl, refl) in
       said_reports setting views w stamps me books said node packets reports keeps
       (said_placed setting views w stamps me books said node packets (refl, refl, refl) keeps
       (of_views_each (PacketSays setting views (quiet w me node packets) stamps) (λ from to group view. tt) (λ from to call ballot. tt)
@@ -142,18 +145,18 @@ module _ (setting : Setting) (views : Views) (w : World) (stamps : Stamping) (bo
       proposed_each (λ (step : NodeStep). Said setting views (stepped setting w me step) stamps) setting me (w.nodes me.0) group members
       (λ seq round proposal packets reports more are. aside_said me (w.nodes me.0).known seq round proposal packets reports (omega arith) more are)
 
-  -- a brick does what it does with a reply to an open operation, or to its proposal
-  replied_said : (me from : BrickId) (now : ℕ) (call : Call) (reply : Reply) (found : Option Coordinator) → IsSound setting
+  -- a brick does what it does with a reply to an open operation, once it has noted who lagged, or to its proposal
+  noted_said : (me from : BrickId) (now : ℕ) (call : Call) (reply : Reply) (found : Option Coordinator) → IsSound setting
       → WasSent w (record { from = from; to = me; message = Message.Reply call reply }) → (w.nodes me.0).calls call.seq ≡ found
-      → IsSaid setting views (stepped setting w me (replied_at setting me now from (w.nodes me.0) call reply found))
-  replied_said me from now call reply None sound sent none =
+      → IsSaid setting views (stepped setting w me (replied_noted setting me now from (w.nodes me.0) call reply found))
+  noted_said me from now call reply None sound sent none =
       let known : ℕ = known_after (w.nodes me.0).known reply in (
         stamps,
         ballot_each (λ (step : NodeStep). Said setting views (stepped setting w me step) stamps) setting.layout me from (with_known (w.nodes me.0) known) call reply
             (w.nodes me.0).proposal (λ seq round proposal packets reports more are.
             aside_said me known seq round proposal packets reports (known_grows (w.nodes me.0).known reply) more are),
       )
-  replied_said me from now call reply (Some c) sound sent is =
+  noted_said me from now call reply (Some c) sound sent is =
       let seq : c.call.seq ≡ call.seq = (books.calls me.0 call.seq c is).call_seq in
       in_call (subst (λ (k : ℕ). IsCall w me.0 k c) (sym seq) is)
     where
@@ -168,6 +171,9 @@ module _ (setting : Setting) (views : Views) (w : World) (stamps : Stamping) (bo
 
       reading : Option Job
       reading = job_reading (w.nodes me.0).job c.call.seq
+
+      scrub : Option Scrub
+      scrub = scrub_of (w.nodes me.0).scrub c.call.seq
 
       decision : Next
       decision = on_reply setting.layout.block setting.code fresh c from call reply
@@ -185,30 +191,57 @@ module _ (setting : Setting) (views : Views) (w : World) (stamps : Stamping) (bo
           (λ t new. fresh_says setting w me c.stamp.view now known t (some is) books (known_grows (w.nodes me.0).known reply) new)
           (λ t new. ap (λ (z : Stamp). z.view) (fresh_is me c.stamp.view now (w.nodes me.0).boot known t new).0) from call reply sent
 
-      no_read : (z : Option Job) (answer : Answer) (seen stored : Option Stamp) → ClosesNone z (Ends answer seen stored) → z ≡ None
-      no_read None answer seen stored none = refl
-      no_read (Some job) answer seen stored none = absurd (none job answer seen stored refl refl)
-
       -- it is carried out
-      carries : (is : IsCall w me.0 c.call.seq c) (z : Next) → IsWell is z → ClosesNone reading z
+      carries : (is : IsCall w me.0 c.call.seq c) (z : Next) → IsWell is z → ClosesNone reading scrub z
           → IsSaid setting views (stepped setting w me (carried_out setting me (w.nodes me.0) known c z))
       carries is Ignores well none = well
       carries is (Waits d) well none = well
       carries is (Sends d) well none = well
       carries is (Makes d) well none = well
-      carries is (Ends answer seen stored) well none = (
-        stamps,
-        said_ended setting views w stamps me c known books said is (known_grows (w.nodes me.0).known reply) answer seen stored
-            (call_marked setting w me.0 c.call.seq c (books.calls me.0 c.call.seq c is) (no_read reading answer seen stored none)) well,
-      )
+      carries is (Ends answer seen stored) well none =
+          (let neither = none answer seen stored refl in (
+            stamps,
+            said_ended setting views w stamps me c known books said is (known_grows (w.nodes me.0).known reply) answer seen stored
+                (call_marked setting w me.0 c.call.seq c (books.calls me.0 c.call.seq c is) neither.0 neither.1) well,
+          ))
 
       in_call : IsCall w me.0 c.call.seq c
-          → IsSaid setting views (stepped setting w me (replied_at setting me now from (w.nodes me.0) call reply (Some c)))
+          → IsSaid setting views (stepped setting w me (replied_noted setting me now from (w.nodes me.0) call reply (Some c)))
       in_call is =
-          closing_each (IsSaid setting views) setting w me now known c decision reading (carries is decision (goes is))
+          closing_each (IsSaid setting views) setting w me now known c decision reading scrub (carries is decision (goes is))
           (λ job reads answer seen stored ends.
+          let mine = reading_is (w.nodes me.0).job c.call.seq job reads in
           said_after_read setting views w stamps me now c known books said is (known_grows (w.nodes me.0).known reply) answer seen stored job reads
-          (subst (λ (z : Next). IsWell is z) ends (goes is)) (books_closing setting w me now from call reply c books is job reads answer seen stored ends))
+          (subst (λ (z : Next). IsWell is z) ends (goes is))
+          (books_closing setting w me now from call reply c books is ForJob (job_seq (w.nodes me.0).job job c.call.seq mine.0 mine.1) answer seen stored ends))
+          (λ s none found answer seen stored ends.
+          let mine = scrub_is (w.nodes me.0).scrub c.call.seq s found in
+          let seq : own_seq (w.nodes me.0) ForScrub ≡ Some c.call.seq = scrub_seq (w.nodes me.0).scrub s c.call.seq mine.0 mine.1 in
+          let unmarked = call_unmarked setting w me.0 c.call.seq c (books.calls me.0 c.call.seq c is) (own_books setting w books me.0 c.call.seq ForScrub seq) in (
+            stamps,
+            said_scrubless setting views (closed_world setting w me known c answer seen stored) stamps me now
+                (books_closing setting w me now from call reply c books is ForScrub seq answer seen stored ends)
+                (said_closed setting views w stamps me c known books said is (known_grows (w.nodes me.0).known reply) answer seen stored unmarked
+                (subst (λ (z : Next). IsWell is z) ends (goes is)))
+                (closed_no_read setting w me known c answer seen stored ForScrub seq) c.call (members_alone c.only)
+                (scrub_answer s.lagging (abort_cause answer) stored),
+          ))
+
+-- a brick does what it does with a reply to an open operation, or to its proposal
+replied_said : (setting : Setting) (views : Views) (w : World) (stamps : Stamping) → Books setting w → Said setting views w stamps → (me from : BrickId) (now : ℕ)
+    (call : Call) (reply : Reply) (found : Option Coordinator) → IsSound setting
+    → WasSent w (record { from = from; to = me; message = Message.Reply call reply }) → (w.nodes me.0).calls call.seq ≡ found
+    → IsSaid setting views (stepped setting w me (replied_at setting me now from (w.nodes me.0) call reply found))
+replied_said setting views w stamps books said me from now call reply found sound sent is =
+    noting_each (IsSaid setting views) setting w me now from call reply found
+    (let node : Node = noted_by setting me now from (w.nodes me.0) call reply found in
+    let keeps = noted_keeps setting me now from (w.nodes me.0) call reply found in
+    noted_said setting views (kept_world w me node) stamps (books_kept setting w me node books keeps)
+    (said_kept setting views w stamps me books said node
+    (said_placed setting views w stamps me books said node [] (noted_places setting me now from (w.nodes me.0) call reply found) keeps
+    (each_none (PacketSays setting views _ stamps))))
+    me from now call reply found sound sent
+    (ap (λ (n : Node). n.calls call.seq) (put_same w.nodes me.0 node) ∙ keeps.1 call.seq ∙ is))
 
 module _ (setting : Setting) (views : Views) (w : World) (stamps : Stamping) (books : Books setting w) (stamped : StampViews setting.layout w)
     (follows : Follows setting.layout views w) (said : Said setting views w stamps) where
@@ -278,10 +311,11 @@ module _ (setting : Setting) (views : Views) (w : World) (stamps : Stamping) (bo
       hearing_each (IsSaid setting views) setting w me now from call reply (
         stamps,
         said_placed setting views w stamps me books said (with_known (with_round (w.nodes me.0) reply) (known_after (w.nodes me.0).known reply)) []
-            (refl, refl, refl) (record { boot = refl; seq = omega arith; known = known_grows (w.nodes me.0).known reply }, λ l. refl, refl)
+            (refl, refl, refl) (record { boot = refl; seq = omega arith; known = known_grows (w.nodes me.0).known reply }, λ l. refl, refl, refl)
             (each_none (PacketSays setting views _ stamps)),
       )
-      (let node : Node = taught_by setting w me from call reply in
+      (λ fit.
+      let node : Node = taught_by setting w me from call reply in
       let keeps = hearing_keeps setting w me from call reply in
       replied_said setting views (kept_world w me node) stamps (books_kept setting w me node books keeps)
       (said_kept setting views w stamps me books said node
@@ -406,6 +440,17 @@ module _ (setting : Setting) (views : Views) where
       subst (λ (z : Option Group). IsSaid setting views (world_began w me ask (began setting me (w.clocks me.0) (w.nodes me.0) ask z)))
       (sym here) (said_began setting views w stamps me ask (group_there (w.nodes me.0) ask fits.group) books ((stamped.nodes me.0).views ask.group.0) follows said (group_learnt setting.layout views w me.0 ask.group.0 follows ∙ here))
 
+  -- a scrub begins
+  scrub_said : (w : World) (stamps : Stamping) (me : BrickId) (now : ℕ) (number : GroupId) (stripe : StripeNo) (members : List BrickId) → Books setting w
+      → StampViews setting.layout w → Follows setting.layout views w → Said setting views w stamps
+      → IsSaid setting views (world_stepped setting w me (scrubbed_at setting me now (w.nodes me.0) number stripe members))
+  scrub_said w stamps me now number stripe members books stamped follows said =
+      scrubbed_at_each (λ (step : NodeStep). IsSaid setting views (world_stepped setting w me step)) setting me now (w.nodes me.0) number stripe members
+      (stamps, said_known setting views w stamps me (w.nodes me.0).known books said (omega arith))
+      (λ kept is.
+      said_scrub setting views w stamps me now number stripe members kept books said ((stamped.nodes me.0).views number.0) follows
+      (group_learnt setting.layout views w me.0 number.0 follows ∙ is))
+
   -- every event keeps the invariant
   said_cases : IsSound setting → (w : World) → Leaves setting w × Books setting w × Follows setting.layout views w × StampViews setting.layout w → IsSaid setting views w
       → EventCases setting w (IsSaid setting views)
@@ -420,6 +465,8 @@ module _ (setting : Setting) (views : Views) where
             (no_job (w.nodes brick.0).job (group_of setting.layout group.0)
             (and_parts (is_up setting.layout w brick) (not (is_some (sync_refusal setting.layout (w.nodes brick.0) group.0))) may).1)
             ((known.3.nodes brick.0).views group.0) known.2;
+        scrubs = λ brick group stripe members may.
+            scrub_said w said.0 brick (w.clocks brick.0) group stripe members books known.3 known.2 said.1;
         handles = λ number packet at up. delivery_said w said.0 number packet sound books known.3 known.2 said.1 (packet_was_sent w number packet at);
         sets = λ brick time is. (said.0, said_beside setting views w said.0 (put w.clocks brick.0 time) w.replies w.reached w.choices books said.1);
         ticks = λ brick up. (said.0, ticked_said w said.0 brick books said.1);

@@ -99,7 +99,7 @@ module _ (setting : Setting) (views : Views) (w : World) (stamps : Stamping) (me
       OfEach (PacketSays setting views (quiet w me node more) stamps) more → Said setting views (quiet w me node more) stamps)
   said_voted call ballot asks more =
       said_moved (with_vote (w.nodes me.0) call (vote_at (w.nodes me.0) call ballot asks)) more (voting_keeps (w.nodes me.0) call ballot asks)
-      (record { boot = refl; seq = omega arith; known = omega arith }, λ l. refl, refl) refl
+      (record { boot = refl; seq = omega arith; known = omega arith }, λ l. refl, refl, refl) refl
 
   -- what it reports changes nothing of what is said
   pub said_reports : (node : Node) (more : List Packet) (reports : List Report) → KeepsCalls (w.nodes me.0) node
@@ -126,7 +126,7 @@ module _ (setting : Setting) (views : Views) (w : World) (stamps : Stamping) (me
         KeepsParts (w.nodes me.0) node → Said setting views (quiet w me node []) stamps)
     said_drops g round learnt keeps =
         said_silent node [] keeps
-        (record { boot = refl; seq = omega arith; known = omega arith }, λ l. refl, refl)
+        (record { boot = refl; seq = omega arith; known = omega arith }, λ l. refl, refl, refl)
         (dropped_each (λ h e s r. (top_of r ≡ top_of ((w.nodes me.0).replicas h e s)) ⊎ IsKnown stamps (top_of r)) setting.layout.block g first (w.nodes me.0)
         (λ h e s. inl refl) (λ e s before. inr (inl (fresh_top setting.layout.block e))))
         (λ h e s k version. dropped_each (λ h e s r. slice_get r.log k ≡ Some version
@@ -191,7 +191,7 @@ module _ (setting : Setting) (views : Views) (w : World) (stamps : Stamping) (me
         → Said setting views (quiet w me (node_taught_by setting.layout.block g (record (w.nodes me.0) { round = round }) view) []) stamps
     said_taught g round view =
         told_each (λ (n : Node). Said setting views (quiet w me n []) stamps) setting.layout.block g (record (w.nodes me.0) { round = round }) view
-        (said_placed (record (w.nodes me.0) { round = round }) [] (refl, refl, refl) (record { boot = refl; seq = omega arith; known = omega arith }, λ l. refl, refl)
+        (said_placed (record (w.nodes me.0) { round = round }) [] (refl, refl, refl) (record { boot = refl; seq = omega arith; known = omega arith }, λ l. refl, refl, refl)
         (each_none (PacketSays setting views _ stamps)))
         (λ v later. said_learns g round v later)
 

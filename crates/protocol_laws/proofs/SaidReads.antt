@@ -1,4 +1,5 @@
--- What is said stays said where a synchronisation begins, goes on or ends: it says that all stripes are kept in its view once it has read each of them.
+-- What is said stays said where a synchronisation or a scrub begins, goes on or ends: a synchronisation says that all stripes are kept in its view once it has
+-- read each of them.
 use Rattle.std.proofs.Common.{◌≡◌, ℕ, ◌+◌, ◌<◌, ◌≤◌, ◌⊎◌, inl, inr, ⊎_elim, List, [], ◌∷◌, ◌++◌, Option, Some, None, refl, sym, ap, ◌∙◌, subst, arith, nat_lt}
 use Rattle.std.specs.Option.{option_map}
 use Rattle.std.proofs.lemmas.Bool.{cond_both, cases_lt, ltb-false}
@@ -16,7 +17,7 @@ use Rattle.protocol.specs.Settings.{Setting}
 use Rattle.protocol.specs.Views.{Views, view_of, group_in, kept_by}
 use Rattle.protocol.specs.Coordinators.{Coordinator}
 use Rattle.protocol.specs.Jobs.{Job, Attempt, JobNext, Reads, Finishes, GivesUp, begun_job, job_ask, job_after, abort_cause, most_tries, synced_answer}
-use Rattle.protocol.specs.Nodes.{Node, NodeStep, put, with_job, view_at, synced_packets, synced_at, job_reading}
+use Rattle.protocol.specs.Nodes.{Node, NodeStep, put, with_job, view_at, synced_packets, synced_at, job_reading, scrub_ended}
 use Rattle.protocol.specs.Worlds.{World, Operation, number_of, world_stepped, with_held, choices_after}
 use Rattle.protocol.specs.Happenings.{writes}
 use Rattle.protocol.proofs.Packets.{OfEach, each_none}
@@ -24,8 +25,8 @@ use Rattle.protocol.proofs.Tables.{put_each, put_same}
 use Rattle.view_laws.proofs.SyncReads.{synced_at_each, each_synced}
 use Rattle.protocol_laws.specs.Laws.{Follows}
 use Rattle.protocol_laws.proofs.Blocking.{PartsStay, stands_stays}
-use Rattle.protocol_laws.proofs.Books.{Books, CallBooks, JobBooks, IsCall, IsOperation}
-use Rattle.protocol_laws.proofs.BooksKept.{KeepsNumbers, KeepsJob, HasNoRead, keeps_all, keeps_itself, reading_is, call_unmarked}
+use Rattle.protocol_laws.proofs.Books.{Books, CallBooks, JobBooks, IsCall, IsOperation, ForJob, ForScrub, own_seq}
+use Rattle.protocol_laws.proofs.BooksKept.{KeepsNumbers, HasNoRead, keeps_all, keeps_itself, reading_is, call_unmarked, KeepsReads, reads_stay, job_was, job_seq, own_books}
 use Rattle.protocol_laws.proofs.BooksQuiet.{books_quiet}
 use Rattle.protocol_laws.proofs.Closing.{AfterClose, closes, closed_world, closed_no_read}
 use Rattle.protocol_laws.proofs.Begins.{said_read}
@@ -35,6 +36,9 @@ use Rattle.protocol_laws.proofs.Said.{Stamping, Said, IsSaid, Stands, PacketSays
 use Rattle.protocol_laws.proofs.SaidQuiet.{said_placed, said_reports}
 use Rattle.protocol_laws.proofs.Stampings.{ages_within, stamps_same}
 use Rattle.protocol_laws.proofs.Steps.{keeps_same, quiet, parts_by, said_quiet, said_beside, stamps_stay_by}
+use Rattle.protocol.specs.Scrubs.{Scrub}
+use Rattle.protocol.specs.declared.tellings.ScrubAnswer.{ScrubAnswer}
+use Rattle.messages.specs.declared.calls.Call.{Call}
 
 -- no cause
 abbrev no_cause : Option Cause
@@ -73,11 +77,11 @@ abbrev IsKept : Setting → Views → World → ℕ → ℕ → ℕ → Type 0
 IsKept setting views w g e s = (v : Stamp) × (view_of v ≡ e) × Stands setting views w g s v
 
 module _ (setting : Setting) (views : Views) (w : World) (stamps : Stamping) (me : BrickId) (now : ℕ) (books : Books setting w) (said : Said setting views w stamps) where
-  -- a brick's synchronisation ends, with no read open
-  module _ (more : List Packet) (none : HasNoRead (w.nodes me.0)) where
+  -- a brick's synchronisation ends, with no read open, or its scrub, which is not open
+  module _ (more : List Packet) (job : Option Job) (scrub : Option Scrub) (ends : KeepsReads (w.nodes me.0) (record (w.nodes me.0) { job = job; scrub = scrub })) where
     -- the brick after
     abbrev idle : Node
-    idle = with_job (w.nodes me.0) None
+    idle = record (w.nodes me.0) { job = job; scrub = scrub }
 
     idle_parts : PartsStay w (quiet w me idle more)
     idle_parts = parts_by w (quiet w me idle more) me.0 idle refl refl said.logged (keeps_same (w.nodes me.0) idle (refl, refl, refl))
@@ -94,7 +98,7 @@ module _ (setting : Setting) (views : Views) (w : World) (stamps : Stamping) (me
           logs = λ g e s k version is. inl (k, is);
           lowest = λ g e s x log within is. inl (log, is);
           calls = λ k c is. inl (is, λ p. refl);
-          jobs = λ job is. absurd (let never : None ≡ Some job = is in cc);
+          jobs = λ one is. inl (job_was (w.nodes me.0) idle one ends.0 is);
           packets = packets;
         })
 
@@ -105,16 +109,29 @@ module _ (setting : Setting) (views : Views) (w : World) (stamps : Stamping) (me
         (put_each (λ j (n : Node). KeepsNumbers (w.nodes j) n) w.nodes me.0 idle (record { boot = refl; seq = omega arith; known = omega arith })
         (λ j other. keeps_all (w.nodes j)))
         (λ j l. put_each (λ i (n : Node). n.calls l ≡ (w.nodes i).calls l) w.nodes me.0 idle refl (λ i other. refl) j)
-        (put_each (λ j (n : Node). KeepsJob (w.nodes j) n) w.nodes me.0 idle (inr (refl, none)) (λ j other. inl refl))
+        (put_each (λ j (n : Node). KeepsReads (w.nodes j) n) w.nodes me.0 idle ends (λ j other. reads_stay (w.nodes j)))
 
-    said_jobless : (reports : List Report) → OfEach (PacketSays setting views (quiet w me idle more) stamps) more
+    said_idle_step : (reports : List Report) → OfEach (PacketSays setting views (quiet w me idle more) stamps) more
         → Said setting views (world_stepped setting w me (record { node = idle; packets = more; told = []; answers = []; reports = reports })) stamps
-    said_jobless reports packets =
+    said_idle_step reports packets =
         said_beside setting views (quiet w me idle more) stamps w.clocks w.replies w.reached (choices_after w.choices me idle reports) idle_books
         (said_idle_job packets)
 
+  -- its synchronisation ends
+  said_jobless : (more : List Packet) → HasNoRead (w.nodes me.0) ForJob → (reports : List Report)
+      → (let idle = with_job (w.nodes me.0) None in
+      OfEach (PacketSays setting views (quiet w me idle more) stamps) more
+      → Said setting views (world_stepped setting w me (record { node = idle; packets = more; told = []; answers = []; reports = reports })) stamps)
+  said_jobless more none = said_idle_step more None (w.nodes me.0).scrub (inr (refl, none), inl refl)
+
+  -- its scrub ends
+  pub said_scrubless : HasNoRead (w.nodes me.0) ForScrub → (call : Call) (members : List BrickId) (answer : ScrubAnswer)
+      → Said setting views (world_stepped setting w me (scrub_ended (w.nodes me.0) call members answer)) stamps
+  said_scrubless none call members answer =
+      said_idle_step [] (w.nodes me.0).job None (inl refl, inr (refl, none)) (Report.Scrub call members answer ∷ []) (each_none (PacketSays setting views _ stamps))
+
   -- A read of a synchronisation was closed, by this cause or with none; and of its stripe a version stands where there is none.
-  module _ (job : Job) (stripes : ℕ) (cause : Option Cause) (is : (w.nodes me.0).job ≡ Some job) (none : HasNoRead (w.nodes me.0))
+  module _ (job : Job) (stripes : ℕ) (cause : Option Cause) (is : (w.nodes me.0).job ≡ Some job) (none : HasNoRead (w.nodes me.0) ForJob)
       (layouts : (group : Group) → group_of setting.layout job.group.0 ≡ Some group → group.stripes ≡ stripes)
       (read : cause ≡ None → IsKept setting views w job.group.0 job.view.number.0 job.attempt.stripe) where
     says : JobSays setting views w me.0 job
@@ -159,7 +176,8 @@ module _ (setting : Setting) (views : Views) (w : World) (stamps : Stamping) (me
         within) in (
           had.0,
           had.1,
-          (λ z z_is. stands_stays w (quiet w me (with_job (w.nodes me.0) None) more) (idle_parts more none) job.group.0 s z had.0 (had.2 z z_is)),
+          (λ z z_is. stands_stays w (quiet w me (with_job (w.nodes me.0) None) more) (idle_parts more None (w.nodes me.0).scrub (inr (refl, none), inl refl)) job.group.0 s z had.0
+              (had.2 z z_is)),
         ))
         setting.layout.bricks 0
 
@@ -189,7 +207,11 @@ module _ (setting : Setting) (views : Views) (w : World) (stamps : Stamping) (me
             (said_placed setting views w stamps me books said (w.nodes me.0) [] (refl, refl, refl) (keeps_itself (w.nodes me.0))
             (each_none (PacketSays setting views _ stamps))),
       ))
-      (λ answer. (stamps, said_jobless [] (λ job is. absurd (let never : None ≡ Some job = sym none ∙ is in cc)) (Report.Sync group answer ∷ []) (each_none (PacketSays setting views _ stamps))))
+      (λ answer. (
+        stamps,
+        said_jobless [] (λ k has. absurd (let never : None ≡ Some k = ap (option_map (λ (z : Job). z.seq)) (sym none) ∙ has in cc))
+            (Report.Sync group answer ∷ []) (each_none (PacketSays setting views _ stamps)),
+      ))
       (λ kept is.
       said_read setting views w stamps me now (begun_job group ((w.nodes me.0).learnt group.0).view) kept books said
       (record {
@@ -230,10 +252,13 @@ module _ (setting : Setting) (views : Views) (w : World) (stamps : Stamping) (me
   mine : JobBooks w me.0 job
   mine = books.jobs me.0 job its_job.0
 
-  one : mine.operation ≡ o
+  one : mine.own.operation ≡ o
   one =
-      same_Some mine.operation o
-      (sym (subst (λ (l : ℕ). IsOperation w (number_of w me.0 l) mine.operation) its_job.1 mine.operation_is) ∙ its.operation_is)
+      same_Some mine.own.operation o
+      (sym (subst (λ (l : ℕ). IsOperation w (number_of w me.0 l) mine.own.operation) its_job.1 mine.own.operation_is) ∙ its.operation_is)
+
+  its_seq : own_seq (w.nodes me.0) ForJob ≡ Some c.call.seq
+  its_seq = job_seq (w.nodes me.0).job job c.call.seq its_job.0 its_job.1
 
   -- it reads the stripe of the present try, in the view of the synchronisation
   ask_is : o.ask ≡ job_ask job
@@ -243,7 +268,7 @@ module _ (setting : Setting) (views : Views) (w : World) (stamps : Stamping) (me
   view_is = ap (λ (z : Operation). z.view) (sym one) ∙ mine.view
 
   pub read_unmarked : o.mark ≡ 0
-  read_unmarked = call_unmarked setting w me.0 c.call.seq c its job mine its_job.1
+  read_unmarked = call_unmarked setting w me.0 c.call.seq c its (own_books setting w books me.0 c.call.seq ForJob its_seq)
 
   group_is : job.group.0 ≡ c.call.group.0
   group_is = ap (λ (a : Ask). a.group.0) (sym ask_is) ∙ ap (λ (a : Ask). a.group.0) (sym its.ask) ∙ ap (λ g. g.0) (sym its.call_group)
@@ -263,5 +288,5 @@ module _ (setting : Setting) (views : Views) (w : World) (stamps : Stamping) (me
         (said_closed setting views w stamps me c known books said is more_known answer seen stored read_unmarked well)
         job c.group.stripes (abort_cause answer)
         (ap (λ (n : Node). n.job) (put_same w.nodes me.0 (closes w me known c answer seen stored).node) ∙ its_job.0)
-        (closed_no_read setting w me known c answer seen stored job its_job.0 its_job.1)
+        (closed_no_read setting w me known c answer seen stored ForJob its_seq)
         (stripes_are setting views w stamps said me.0 c.call.seq c is job.group.0 group_is) reads_one

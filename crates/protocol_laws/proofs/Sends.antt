@@ -1,7 +1,7 @@
 -- A coordinator begins its next phase, which makes no version yet: a recovery, a look below a lower bound, or another round of ordering.
 -- And an open operation may send its present phase again.
 use Rattle.protocol.specs.Jobs.{Job}
-use Rattle.view_laws.proofs.SyncReads.{but_read_is}
+use Rattle.view_laws.proofs.SyncReads.{but_read_is, but_scrub_is}
 use Rattle.fab_base.specs.declared.identities.ViewNo.{ViewNo}
 use Rattle.protocol_laws.proofs.Outcomes.{call_after}
 use Rattle.std.proofs.Common.{◌≡◌, ℕ, ◌+◌, ◌≤◌, max, ◌⊎◌, inl, inr, true, false, List, [], ◌∷◌, zero, suc, Option, Some, None, refl, sym, ap, ◌∙◌, subst, arith, Bool, ◌<◌, ◌++◌}
@@ -26,7 +26,7 @@ use Rattle.protocol.specs.declared.phases.Counted.{Counted}
 use Rattle.protocol.specs.declared.phases.Phase.{Phase}
 use Rattle.protocol.specs.declared.phases.Phase.TheVariants.{Looks, LooksAt, Orders, OrdersAt, Recovers, Descends, Modifies, Bases, Stores, LooksBack}
 use Rattle.protocol.specs.Coordinators.{Coordinator, has_seat, request_of, asked_group, asked_view, looks_back, old_bound}
-use Rattle.protocol.specs.Nodes.{Node, with_known, with_call, phase_packets, given_content, resent_to, resent, resent_up_to, view_in, ballot_resent, ticked, calls_but_read, job_call}
+use Rattle.protocol.specs.Nodes.{Node, with_known, with_call, phase_packets, given_content, resent_to, resent, resent_up_to, view_in, ballot_resent, ticked, calls_but_read, job_call, calls_but_scrub, scrub_call}
 use Rattle.protocol.specs.Worlds.{World, Operation, number_of}
 use Rattle.protocol_laws.specs.Laws.{WasSent, IsGuarded}
 use Rattle.protocol_laws.proofs.Books.{Books, CallBooks, IsOperation, IsCall}
@@ -38,6 +38,7 @@ use Rattle.protocol.proofs.Packets.{OfEach, each_none, each_both, each_teaching}
 use Rattle.protocol_laws.proofs.Stampings.{ComesFrom, StampsGrow, Ages, ages_within, with_stamp, stamp_now, stamps_other, stamp_last, stamps_grow, stamps_say}
 use Rattle.protocol_laws.proofs.Growth.{Grows, stays_guarded, stays_made, stays_made_on, stay_blocked}
 use Rattle.protocol_laws.proofs.Steps.{KeepsStamps, keeps_same, ages_by, phase_asked, quiet, quiet_grows, said_quiet}
+use Rattle.protocol.specs.Scrubs.{Scrub}
 
 -- the versions from a bound up to t
 abbrev pub IsCovered : Stamp → Stamp → Stamp → Type 0
@@ -96,7 +97,7 @@ module _ (setting : Setting) (views : Views) (sound : IsSound setting) (w : Worl
   -- the coordinator in its next phase
   abbrev d_in : Phase → Coordinator
   d_in p =
-      record { group = c.group; prior = c.prior; ask = c.ask; stamp = t; round = round; base = base; content = content; call = call_after c p; phase = p; counted = [] }
+      record { group = c.group; prior = c.prior; only = c.only; ask = c.ask; stamp = t; round = round; base = base; content = content; call = call_after c p; phase = p; counted = [] }
 
   abbrev d : Coordinator
   d = d_in phase
@@ -420,30 +421,43 @@ module _ (setting : Setting) (views : Views) (w next : World) (stamps : Stamping
       each_teaching SentOrSays c.call.group (view_in c) (λ later from to. inr tt)
       (resent_to me c.call (request_of setting.code c) c.counted 0 (asked_group c).members) (λ j packet at. inl (resent_was_sent k c is j packet at))
 
-  but_resent : (job : Option Job) (k : ℕ) (z : Option Coordinator) → calls_but_read (w.nodes me.0).calls job k ≡ z → OfEach SentOrSays (resent setting me z)
-  but_resent job k None is = each_none SentOrSays
-  but_resent job k (Some c) is = call_resent k (Some c) (but_read_is (w.nodes me.0).calls job k c is)
+  -- the operations that are none of the brick's own reads
+  abbrev others : Option Job → Option Scrub → ℕ → Option Coordinator
+  others job scrub = calls_but_scrub (calls_but_read (w.nodes me.0).calls job) scrub
 
-  calls_resent : (job : Option Job) (k : ℕ) → OfEach SentOrSays (resent_up_to setting me (calls_but_read (w.nodes me.0).calls job) k)
-  calls_resent job zero = each_none SentOrSays
-  calls_resent job (suc k) =
-      each_both SentOrSays (resent_up_to setting me (calls_but_read (w.nodes me.0).calls job) k)
-      (resent setting me (calls_but_read (w.nodes me.0).calls job (suc k))) (calls_resent job k)
-      (but_resent job (suc k) (calls_but_read (w.nodes me.0).calls job (suc k)) refl)
+  but_resent : (job : Option Job) (scrub : Option Scrub) (k : ℕ) (z : Option Coordinator) → others job scrub k ≡ z → OfEach SentOrSays (resent setting me z)
+  but_resent job scrub k None is = each_none SentOrSays
+  but_resent job scrub k (Some c) is =
+      call_resent k (Some c) (but_read_is (w.nodes me.0).calls job k c (but_scrub_is (calls_but_read (w.nodes me.0).calls job) scrub k c is))
 
-  -- so is the read of a synchronisation
+  calls_resent : (job : Option Job) (scrub : Option Scrub) (k : ℕ) → OfEach SentOrSays (resent_up_to setting me (others job scrub) k)
+  calls_resent job scrub zero = each_none SentOrSays
+  calls_resent job scrub (suc k) =
+      each_both SentOrSays (resent_up_to setting me (others job scrub) k) (resent setting me (others job scrub (suc k))) (calls_resent job scrub k)
+      (but_resent job scrub (suc k) (others job scrub (suc k)) refl)
+
+  -- so are the read of a synchronisation, and a scrub
   job_resent : (job : Option Job) → OfEach SentOrSays (resent setting me (job_call (w.nodes me.0).calls job))
   job_resent None = each_none SentOrSays
   job_resent (Some job) = call_resent job.seq ((w.nodes me.0).calls job.seq) refl
+
+  scrub_resent : (scrub : Option Scrub) → OfEach SentOrSays (resent setting me (scrub_call (w.nodes me.0).calls scrub))
+  scrub_resent None = each_none SentOrSays
+  scrub_resent (Some scrub) = call_resent scrub.seq ((w.nodes me.0).calls scrub.seq) refl
 
   -- so is all that a tick of its clock sends, but for what is of views and of proposals
   pub ticked_was_sent : OfEach SentOrSays (ticked setting me (w.nodes me.0))
   unfolding ticked
   ticked_was_sent =
-      each_both SentOrSays (resent_up_to setting me (calls_but_read (w.nodes me.0).calls (w.nodes me.0).job) (w.nodes me.0).seq)
-      (ballot_resent me (w.nodes me.0).proposal ++ resent setting me (job_call (w.nodes me.0).calls (w.nodes me.0).job))
-      (calls_resent (w.nodes me.0).job (w.nodes me.0).seq)
-      (each_both SentOrSays (ballot_resent me (w.nodes me.0).proposal) (resent setting me (job_call (w.nodes me.0).calls (w.nodes me.0).job))
+      each_both SentOrSays (resent_up_to setting me (others (w.nodes me.0).job (w.nodes me.0).scrub) (w.nodes me.0).seq)
+      (ballot_resent me (w.nodes me.0).proposal ++ own_resent)
+      (calls_resent (w.nodes me.0).job (w.nodes me.0).scrub (w.nodes me.0).seq)
+      (each_both SentOrSays (ballot_resent me (w.nodes me.0).proposal) own_resent
       (of_views_each SentOrSays (λ from to group view. inr tt) (λ from to call ballot. inr tt) (λ from to call ballot members. inr tt)
       (ballot_resent me (w.nodes me.0).proposal) (resent_of_views me (w.nodes me.0).proposal))
-      (job_resent (w.nodes me.0).job))
+      (each_both SentOrSays (resent setting me (job_call (w.nodes me.0).calls (w.nodes me.0).job))
+      (resent setting me (scrub_call (w.nodes me.0).calls (w.nodes me.0).scrub)) (job_resent (w.nodes me.0).job) (scrub_resent (w.nodes me.0).scrub)))
+    where
+      own_resent : List Packet
+      own_resent =
+          resent setting me (job_call (w.nodes me.0).calls (w.nodes me.0).job) ++ resent setting me (scrub_call (w.nodes me.0).calls (w.nodes me.0).scrub)

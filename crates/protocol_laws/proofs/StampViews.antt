@@ -1,7 +1,7 @@
 -- The stamps of a part, of a call and of a request are of its own view, and what a brick keeps of views that it has not learnt is fresh: so it is in every
 -- run, whatever members the views have.
-use Rattle.protocol.specs.Jobs.{Job, begun_job, job_ask}
-use Rattle.view_laws.proofs.SyncReads.{carried_each, synced_at_each, each_tick, each_synced, read_call}
+use Rattle.protocol.specs.Jobs.{Job, begun_job}
+use Rattle.view_laws.proofs.SyncReads.{carried_each, synced_at_each, each_tick, each_synced, read_call, scrubbed_at_each}
 use Rattle.fab_base.specs.declared.asks.Op.TheVariants.{ReadBlock, WriteBlock, ReadStripe, WriteStripe}
 use Rattle.fab_base.specs.declared.asks.Op.{Op}
 use Rattle.view_laws.proofs.Syncing.{synced_each, synced_of}
@@ -31,9 +31,9 @@ use Rattle.fab_base.specs.declared.member_lists.View.{View}
 use Rattle.protocol.specs.Replicas.{Replica, Reaction, first_replica, fresh_replica, handle, top_of, newest_of}
 use Rattle.protocol.specs.declared.phases.Phase.{Phase}
 use Rattle.protocol.specs.declared.phases.Phase.TheVariants.{Looks, LooksAt, Orders, OrdersAt, Recovers, Descends, Modifies, Bases, Stores, LooksBack}
-use Rattle.protocol.specs.Coordinators.{Coordinator, Next, Ignores, Waits, Sends, Makes, Ends, with_reply, once_full, counted_at, counts_at, on_reply, request_of, asked_view, asked_group, looks_back}
-use Rattle.protocol.specs.Nodes.{Node, NodeStep, view_at, view_floor, put, first_node, no_step, phase_packets, new_coordinator, began, invoked, replica_at, full_at, requested, known_after, with_call, carried_out, has_later_time, new_stamp, fresh_stamp, group_at, replied_at, heard, received, absorbed, vote_at, with_learnt, node_taught_by, node_learnt, lists_fit, view_counted, with_known, with_round, proposed, ticked, stopped, restarted, has_accepted, node_synced, first_phase, synced_at, carried_for, job_reading, collect_packets, coordinator_in, reading, with_job, read_closed, synced_packets}
-use Rattle.protocol.specs.Worlds.{World, Event, After, first_world, packet_during, left_after, world_found, world_started, run}
+use Rattle.protocol.specs.Coordinators.{Coordinator, Next, Ignores, Waits, Sends, Makes, Ends, with_reply, once_full, counted_at, counts_at, on_reply, request_of, asked_view, asked_group, looks_back, hearing}
+use Rattle.protocol.specs.Nodes.{Node, NodeStep, view_at, view_floor, put, no_step, phase_packets, new_coordinator, began, invoked, replica_at, full_at, requested, known_after, with_call, carried_out, has_later_time, new_stamp, fresh_stamp, group_at, replied_at, heard, received, absorbed, vote_at, with_learnt, node_taught_by, node_learnt, lists_fit, view_counted, with_known, with_round, proposed, ticked, stopped, restarted, has_accepted, node_synced, first_phase, synced_at, carried_for, job_reading, collect_packets, with_job, read_closed, synced_packets, reading_aside, with_scrub, scrub_of, scrub_coordinator, scrubbed_at}
+use Rattle.protocol.specs.Worlds.{World, Event, After, first_brick, first_world, packet_during, left_after, world_found, world_started, run}
 use Rattle.protocol.proofs.Events.{EventCases, step_on, started_each, always, world_counting}
 use Rattle.protocol.proofs.Packets.{OfEach, each_none, each_both, each_member, each_collect, each_reply}
 use Rattle.protocol_laws.specs.Laws.{stamp_asked}
@@ -46,6 +46,8 @@ use Rattle.protocol_laws.proofs.Logs.{newest_stands}
 use Rattle.protocol.proofs.Served.{request_each, parts_each, IsCollect}
 use Rattle.protocol.proofs.Tables.{put_each, get_one}
 use Rattle.protocol_laws.proofs.Tops.{view_above}
+use Rattle.protocol.specs.Scrubs.{Scrub, lagging_after}
+use Rattle.fab_base.specs.declared.identities.StripeNo.{StripeNo}
 
 -- a part of a view: its order stamp is the first or of the view, and its versions are of the view
 pub record PartIsOf (e : ℕ) (part : Replica) : Type 0 where
@@ -382,59 +384,75 @@ fresh_view me view now boot known t =
     (λ later is. ap (λ (z : Stamp). z.view) (sym (same_Some (new_stamp me view now boot known) t is)))
     (λ spent is. absurd (let never : None ≡ Some t = is in cc))
 
--- a read of a synchronisation is of the view of its stamp
-read_views : (layout : Layout) (me : BrickId) (now : ℕ) (node : Node) (job : Job) (group : Group) → NodeViews layout node
-    → NodeViews layout (reading node job (coordinator_in group job.view me now node (job_ask job)))
-read_views layout me now node job group has =
-    let d : Coordinator = coordinator_in group job.view me now node (job_ask job) in
-    record {
-      views = has.views;
-      parts = has.parts;
-      fresh = has.fresh;
-      zero = has.zero;
-      first = has.first;
-      calls = put_each (λ k z. (e : Coordinator) → z ≡ Some e → CallIsOf e) node.calls d.call.seq (Some d) (λ e is. some_call d e refl is)
-          (λ k other. has.calls k);
-    }
+-- a read of the brick's own is of the view of its stamp
+read_views : (layout : Layout) (node : Node) (d : Coordinator) → CallIsOf d → NodeViews layout node → NodeViews layout (reading_aside node d)
+read_views layout node d of has = record {
+  views = has.views;
+  parts = has.parts;
+  fresh = has.fresh;
+  zero = has.zero;
+  first = has.first;
+  calls = put_each (λ k z. (e : Coordinator) → z ≡ Some e → CallIsOf e) node.calls d.call.seq (Some d) (λ e is. some_call d e of is)
+      (λ k other. has.calls k);
+}
+
+-- what a brick has learnt, its parts and its calls are of these views, whatever else is open there
+own_views : (layout : Layout) (node : Node) (job : Option Job) (scrub : Option Scrub) → NodeViews layout node
+    → NodeViews layout (record node { job = job; scrub = scrub })
+own_views layout node job scrub has = record {
+  views = has.views;
+  parts = has.parts;
+  fresh = has.fresh;
+  zero = has.zero;
+  first = has.first;
+  calls = has.calls;
+}
 
 -- what the coordinator of such a read decided is carried out
-carried_for_views : (setting : Setting) (me : BrickId) (now : ℕ) (node : Node) (known : ℕ) (c : Coordinator) (next : Next) (read : Option Job)
-    → NodeViews setting.layout node → NextIsOf next → StepViews setting.layout (carried_for setting me now node known c next read)
-carried_for_views setting me now node known c next read has is =
-    carried_each (λ (step : NodeStep). StepViews setting.layout step) setting me now node known c next read (carried_views setting me node known c next has is)
-    (λ job its answer seen held ends.
-    let collects = each_collect PacketIsOf me c held (λ t to u asked. absurd (let never : None ≡ Some u = asked in cc)) in
-    let gone : NodeViews setting.layout (with_call node known node.busy c.call.seq None)
-    = call_put setting.layout node known node.busy c.call.seq None has (λ e same. absurd (let never : None ≡ Some e = same in cc)) in
-    record {
-      stays = record { node = gone; packets = each_both PacketIsOf (collect_packets me c held) [] collects (each_none PacketIsOf) };
+carried_for_views : (setting : Setting) (me : BrickId) (now : ℕ) (node : Node) (known : ℕ) (c heard : Coordinator) (next : Next) (read : Option Job)
+    (scrub : Option Scrub) → NodeViews setting.layout node → NextIsOf next
+    → StepViews setting.layout (carried_for setting me now node known c heard next read scrub)
+carried_for_views setting me now node known c heard next read scrub has is =
+    carried_each (λ (step : NodeStep). StepViews setting.layout step) setting me now node known c heard next read scrub
+    (carried_views setting me node known c next has is)
+    (λ job its answer seen held ends. record {
+      stays = record { node = gone; packets = each_both PacketIsOf (collect_packets me c held) [] (collects held) (each_none PacketIsOf) };
       ends = λ answered. record {
-        node = jobless gone;
-        packets = each_both PacketIsOf (collect_packets me c held) [] collects (each_none PacketIsOf);
+        node = own_views setting.layout left None node.scrub gone;
+        packets = each_both PacketIsOf (collect_packets me c held) [] (collects held) (each_none PacketIsOf);
       };
       finishes = record {
-        node = jobless gone;
-        packets = each_both PacketIsOf (collect_packets me c held) (synced_packets me job.group job.view.number setting.layout.bricks 0) collects
+        node = own_views setting.layout left None node.scrub gone;
+        packets = each_both PacketIsOf (collect_packets me c held) (synced_packets me job.group job.view.number setting.layout.bricks 0) (collects held)
             (each_synced PacketIsOf me job.group job.view.number (λ to. tt) setting.layout.bricks 0);
       };
-      reads = λ attempt group kept. record {
-        node = read_views setting.layout me now (with_call node known node.busy c.call.seq None) (record job { attempt = attempt }) group gone;
-        packets = each_both PacketIsOf (collect_packets me c held)
-            (phase_packets setting me (read_call group (record job { attempt = attempt }) me now (read_closed me node known c answer seen held).node)) collects
-            (phase_views setting me (read_call group (record job { attempt = attempt }) me now (read_closed me node known c answer seen held).node) refl);
+      reads = λ attempt group kept.
+          let d : Coordinator = read_call group (record job { attempt = attempt }) me now (read_closed me node known c answer seen held).node in
+          record {
+            node = own_views setting.layout (reading_aside left d) (Some (record job { attempt = attempt; seq = d.call.seq })) node.scrub
+                (read_views setting.layout left d refl gone);
+            packets = each_both PacketIsOf (collect_packets me c held) (phase_packets setting me d) (collects held) (phase_views setting me d refl);
+          };
+    })
+    (record {
+      begins = λ s its d sends.
+          let later : Option Scrub = Some (record s { lagging = lagging_after s heard }) in
+          carried_views setting me (with_scrub node later) known c (Sends d) (own_views setting.layout node node.job later has)
+          (subst (λ (z : Next). NextIsOf z) sends is);
+      ends = λ s its answer seen held ended. record {
+        node = own_views setting.layout left node.job None gone;
+        packets = each_both PacketIsOf (collect_packets me c held) [] (collects held) (each_none PacketIsOf);
       };
     })
   where
-    jobless : NodeViews setting.layout (with_call node known node.busy c.call.seq None)
-        → NodeViews setting.layout (with_job (with_call node known node.busy c.call.seq None) None)
-    jobless gone = record {
-      views = gone.views;
-      parts = gone.parts;
-      fresh = gone.fresh;
-      zero = gone.zero;
-      first = gone.first;
-      calls = gone.calls;
-    }
+    left : Node
+    left = with_call node known node.busy c.call.seq None
+
+    gone : NodeViews setting.layout left
+    gone = call_put setting.layout node known node.busy c.call.seq None has (λ e same. absurd (let never : None ≡ Some e = same in cc))
+
+    collects : (held : Option Stamp) → OfEach PacketIsOf (collect_packets me c held)
+    collects held = each_collect PacketIsOf me c held (λ t to u asked. absurd (let never : None ≡ Some u = asked in cc))
 
 replied_views : (setting : Setting) (me : BrickId) (now : ℕ) (from : BrickId) (node : Node) (call : Call) (reply : Reply) (found : Option Coordinator)
     → ((c : Coordinator) → found ≡ Some c → CallIsOf c) → NodeViews setting.layout node
@@ -448,7 +466,8 @@ replied_views setting me now from node call reply None own has =
     })
 replied_views setting me now from node call reply (Some c) own has =
     let known : ℕ = known_after node.known reply in
-    carried_for_views setting me now node known c _ (job_reading node.job c.call.seq) has
+    carried_for_views setting me now node known c (hearing c from reply (counts_at setting.layout.block c from.0 call reply)) _ (job_reading node.job c.call.seq)
+    (scrub_of node.scrub c.call.seq) has
     (decides (fresh_stamp me c.stamp.view now node.boot known) (own c refl)
     (λ t made. fresh_view me c.stamp.view now node.boot known t made) (counts_at setting.layout.block c from.0 call reply))
   where
@@ -553,9 +572,12 @@ sync_views : (setting : Setting) (me : BrickId) (now : ℕ) (node : Node) (group
 sync_views setting me now node group has =
     synced_at_each (λ (step : NodeStep). StepViews setting.layout step) setting me now node group (quiet_views setting.layout node has)
     (λ answer. record { node = same; packets = each_none PacketIsOf }) (λ answer. record { node = jobless; packets = each_none PacketIsOf })
-    (λ kept is. record {
-      node = read_views setting.layout me now node (begun_job group (node.learnt group.0).view) kept has;
-      packets = phase_views setting me (read_call kept (begun_job group (node.learnt group.0).view) me now node) refl;
+    (λ kept is.
+    let job : Job = begun_job group (node.learnt group.0).view in
+    let d : Coordinator = read_call kept job me now node in
+    record {
+      node = own_views setting.layout (reading_aside node d) (Some (record job { seq = d.call.seq })) node.scrub (read_views setting.layout node d refl has);
+      packets = phase_views setting me d refl;
     })
   where
     same : NodeViews setting.layout node
@@ -571,9 +593,21 @@ sync_views setting me now node group has =
       calls = has.calls;
     }
 
+-- a scrub begins
+scrub_views : (setting : Setting) (me : BrickId) (now : ℕ) (node : Node) (group : GroupId) (stripe : StripeNo) (members : List BrickId)
+    → NodeViews setting.layout node → StepViews setting.layout (scrubbed_at setting me now node group stripe members)
+scrub_views setting me now node group stripe members has =
+    scrubbed_at_each (λ (step : NodeStep). StepViews setting.layout step) setting me now node group stripe members (quiet_views setting.layout node has)
+    (λ kept is.
+    let d : Coordinator = scrub_coordinator kept me now node group stripe members in
+    record {
+      node = own_views setting.layout (reading_aside node d) node.job (Some (record { seq = d.call.seq; lagging = [] })) (read_views setting.layout node d refl has);
+      packets = phase_views setting me d refl;
+    })
+
 -- a brick stops, and starts again
 closed_views : (layout : Layout) (node : Node) (boot seq known round busy : ℕ) → NodeViews layout node
-    → NodeViews layout (record node { boot = boot; seq = seq; known = known; round = round; busy = busy; calls = λ k. None; proposal = None; job = None })
+    → NodeViews layout (record node { boot = boot; seq = seq; known = known; round = round; busy = busy; calls = λ k. None; proposal = None; job = None; scrub = None })
 closed_views layout node boot seq known round busy has = record {
   views = has.views;
   parts = has.parts;
@@ -632,6 +666,14 @@ views_cases setting w has = record {
             (sym (after_stepped setting w brick (synced_at setting brick (w.clocks brick.0) (w.nodes brick.0) group))) has.after;
         packets = each_both PacketIsOf w.packets _ has.packets step.packets;
       });
+  scrubs = λ brick group stripe members may.
+      (let step = scrub_views setting brick (w.clocks brick.0) (w.nodes brick.0) group stripe members (has.nodes brick.0) in
+      record {
+        nodes = put_views setting.layout w.nodes brick.0 _ has.nodes step.node;
+        after = subst (λ (f : ℕ → Node). (i : ℕ) → NodeViews setting.layout (f i))
+            (sym (after_stepped setting w brick (scrubbed_at setting brick (w.clocks brick.0) (w.nodes brick.0) group stripe members))) has.after;
+        packets = each_both PacketIsOf w.packets _ has.packets step.packets;
+      });
   handles = λ number packet at up.
       (let sent = packet_was_sent w number packet at in
       let step = received_views setting (w.clocks packet.to.0) packet.from packet.to packet.message (w.nodes packet.to.0) (has.nodes packet.to.0)
@@ -649,7 +691,7 @@ views_cases setting w has = record {
         after = has.after;
         packets = each_both PacketIsOf w.packets _ has.packets
             (each_tick PacketIsOf setting brick (w.nodes brick.0).calls
-            (λ k c is seat to. request_is setting.code c ((has.nodes brick.0).calls k c is) seat) (λ k c is later from to. tt) (w.nodes brick.0).job
+            (λ k c is seat to. request_is setting.code c ((has.nodes brick.0).calls k c is) seat) (λ k c is later from to. tt) (w.nodes brick.0).job (w.nodes brick.0).scrub
             (w.nodes brick.0).seq (w.nodes brick.0).proposal (ballots_are _ (resent_of_views brick (w.nodes brick.0).proposal)));
       };
   stops = λ brick during up.
@@ -673,7 +715,7 @@ views_cases setting w has = record {
       packets = was.packets;
     }
 
-first_views : (layout : Layout) → NodeViews layout (first_node layout)
+first_views : (layout : Layout) → NodeViews layout (first_brick layout)
 first_views layout = record {
   views = λ g. omega arith;
   parts = λ g e s. fresh_part layout.block e;

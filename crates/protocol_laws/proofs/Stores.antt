@@ -134,6 +134,7 @@ module _ (setting : Setting) (views : Views) (sound : IsSound setting) (w : Worl
       record {
         group = c.group;
         prior = c.prior;
+        only = c.only;
         ask = c.ask;
         stamp = c.stamp;
         round = c.round;
@@ -603,7 +604,7 @@ module _ (setting : Setting) (views : Views) (sound : IsSound setting) (w : Worl
       -- the coordinator in a phase
       abbrev d_in : Phase → Coordinator
       d_in p =
-          record { group = c.group; prior = c.prior; ask = c.ask; stamp = c.stamp; round = c.round; base = base; content = content; call = call_after c p; phase = p; counted = [] }
+          record { group = c.group; prior = c.prior; only = c.only; ask = c.ask; stamp = c.stamp; round = c.round; base = base; content = content; call = call_after c p; phase = p; counted = [] }
 
       request_says : (k : ℕ) (member : BrickId) → slice_get group.members k ≡ Some member → SendsVersion setting views w c base phase content
           → RequestSays setting views next later me.0 member.0 d.call (request_of setting.code d (0 + k))

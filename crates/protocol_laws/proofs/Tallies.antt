@@ -1,5 +1,5 @@
 -- The history of the replies that counted: what it says of each open operation, and what the marks show by it.
-use Rattle.std.proofs.Common.{◌≡◌, ℕ, ◌+◌, ◌<◌, ◌≤◌, ◌⊎◌, true, false, List, [], ◌++◌, Some, None, is_some}
+use Rattle.std.proofs.Common.{◌≡◌, ℕ, ◌+◌, ◌<◌, ◌≤◌, ◌⊎◌, true, false, List, [], ◌++◌, Some, None, is_some, Option}
 use Rattle.fab_base.specs.declared.identities.BrickId.{BrickId}
 use Rattle.fab_base.specs.declared.stamps.Stamp.{Stamp}
 use Rattle.std.specs.Prelude.{slice_get}
@@ -20,17 +20,20 @@ use Rattle.protocol_laws.proofs.Books.{Replies, IsOperation, IsCall}
 use Rattle.protocol.specs.declared.phases.Phase.{Phase}
 use Rattle.protocol.specs.declared.phases.Phase.TheVariants.{LooksBack}
 use Rattle.protocol_laws.proofs.Counting.{NoneStops}
-use Rattle.protocol_laws.proofs.Outcomes.{IsRebuild, IsRound, first_round}
+use Rattle.protocol_laws.proofs.Outcomes.{IsRebuild, IsRound, first_round, IsLook}
 use Rattle.protocol_laws.proofs.Said.{EachCounted}
+use Rattle.protocol.specs.Scrubs.{Scrub, is_look, lagging_of}
+use Rattle.fab_base.specs.Layouts.{seat_in}
 
 -- The replies of a phase are those that its coordinator has, after those that it forgot, of which none stops the operation, or told a later stamp in a phase that
--- does not look back, or a version in one that reads no base back.
+-- does not look back, or a version in one that reads no base back; where it looks for what all keep, it forgot none.
 pub record IsTally (phase : Phase) (replies counted : List Counted) : Type 0 where
   pub forgotten : List Counted
   pub are : replies ≡ forgotten ++ counted
   pub stops : NoneStops forgotten
   pub refused : looks_back phase ≡ false → greatest_refuser forgotten ≡ None
   pub found : (greatest_found forgotten ≡ None) ⊎ IsRebuild phase
+  pub whole : IsLook phase → forgotten ≡ []
 
 -- a packet is one of these
 abbrev pub IsAmong : List Packet → Packet → Type 0
@@ -49,13 +52,33 @@ pub record BeganBack (packets : List Packet) (replies : ℕ → List Counted) (i
   pub follows : first.phase ≡ before + 1
   pub nothing : greatest_found (replies before) ≡ None
 
--- The open operation of number n at coordinator c of brick i: in its present phase those replies counted that c has, but for those that it forgot, and
--- none in a later one; each round of ordering before the present one had counted a later stamp; and where it looks back, it had begun so.
-pub record CallTallied (packets : List Packet) (replies : Replies) (i n : ℕ) (c : Coordinator) : Type 0 where
+-- in this phase the operation of a call of brick i asked a member for what that keeps in the view before
+abbrev pub AskedBack : List Packet → ℕ → Call → ℕ → Type 0
+AskedBack packets i call phase =
+    (old : Call) × (old.boot ≡ call.boot) × (old.seq ≡ call.seq) × (old.phase ≡ phase)
+    × ((to : BrickId) × (bound : Option Stamp)
+    × IsAmong packets (record { from = record { 0 = i }; to = to; message = Message.Request old (Request.OldRead bound) }))
+
+-- where these members alone count, each reply that counted is one of theirs, or the phase asked for what is kept in the view before
+abbrev pub CountsAlone : List Packet → (ℕ → List Counted) → ℕ → Call → List BrickId → Type 0
+CountsAlone packets replies i call only =
+    (p j : ℕ) (x : Counted) → slice_get (replies p) j ≡ Some x → (is_some (seat_in only x.brick.0) ≡ true) ⊎ AskedBack packets i call p
+
+-- who lagged, as a scrub has noted it, are those that did by these replies
+abbrev pub NotedLagging : List Counted → Coordinator → Scrub → Type 0
+NotedLagging replies c s = (2 ≤ c.call.phase) × (s.lagging ≡ lagging_of c.group.members replies)
+
+-- The open operation of number n at coordinator c of brick i, which has this scrub: in its present phase those replies counted that c has, but for those that it forgot, and
+-- none in a later one; each round of ordering before the present one had counted a later stamp; and where it looks back, it had begun so. Where some members alone
+-- count, the replies are theirs; and where it is the scrub, some do, and once it looks no longer for what all keep, it is noted who lagged.
+pub record CallTallied (packets : List Packet) (replies : Replies) (i n : ℕ) (scrub : Option Scrub) (c : Coordinator) : Type 0 where
   pub now : IsTally c.phase (replies n c.call.phase) c.counted
   pub later : (p : ℕ) → c.call.phase < p → replies n p ≡ []
   pub refused : IsRound c.phase → (p : ℕ) → first_round c.phase ≤ p → p < c.call.phase → is_some (greatest_refuser (replies n p)) ≡ true
   pub back : looks_back c.phase ≡ true → BeganBack packets (replies n) i c.call
+  pub alone : (only : List BrickId) → c.only ≡ Some only → CountsAlone packets (replies n) i c.call only
+  pub named : (s : Scrub) → scrub ≡ Some s → s.seq ≡ c.call.seq → is_some c.only ≡ true
+  pub lagged : (s : Scrub) → scrub ≡ Some s → s.seq ≡ c.call.seq → is_look c.phase ≡ false → NotedLagging (replies n 1) c s
 
 -- a reply that counted in a phase of operation n was sent to it
 abbrev pub CountedSent : World → ℕ → ℕ → Counted → Type 0
@@ -78,7 +101,7 @@ AbortsAreShown w = (k p n : ℕ) (cause : Cause) → slice_get w.marks k ≡ Som
 
 -- the history of a world
 pub record Tallied (w : World) : Type 0 where
-  pub calls : (i k : ℕ) (c : Coordinator) → IsCall w i k c → CallTallied w.packets w.replies i (number_of w i k) c
+  pub calls : (i k : ℕ) (c : Coordinator) → IsCall w i k c → CallTallied w.packets w.replies i (number_of w i k) (w.nodes i).scrub c
   pub unbegun : (n p : ℕ) → w.begun < n → w.replies n p ≡ []
   pub counted : CountedWereSent w
   pub aborts : AbortsAreShown w
@@ -94,7 +117,7 @@ OrdersAlone w =
 
 -- What the messages of a world show: a later stamp answers what was asked at a lower one; an operation that orders under a call asks nothing else under
 -- it, and it does so in a round of ordering; the replies that a coordinator has were sent to it, and tell of versions that were dropped only where it looks back;
--- and where it begins to look back, a member was asked so.
+-- and where it looks back, a member was asked so.
 pub record MessagesShow (w : World) : Type 0 where
   pub later : (call : Call) (from to : BrickId) (x : Stamp)
       → WasSent w (record { from = from; to = to; message = Message.Reply call (Reply.Later x) })
@@ -105,8 +128,8 @@ pub record MessagesShow (w : World) : Type 0 where
   pub counted : (i k : ℕ) (c : Coordinator) → IsCall w i k c
       → EachCounted (λ x. WasSent w (record { from = x.brick; to = record { 0 = i }; message = Message.Reply c.call x.reply })) c.counted
   pub kept : (i k : ℕ) (c : Coordinator) → IsCall w i k c → looks_back c.phase ≡ false → EachCounted (λ x. dropper_of x ≡ None) c.counted
-  pub begins_back : (i k : ℕ) (c : Coordinator) → IsCall w i k c → c.phase ≡ LooksBack None
-      → (to : BrickId) × RequestSent w c.call (record { 0 = i }) to (Request.OldRead None)
+  pub asks_back : (i k : ℕ) (c : Coordinator) → IsCall w i k c → (bound : Option Stamp) → c.phase ≡ LooksBack bound
+      → (to : BrickId) × RequestSent w c.call (record { 0 = i }) to (Request.OldRead bound)
 
 -- an operation goes on as the same: what it was asked, of which brick and under which call
 pub record GoesOn (o p : Operation) : Type 0 where

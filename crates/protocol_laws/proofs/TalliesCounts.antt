@@ -1,7 +1,7 @@
 -- A reply counts in an open operation: the history of replies in the world that follows.
 use Rattle.std.proofs.Common.{◌≡◌, ◌≢◌, ℕ, ◌+◌, ◌-◌, ◌<◌, ◌≤◌, ◌⊎◌, inl, inr, ⊎_elim, Bool, true, false, not, List, [], ◌∷◌, ◌++◌, length, Option, Some, None, is_some, refl, sym, ap, ◌∙◌, subst, append_assoc, arith}
 use Rattle.std.specs.Prelude.{slice_get, if◌then◌else◌, nat_lt, nat_eq, max}
-use Rattle.std.proofs.lemmas.Bool.{cond_both, cases_eq, cases_Bool, eq-eqb, false≢true}
+use Rattle.std.proofs.lemmas.Bool.{cond_both, cases_eq, cases_Bool, eq-eqb, false≢true, or_cases}
 use Rattle.std.proofs.lemmas.List.{append-nil}
 use Rattle.std.proofs.lemmas.Option.{same_Some}
 use Rattle.fab_base.specs.declared.identities.BrickId.{BrickId}
@@ -25,7 +25,7 @@ use Rattle.protocol.specs.declared.phases.Phase.TheVariants.{Looks, LooksAt, Ord
 use Rattle.protocol.specs.declared.phases.Counted.{Counted}
 use Rattle.protocol.specs.declared.phases.Refuser.{Refuser}
 use Rattle.protocol.specs.declared.phases.FullMember.{FullMember}
-use Rattle.protocol.specs.Coordinators.{Coordinator, Next, Ignores, Waits, Sends, Makes, Ends, refuser_of, greater_refuser, greatest_refuser, full_member_of, lower_full, lowest_full, mover_of, lower_mover, lowest_mover, dropper_of, lower_dropper, lowest_dropper, told_stamp, greater_stamp, greatest_found, answers_phase, looks_back, with_reply}
+use Rattle.protocol.specs.Coordinators.{Coordinator, Next, Ignores, Waits, Sends, Makes, Ends, refuser_of, greater_refuser, greatest_refuser, full_member_of, lower_full, lowest_full, mover_of, lower_mover, lowest_mover, dropper_of, lower_dropper, lowest_dropper, told_stamp, greater_stamp, greatest_found, answers_phase, looks_back, with_reply, may_count, may_count_in}
 use Rattle.protocol.specs.declared.phases.Mover.{Mover}
 use Rattle.protocol.specs.declared.phases.Dropper.{Dropper}
 use Rattle.fab_base.specs.declared.identities.ViewNo.{ViewNo}
@@ -37,15 +37,17 @@ use Rattle.protocol_laws.proofs.MarkNumbers.{mark_at, mark_seen}
 use Rattle.protocol_laws.proofs.Books.{Replies, Books, OperationBooks, CallBooks, IsOperation, IsCall, InRound}
 use Rattle.protocol_laws.proofs.BooksKept.{KeepsNumbers, calls_apart, keeps_with_call}
 use Rattle.protocol_laws.proofs.BooksEvents.{keeps_put, brick_of, look_first}
-use Rattle.protocol_laws.proofs.Outcomes.{IsRebuild, IsRound, IsLook, Forgets, BackFits, back_phase, first_round, ReordersFits, RecoversFits, RebuildsIn, RebuildsFits, SendsFits, MakesIn, NoRoundFits, LastFits, AbortFits, FullFits, MovedFits, GoneFits, AnswerFits, NextFits}
+use Rattle.protocol_laws.proofs.Outcomes.{IsRebuild, IsRound, IsLook, Forgets, BackFits, back_phase, first_round, ReordersFits, RecoversFits, RebuildsIn, RebuildsFits, SendsFits, MakesIn, NoRoundFits, LastFits, AbortFits, FullFits, MovedFits, GoneFits, AnswerFits, NextFits, SameOperation}
 use Rattle.protocol_laws.proofs.Said.{EachCounted}
 use Rattle.protocol_laws.proofs.Counting.{each_more, no_full, no_mover, no_dropper, refuser_counted, full_counted, mover_counted, dropper_counted}
 use Rattle.protocol.proofs.Puts.{put_other}
 use Rattle.protocol.proofs.Tables.{put_each, put_same, get_kept, get_grown, get_one}
 use Rattle.protocol_laws.proofs.Steps.{sent_by}
-use Rattle.protocol_laws.proofs.Tallies.{IsTally, IsAmong, BeganBack, CallTallied, CountedSent, OwnShown, Tallied, MessagesShow, OrdersAlone, GoesOn, Furthers}
-use Rattle.protocol_laws.proofs.TalliesKept.{began_on, call_tallied_on, known_kept, counted_on, asked_on, not_ended, tallied_on}
+use Rattle.protocol_laws.proofs.Tallies.{IsTally, IsAmong, BeganBack, CallTallied, CountedSent, OwnShown, Tallied, MessagesShow, OrdersAlone, GoesOn, Furthers, AskedBack, CountsAlone, NotedLagging}
+use Rattle.protocol_laws.proofs.TalliesKept.{began_on, call_tallied_on, known_kept, counted_on, asked_on, not_ended, tallied_on, asked_on_back, lags_same}
 use Rattle.protocol_laws.proofs.Closing.{closed_world}
+use Rattle.protocol.specs.Scrubs.{Scrub, is_look, lagging_of}
+use Rattle.fab_base.specs.Layouts.{seat_in, Group}
 
 -- where there is no fresh stamp no later time is left
 none_left : (me : BrickId) (view : ViewNo) (now boot known : ℕ) → fresh_stamp me view now boot known ≡ None → has_later_time known ≡ false
@@ -159,11 +161,22 @@ making_unordered d makes round = ⊎_elim
     subst (λ (x : Phase). IsRound x) modifies.2 round)
     makes
 
+-- a phase that looks for what all keep
+look_of : (p : Phase) → is_look p ≡ true → IsLook p
+look_of Looks look = tt
+look_of (LooksAt j) look = tt
+look_of p look = absurd (false≢true look)
+
+-- a phase that looks back
+backward : (p : Phase) → looks_back p ≡ true → (bound : Option Stamp) × (p ≡ LooksBack bound)
+backward (LooksBack bound) looks = (bound, refl)
+backward p looks = absurd (false≢true looks)
+
 -- brick me took a reply to the open operation at coordinator c, which counts at this seat
 module _ (setting : Setting) (w : World) (me : BrickId) (now known : ℕ) (c : Coordinator) (from : BrickId) (reply : Reply) (seat : ℕ)
     (books : Books setting w) (tallied : Tallied w) (shows : MessagesShow w) (is : IsCall w me.0 c.call.seq c)
     (sent : WasSent w (record { from = from; to = me; message = Message.Reply c.call reply })) (grows : (w.nodes me.0).known ≤ known)
-    (answers : answers_phase setting.layout.block c.stamp seat c.phase reply ≡ true) where
+    (answers : answers_phase setting.layout.block c.stamp seat c.phase reply ≡ true) (may : may_count c from.0 ≡ true) where
   abbrev i : ℕ
   i = me.0
 
@@ -194,7 +207,7 @@ module _ (setting : Setting) (w : World) (me : BrickId) (now known : ℕ) (c : C
   own : OperationBooks setting w n o
   own = books.operations n o (books.calls i k c is).operation_is
 
-  its : CallTallied w.packets w.replies i n c
+  its : CallTallied w.packets w.replies i n (w.nodes me.0).scrub c
   its = tallied.calls i k c is
 
   -- the operation has not ended
@@ -214,14 +227,14 @@ module _ (setting : Setting) (w : World) (me : BrickId) (now known : ℕ) (c : C
       ap (λ (f : ℕ → List Counted). f p) (put_same w.replies n (put (w.replies n) c.call.phase (w.replies n c.call.phase ++ (one ∷ []))))
 
   -- in another phase they stay
-  replies_else : (p : ℕ) → p ≢ c.call.phase → replies n p ≡ w.replies n p
+  pub replies_else : (p : ℕ) → p ≢ c.call.phase → replies n p ≡ w.replies n p
   replies_else p other = own_replies p ∙ put_other (w.replies n) c.call.phase (w.replies n c.call.phase ++ (one ∷ [])) p other
 
-  replies_later : (p : ℕ) → c.call.phase < p → replies n p ≡ []
+  pub replies_later : (p : ℕ) → c.call.phase < p → replies n p ≡ []
   replies_later p above = replies_else p (λ same. omega arith) ∙ its.later p above
 
   -- in the present phase it is one more
-  replies_now : IsTally c.phase (replies n c.call.phase) (c.counted ++ (one ∷ []))
+  pub replies_now : IsTally c.phase (replies n c.call.phase) (c.counted ++ (one ∷ []))
   replies_now = record {
     forgotten = its.now.forgotten;
     are = own_replies c.call.phase ∙ put_same (w.replies n) c.call.phase (w.replies n c.call.phase ++ (one ∷ []))
@@ -229,6 +242,7 @@ module _ (setting : Setting) (w : World) (me : BrickId) (now known : ℕ) (c : C
     stops = its.now.stops;
     refused = its.now.refused;
     found = its.now.found;
+    whole = its.now.whole;
   }
 
   -- which of them told the greatest later stamp is as of those that the coordinator has, where it does not look back
@@ -273,6 +287,7 @@ module _ (setting : Setting) (w : World) (me : BrickId) (now known : ℕ) (c : C
         forgets.found)
         (λ (rebuilds : IsRebuild c.phase). inr rebuilds)
         replies_now.found;
+    whole = λ look. absurd (forgets.later look);
   }
 
   -- the replies once it is in another phase
@@ -283,7 +298,87 @@ module _ (setting : Setting) (w : World) (me : BrickId) (now known : ℕ) (c : C
     stops = (refl, refl, refl);
     refused = λ ahead. refl;
     found = inl refl;
+    whole = λ look. refl;
   }
+
+  is_open : IsCall w i k c
+  is_open = is
+
+  -- where some members alone count, the replies are theirs, or the phase looks back
+  pub alone_now : (more : List Packet) (d : Coordinator) → SameOperation (with_reply c seat from reply) d → (only : List BrickId) → d.only ≡ Some only
+      → CountsAlone (w.packets ++ more) (replies n) i d.call only
+  alone_now more d same only is p j x at = ⊎_elim
+      (λ (old : slice_get (w.replies n p) j ≡ Some x). ⊎_elim
+      (λ (one : is_some (seat_in only x.brick.0) ≡ true). inl one)
+      (λ (back : AskedBack w.packets i c.call p). inr (stays p back))
+      (its.alone only its_only p j x old))
+      (λ (new : (p ≡ c.call.phase) × (one ≡ x)).
+      subst (λ (z : Counted). (is_some (seat_in only z.brick.0) ≡ true) ⊎ AskedBack (w.packets ++ more) i d.call p) new.1
+      (subst (λ (q : ℕ). (is_some (seat_in only from.0) ≡ true) ⊎ AskedBack (w.packets ++ more) i d.call q) (sym new.0)
+      (⊎_elim
+      (λ (back : looks_back c.phase ≡ true).
+      let looks = backward c.phase back in
+      let asked = shows.asks_back i k c is_open looks.0 looks.1 in
+      inr (stays c.call.phase (c.call, refl, refl, refl, (asked.0, looks.0, asked.1))))
+      (λ (named : is_some (seat_in only from.0) ≡ true). inl named)
+      (or_cases (looks_back c.phase) (is_some (seat_in only from.0))
+      (ap (λ (z : Option (List BrickId)). may_count_in c.phase z from.0) (sym its_only) ∙ may)))))
+      (added p j x at)
+    where
+      its_only : c.only ≡ Some only
+      its_only = sym same.only ∙ is
+
+      stays : (q : ℕ) → AskedBack w.packets i c.call q → AskedBack (w.packets ++ more) i d.call q
+      stays q = asked_on_back w.packets (w.packets ++ more) i c.call d.call q (λ packet was. (was.0, get_kept w.packets more was.0 packet was.1)) same.boot same.seq
+
+      added : (q a : ℕ) (z : Counted) → slice_get (replies n q) a ≡ Some z → (slice_get (w.replies n q) a ≡ Some z) ⊎ ((q ≡ c.call.phase) × (one ≡ z))
+      added q a z here =
+          put_each (λ b l. slice_get l a ≡ Some z → (slice_get (w.replies n b) a ≡ Some z) ⊎ ((b ≡ c.call.phase) × (one ≡ z))) (w.replies n) c.call.phase
+          (w.replies n c.call.phase ++ (one ∷ []))
+          (λ there. ⊎_elim
+          (λ (old : slice_get (w.replies n c.call.phase) a ≡ Some z). inl old)
+          (λ (new : (b : ℕ) × (slice_get (one ∷ []) b ≡ Some z)). inr (refl, get_one one z new.0 new.1))
+          (get_grown (w.replies n c.call.phase) (one ∷ []) a z there))
+          (λ b other there. inl there) q (ap (λ (l : List Counted). slice_get l a) (sym (own_replies q)) ∙ here)
+
+  -- a scrub names members in each phase
+  named_on : (d : Coordinator) → SameOperation (with_reply c seat from reply) d → (s : Scrub) → node.scrub ≡ Some s → s.seq ≡ d.call.seq
+      → is_some d.only ≡ true
+  named_on d same s is seq = ap (λ (z : Option (List BrickId)). is_some z) same.only ∙ its.named s is (seq ∙ same.seq)
+
+  -- the replies of its look, where it looks for what all keep; and it stays as it was noted who lagged, once it looks for that no longer
+  pub look_replies : is_look c.phase ≡ true → replies n 1 ≡ c.counted ++ (one ∷ [])
+  look_replies look =
+      let first : (c.call.phase ≡ 1) × (c.round ≡ 1) = look_first c c.phase (look_of c.phase look) mine.in_round in
+      ap (λ (p : ℕ). replies n p) (sym first.0) ∙ replies_now.are
+      ∙ ap (λ (l : List Counted). l ++ (c.counted ++ (one ∷ []))) (replies_now.whole (look_of c.phase look))
+
+  -- it was noted, and is so in a later phase
+  pub lagged_on : (d : Coordinator) (s : Scrub) → SameOperation (with_reply c seat from reply) d → c.call.phase ≤ d.call.phase → NotedLagging (w.replies n 1) c s
+      → NotedLagging (replies n 1) d s
+  lagged_on d s same later noted =
+      let two = noted.0 in (
+        omega (arith, two, later),
+        noted.1 ∙ ap (λ (l : List Counted). lagging_of c.group.members l) (sym (replies_else 1 (λ equal. omega (arith, two, equal))))
+            ∙ ap (λ (g : Group). lagging_of g.members (replies n 1)) (sym same.members),
+      )
+
+  -- so it is where its next phase begins
+  lagged_begins : (d : Coordinator) → SameOperation (with_reply c seat from reply) d → d.call.phase ≡ c.call.phase + 1
+      → ((s : Scrub) → node.scrub ≡ Some s → s.seq ≡ c.call.seq → is_look c.phase ≡ true → s.lagging ≡ lagging_of c.group.members (c.counted ++ (one ∷ [])))
+      → (s : Scrub) → node.scrub ≡ Some s → s.seq ≡ d.call.seq → is_look d.phase ≡ false → NotedLagging (replies n 1) d s
+  lagged_begins d same phase noted s is seq isnt =
+      let its_seq : s.seq ≡ c.call.seq = seq ∙ same.seq in
+      ⊎_elim
+      (λ (look : is_look c.phase ≡ true).
+      let first : (c.call.phase ≡ 1) × (c.round ≡ 1) = look_first c c.phase (look_of c.phase look) mine.in_round in
+      let one_is = first.0 in (
+        omega (arith, phase, one_is),
+        noted s is its_seq look ∙ ap (λ (l : List Counted). lagging_of c.group.members l) (sym (look_replies look))
+            ∙ ap (λ (g : Group). lagging_of g.members (replies n 1)) (sym same.members),
+      ))
+      (λ (later : is_look c.phase ≡ false). lagged_on d s same (omega (arith, phase)) (its.lagged s is its_seq later))
+      (cases_Bool (is_look c.phase))
 
   -- a round of ordering before the present one had counted a later stamp
   refused_before : IsRound c.phase → (p : ℕ) → first_round c.phase ≤ p → p < c.call.phase → is_some (greatest_refuser (replies n p)) ≡ true
@@ -443,33 +538,38 @@ module _ (setting : Setting) (w : World) (me : BrickId) (now known : ℕ) (c : C
 
   -- the history of each open operation, where this one is at d, or has ended
   calls_next : (time busy : ℕ) (d : Option Coordinator) (more : List Packet) → node.known ≤ time
-      → ((e : Coordinator) → d ≡ Some e → CallTallied (w.packets ++ more) replies i n e)
+      → ((e : Coordinator) → d ≡ Some e → CallTallied (w.packets ++ more) replies i n node.scrub e)
       → (j l : ℕ) (e : Coordinator) → (put w.nodes i (with_call node time busy k d) j).calls l ≡ Some e
-      → CallTallied (w.packets ++ more) replies j (number_next time busy d j l) e
+      → CallTallied (w.packets ++ more) replies j (number_next time busy d j l) (put w.nodes i (with_call node time busy k d) j).scrub e
   calls_next time busy d more later new j l e at =
-      subst (λ (b : ℕ). CallTallied (w.packets ++ more) replies j (w.numbers j b l) e) (sym (keeps time busy d later j).boot)
+      subst (λ (b : ℕ). CallTallied (w.packets ++ more) replies j (w.numbers j b l) (put w.nodes i (with_call node time busy k d) j).scrub e)
+      (sym (keeps time busy d later j).boot)
+      (subst (λ (s : Option Scrub). CallTallied (w.packets ++ more) replies j (number_of w j l) s e) (sym scrubs)
       (⊎_elim
       (λ (own : (j ≡ i) × (l ≡ k) × (d ≡ Some e)).
-      subst (λ (a : ℕ). CallTallied (w.packets ++ more) replies a (number_of w a l) e) (sym own.0)
-      (subst (λ (b : ℕ). CallTallied (w.packets ++ more) replies i (number_of w i b) e) (sym own.1) (new e own.2)))
+      subst (λ (a : ℕ). CallTallied (w.packets ++ more) replies a (number_of w a l) (w.nodes a).scrub e) (sym own.0)
+      (subst (λ (b : ℕ). CallTallied (w.packets ++ more) replies i (number_of w i b) node.scrub e) (sym own.1) (new e own.2)))
       (λ (other : IsCall w j l e × (j ≡ i → l ≡ k → ⊥)).
       let apart : number_of w j l ≢ n = λ same.
       (let both : (j ≡ i) × (l ≡ k) = calls_apart setting w i k j l c e mine (books.calls j l e other.0) same in other.1 both.0 both.1) in
-      call_tallied_on w.packets (w.packets ++ more) w.replies replies j (number_of w j l) (number_of w j l) e
+      call_tallied_on w.packets (w.packets ++ more) w.replies replies j (number_of w j l) (number_of w j l) (w.nodes j).scrub (w.nodes j).scrub e
       (λ packet was. (was.0, get_kept w.packets more was.0 packet was.1)) refl (other_replies (number_of w j l) apart)
-      (tallied.calls j l e other.0))
-      (call_at time busy d j l e at))
+      (lags_same (w.nodes j).scrub (w.nodes j).scrub e refl) (tallied.calls j l e other.0))
+      (call_at time busy d j l e at)))
+    where
+      scrubs : (put w.nodes i (with_call node time busy k d) j).scrub ≡ (w.nodes j).scrub
+      scrubs = put_each (λ x (y : Node). y.scrub ≡ (w.nodes x).scrub) w.nodes i (with_call node time busy k d) refl (λ x other. refl) j
 
   -- this one is there
   at_next : (time busy : ℕ) (d : Coordinator) → (put w.nodes i (with_call node time busy k (Some d)) i).calls k ≡ Some d
   at_next time busy d =
       ap (λ (x : Node). x.calls k) (put_same w.nodes i (with_call node time busy k (Some d))) ∙ put_same node.calls k (Some d)
 
-  calls_by : (time busy : ℕ) (d : Coordinator) (more : List Packet) → node.known ≤ time → CallTallied (w.packets ++ more) replies i n d
+  calls_by : (time busy : ℕ) (d : Coordinator) (more : List Packet) → node.known ≤ time → CallTallied (w.packets ++ more) replies i n node.scrub d
       → (j l : ℕ) (e : Coordinator) → (put w.nodes i (with_call node time busy k (Some d)) j).calls l ≡ Some e
-      → CallTallied (w.packets ++ more) replies j (number_next time busy (Some d) j l) e
+      → CallTallied (w.packets ++ more) replies j (number_next time busy (Some d) j l) (put w.nodes i (with_call node time busy k (Some d)) j).scrub e
   calls_by time busy d more later new =
-      calls_next time busy (Some d) more later (λ e at. subst (λ (z : Coordinator). CallTallied (w.packets ++ more) replies i n z) (same_Some d e at) new)
+      calls_next time busy (Some d) more later (λ e at. subst (λ (z : Coordinator). CallTallied (w.packets ++ more) replies i n node.scrub z) (same_Some d e at) new)
 
   -- the next world goes on from this one
   furthers : (next : World) (time busy : ℕ) (d : Option Coordinator) (more : List Packet) → next.nodes ≡ put w.nodes i (with_call node time busy k d)
@@ -891,9 +991,12 @@ module _ (setting : Setting) (w : World) (me : BrickId) (now known : ℕ) (c : C
 
   -- the history of replies after what the coordinator decides
   pub tallied_counted : (next : Next) → NextFits fresh (with_reply c seat from reply) next
-      → ((answer : Answer) (seen stored : Option Stamp) → next ≡ Ends answer seen stored → 1 ≤ o.mark) → MessagesShow (after next) → Tallied (after next)
-  tallied_counted Ignores fits marked later = absurd fits
-  tallied_counted (Waits d) fits marked later =
+      → ((answer : Answer) (seen stored : Option Stamp) → next ≡ Ends answer seen stored → 1 ≤ o.mark)
+      → ((s : Scrub) (d : Coordinator) → next ≡ Sends d → node.scrub ≡ Some s → s.seq ≡ c.call.seq → is_look c.phase ≡ true
+      → s.lagging ≡ lagging_of c.group.members (c.counted ++ (one ∷ [])))
+      → MessagesShow (after next) → Tallied (after next)
+  tallied_counted Ignores fits marked noted later = absurd fits
+  tallied_counted (Waits d) fits marked noted later =
       let on : Furthers w (after (Waits d)) = furthers (after (Waits d)) known node.busy (Some d) [] refl grows refl refl
       (λ j b. refl) same_operations in
       let phase : d.call.phase ≡ c.call.phase = ap (λ (x : Call). x.phase) fits.call in
@@ -905,9 +1008,13 @@ module _ (setting : Setting) (w : World) (me : BrickId) (now known : ℕ) (c : C
         later = λ p above. replies_later p (omega arith);
         refused = λ round p low high. refused_before (subst (λ (x : Phase). IsRound x) fits.phase round) p (omega arith) (omega arith);
         back = λ looks. back_on [] d.call fits.same.boot fits.same.seq (omega (arith, phase)) (its.back (sym (ap (λ (p : Phase). looks_back p) fits.phase) ∙ looks));
+        alone = alone_now [] d fits.same;
+        named = named_on d fits.same;
+        lagged = λ s at seq isnt.
+            lagged_on d s fits.same (omega (arith, phase)) (its.lagged s at (seq ∙ fits.same.seq) (ap (λ (p : Phase). is_look p) (sym fits.phase) ∙ isnt));
       }))
       unbegun (counted_next (after (Waits d)) on) (λ a p m cause at. inl at) (λ m e cause at ended. inl (e, at, ended))
-  tallied_counted (Sends d) fits marked later =
+  tallied_counted (Sends d) fits marked noted later =
       let on : Furthers w (after (Sends d)) = furthers (after (Sends d)) (max known d.stamp.time) node.busy (Some d)
       (phase_packets setting me d) refl
       (omega arith) refl refl (λ j b. refl) same_operations in
@@ -917,10 +1024,13 @@ module _ (setting : Setting) (w : World) (me : BrickId) (now known : ℕ) (c : C
         now = tally_begins d.call.phase d fits.counted (omega arith);
         later = λ p above. replies_later p (omega arith);
         refused = refused_sends d fits phase;
-        back = back_sends (phase_packets setting me d) d fits (later.begins_back i k d (at_next (max known d.stamp.time) node.busy d));
+        back = back_sends (phase_packets setting me d) d fits (later.asks_back i k d (at_next (max known d.stamp.time) node.busy d) None);
+        alone = alone_now (phase_packets setting me d) d fits.same;
+        named = named_on d fits.same;
+        lagged = lagged_begins d fits.same phase (λ s. noted s d refl);
       }))
       unbegun (counted_next (after (Sends d)) on) (λ a p m cause at. inl at) (λ m e cause at ended. inl (e, at, ended))
-  tallied_counted (Makes d) fits marked later =
+  tallied_counted (Makes d) fits marked noted later =
       let on : Furthers w (after (Makes d)) = furthers (after (Makes d)) known node.busy (Some d)
       (phase_packets setting me d) refl grows refl refl
       (λ j b. refl) (changed w.operations (with_made d.stamp d.base) (λ e. (_, refl, record { brick = refl; boot = refl; seq = refl; ask = refl; mark = refl }))) in
@@ -931,17 +1041,20 @@ module _ (setting : Setting) (w : World) (me : BrickId) (now known : ℕ) (c : C
         later = λ p above. replies_later p (omega arith);
         refused = λ round p low high. absurd (making_unordered d fits.phase round);
         back = λ looks. absurd (false≢true (sym (making_ahead d fits.phase) ∙ looks));
+        alone = alone_now (phase_packets setting me d) d fits.same;
+        named = named_on d fits.same;
+        lagged = lagged_begins d fits.same phase (λ s at seq look. absurd (fits.later (look_of c.phase look)));
       }))
       unbegun (counted_next (after (Makes d)) on) (λ a p m cause at. inl at)
       (λ m e cause at ended.
       let was = kept_closed w.operations (with_made d.stamp d.base) (λ x. (_, refl, refl)) refl m e at in
       inl (was.0, was.1, sym was.2 ∙ ended))
-  tallied_counted (Ends answer None stored) fits marked later =
+  tallied_counted (Ends answer None stored) fits marked noted later =
       tallied_answered (put w.operations n (with_answer answer (w.operations n))) answer stored (mark_of w n) (mark_at w.operations n o mine.operation_is)
       (marked answer None stored refl) fits.1
       (changed w.operations (with_answer answer) (λ e. (_, refl, record { brick = refl; boot = refl; seq = refl; ask = refl; mark = refl })))
       (kept_closed w.operations (with_answer answer) (λ d. (_, refl, refl)) refl) later.orders_alone
-  tallied_counted (Ends answer (Some v) stored) fits marked later =
+  tallied_counted (Ends answer (Some v) stored) fits marked noted later =
       let seen : ℕ → Option Operation = put w.operations n (with_seen v (w.operations n)) in
       tallied_answered (put seen n (with_answer answer (seen n))) answer stored (own_mark n (seen n)) (mark_seen w.operations n v o mine.operation_is)
       (marked answer (Some v) stored refl) fits.1

@@ -25,7 +25,9 @@ use Rattle.fab_base.specs.declared.identities.ViewNo.{ViewNo}
 use Rattle.protocol_laws.proofs.Books.{Replies, Books, OperationBooks, CallBooks, IsOperation, IsCall}
 use Rattle.protocol_laws.proofs.MarkNumbers.{cases_marked}
 use Rattle.reg_model.proofs.GrowingLives.{ended_not_open}
-use Rattle.protocol_laws.proofs.Tallies.{IsAmong, BeganBack, CallTallied, CountedSent, AbortShown, Tallied, OrdersAlone, GoesOn, Furthers}
+use Rattle.protocol_laws.proofs.Tallies.{IsAmong, BeganBack, CallTallied, CountedSent, AbortShown, Tallied, OrdersAlone, GoesOn, Furthers, AskedBack, CountsAlone, NotedLagging}
+use Rattle.protocol.specs.Scrubs.{Scrub, is_look, lagging_of}
+use Rattle.fab_base.specs.Layouts.{seat_in}
 
 -- what was sent stays sent
 abbrev pub StaySent : List Packet → List Packet → Type 0
@@ -50,21 +52,61 @@ began_on packets more replies later i call next sent same boot seq most began =
       nothing = ap (λ (l : List Counted). greatest_found l) (same began.before (omega (arith, goes, from))) ∙ began.nothing;
     }
 
+-- what it asked of the view before it still has
+pub asked_on_back : (packets more : List Packet) (i : ℕ) (call next : Call) (phase : ℕ) → StaySent packets more → next.boot ≡ call.boot → next.seq ≡ call.seq
+    → AskedBack packets i call phase → AskedBack more i next phase
+asked_on_back packets more i call next phase sent boot seq (old, old_boot, old_seq, is, (to, bound, asked)) = (
+  old,
+  old_boot ∙ sym boot,
+  old_seq ∙ sym seq,
+  is,
+  (to, bound, sent (record { from = record { 0 = i }; to = to; message = Message.Request old (Request.OldRead bound) }) asked),
+)
+
+-- members that counted alone did so
+pub alone_on : (packets more : List Packet) (replies later : ℕ → List Counted) (i : ℕ) (call next : Call) (only : List BrickId) → StaySent packets more
+    → ((p : ℕ) → later p ≡ replies p) → next.boot ≡ call.boot → next.seq ≡ call.seq → CountsAlone packets replies i call only
+    → CountsAlone more later i next only
+alone_on packets more replies later i call next only sent same boot seq alone p j x at = ⊎_elim
+    (λ (one : is_some (seat_in only x.brick.0) ≡ true). inl one)
+    (λ (back : AskedBack packets i call p). inr (asked_on_back packets more i call next p sent boot seq back))
+    (alone p j x (ap (λ (l : List Counted). slice_get l j) (sym (same p)) ∙ at))
+
+-- A brick's scrub, if it has this call, was one of the call as well, with the same members that lagged, once the call looks no longer for what all keep.
+abbrev pub LagsAs : Option Scrub → Option Scrub → Coordinator → Type 0
+LagsAs scrub later c =
+    (s : Scrub) → later ≡ Some s → s.seq ≡ c.call.seq
+    → (r : Scrub) × (scrub ≡ Some r) × (r.seq ≡ s.seq) × (is_look c.phase ≡ false → s.lagging ≡ r.lagging)
+
+-- it is the same
+pub lags_same : (scrub later : Option Scrub) (c : Coordinator) → later ≡ scrub → LagsAs scrub later c
+lags_same scrub later c same s is seq = (s, sym same ∙ is, refl, λ look. refl)
+
 -- an operation whose replies stay
-pub call_tallied_on : (packets more : List Packet) (replies later : Replies) (i n m : ℕ) (c : Coordinator) → StaySent packets more → m ≡ n
-    → ((p : ℕ) → later n p ≡ replies n p) → CallTallied packets replies i n c → CallTallied more later i m c
-call_tallied_on packets more replies later i n m c sent number same tallied =
-    subst (λ (x : ℕ). CallTallied more later i x c) (sym number) (record {
+pub call_tallied_on : (packets more : List Packet) (replies later : Replies) (i n m : ℕ) (scrub other : Option Scrub) (c : Coordinator)
+    → StaySent packets more → m ≡ n → ((p : ℕ) → later n p ≡ replies n p) → LagsAs scrub other c → CallTallied packets replies i n scrub c
+    → CallTallied more later i m other c
+call_tallied_on packets more replies later i n m scrub other c sent number same lags tallied =
+    subst (λ (x : ℕ). CallTallied more later i x other c) (sym number) (record {
       now = record {
         forgotten = tallied.now.forgotten;
         are = same c.call.phase ∙ tallied.now.are;
         stops = tallied.now.stops;
         refused = tallied.now.refused;
         found = tallied.now.found;
+        whole = tallied.now.whole;
       };
       later = λ p above. same p ∙ tallied.later p above;
       refused = λ round p low high. ap (λ (l : List Counted). is_some (greatest_refuser l)) (same p) ∙ tallied.refused round p low high;
       back = λ looks. began_on packets more (replies n) (later n) i c.call c.call sent (λ p less. same p) refl refl (omega arith) (tallied.back looks);
+      alone = λ only is. alone_on packets more (replies n) (later n) i c.call c.call only sent same refl refl (tallied.alone only is);
+      named = λ s is seq. (let was = lags s is seq in tallied.named was.0 was.1 (was.2 ∙ seq));
+      lagged = λ s is seq look.
+          (let was = lags s is seq in
+          let noted : NotedLagging (replies n 1) c was.0 = tallied.lagged was.0 was.1 (was.2 ∙ seq) look in (
+            noted.0,
+            was.3 look ∙ noted.1 ∙ ap (λ (l : List Counted). lagging_of c.group.members l) (sym (same 1)),
+          ));
     })
 
 -- what is not below a limit stays so as it grows
@@ -238,7 +280,7 @@ not_ended setting w i k c books is =
 
 -- the history of the next world: what is new in it is shown
 pub tallied_on : (setting : Setting) (w next : World) → Books setting w → Tallied w → OrdersAlone next → Furthers w next
-    → ((i k : ℕ) (c : Coordinator) → IsCall next i k c → CallTallied next.packets next.replies i (number_of next i k) c)
+    → ((i k : ℕ) (c : Coordinator) → IsCall next i k c → CallTallied next.packets next.replies i (number_of next i k) (next.nodes i).scrub c)
     → ((n p : ℕ) → next.begun < n → next.replies n p ≡ [])
     → ((n phase k : ℕ) (x : Counted) → slice_get (next.replies n phase) k ≡ Some x
     → (slice_get (w.replies n phase) k ≡ Some x) ⊎ CountedSent next n phase x)

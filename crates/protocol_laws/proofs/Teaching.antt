@@ -14,11 +14,12 @@ use Rattle.messages.specs.declared.replies.Reply.{Reply}
 use Rattle.protocol.specs.Settings.{Setting}
 use Rattle.protocol.specs.Views.{Learnt, is_later, learns, group_kept}
 use Rattle.protocol.specs.Replicas.{Replica, fresh_replica}
-use Rattle.protocol.specs.Coordinators.{Coordinator, Next, Ignores, Waits, Sends, Makes, Ends, on_reply}
+use Rattle.protocol.specs.Coordinators.{Coordinator, Next, Ignores, Waits, Sends, Makes, Ends, on_reply, hearing, counts_at}
 use Rattle.protocol.specs.Proposals.{Proposal, Voting, Ignored, Waited, Asks, Ended, voted}
-use Rattle.protocol.specs.Nodes.{Node, NodeStep, no_step, with_known, with_round, known_after, fresh_stamp, dropping, with_learnt, node_taught, node_taught_by, may_teach, node_learnt, carried_out, carried_ballot, replied_ballot, replied_at, view_counted, then_taught, replied, lists_fit, heard, reporting, with_job, is_spent, coordinator_in, read_begun_by, read_begun_in, job_goes, read_closed, then_does, carried_for, job_reading}
+use Rattle.protocol.specs.Nodes.{Node, NodeStep, no_step, with_known, with_round, known_after, fresh_stamp, dropping, with_learnt, node_taught, node_taught_by, may_teach, node_learnt, carried_out, carried_ballot, replied_ballot, replied_at, view_counted, then_taught, replied, lists_fit, heard, reporting, with_job, is_spent, coordinator_in, read_begun_by, read_begun_in, job_goes, read_closed, then_does, carried_for, job_reading, scrub_of}
 use Rattle.protocol.proofs.Tables.{put_each}
 use Rattle.protocol_laws.proofs.Proposing.{ballot_each}
+use Rattle.protocol.specs.Scrubs.{Scrub}
 
 -- what is learnt of a view that takes the place of an earlier one
 abbrev pub newly_learnt : View → Learnt
@@ -74,7 +75,7 @@ module _ (setting : Setting) (me from : BrickId) (now group : ℕ) (call : Call)
   carried_then node learnt known c (Makes d) = refl
   carried_then node learnt known c (Ends answer seen stored) = refl
 
-  -- also what a read of a synchronisation leaves
+  -- also what a read of a synchronisation, or a scrub, leaves
   goes_then : (node : Node) (learnt : Learnt) (job : Job) (next : JobNext)
       → (let step : NodeStep = job_goes setting me now node job next in
       record step { node = with_learnt block group step.node learnt } ≡ job_goes setting me now (with_learnt block group node learnt) job next)
@@ -101,15 +102,21 @@ module _ (setting : Setting) (me from : BrickId) (now group : ℕ) (call : Call)
   goes_then node learnt job Finishes = refl
   goes_then node learnt job (GivesUp cause) = refl
 
-  carried_for_then : (node : Node) (learnt : Learnt) (known : ℕ) (c : Coordinator) (next : Next) (reading : Option Job)
-      → (let step : NodeStep = carried_for setting me now node known c next reading in
-      record step { node = with_learnt block group step.node learnt } ≡ carried_for setting me now (with_learnt block group node learnt) known c next reading)
-  carried_for_then node learnt known c next None = carried_then node learnt known c next
-  carried_for_then node learnt known c Ignores (Some job) = refl
-  carried_for_then node learnt known c (Waits d) (Some job) = refl
-  carried_for_then node learnt known c (Sends d) (Some job) = refl
-  carried_for_then node learnt known c (Makes d) (Some job) = refl
-  carried_for_then node learnt known c (Ends answer seen stored) (Some job) =
+  carried_for_then : (node : Node) (learnt : Learnt) (known : ℕ) (c heard : Coordinator) (next : Next) (reading : Option Job) (scrub : Option Scrub)
+      → (let step : NodeStep = carried_for setting me now node known c heard next reading scrub in
+      record step { node = with_learnt block group step.node learnt }
+      ≡ carried_for setting me now (with_learnt block group node learnt) known c heard next reading scrub)
+  carried_for_then node learnt known c heard next None None = carried_then node learnt known c next
+  carried_for_then node learnt known c heard Ignores None (Some scrub) = refl
+  carried_for_then node learnt known c heard (Waits d) None (Some scrub) = refl
+  carried_for_then node learnt known c heard (Sends d) None (Some scrub) = refl
+  carried_for_then node learnt known c heard (Makes d) None (Some scrub) = refl
+  carried_for_then node learnt known c heard (Ends answer seen stored) None (Some scrub) = refl
+  carried_for_then node learnt known c heard Ignores (Some job) scrub = refl
+  carried_for_then node learnt known c heard (Waits d) (Some job) scrub = refl
+  carried_for_then node learnt known c heard (Sends d) (Some job) scrub = refl
+  carried_for_then node learnt known c heard (Makes d) (Some job) scrub = refl
+  carried_for_then node learnt known c heard (Ends answer seen stored) (Some job) scrub =
       let closed : NodeStep = read_closed me node known c answer seen stored in
       ap (λ (second : NodeStep). then_does (read_closed me (with_learnt block group node learnt) known c answer seen stored) second)
       (goes_then closed.node learnt job (job_after c.group.stripes job.attempt (abort_cause answer)))
@@ -133,9 +140,9 @@ module _ (setting : Setting) (me from : BrickId) (now group : ℕ) (call : Call)
       record step { node = with_learnt block group step.node learnt } ≡ replied_at setting me now from (with_learnt block group node learnt) call reply found)
   replied_then node learnt None = proposal_then (with_known node (known_after node.known reply)) learnt node.proposal
   replied_then node learnt (Some c) =
-      carried_for_then node learnt (known_after node.known reply) c
+      carried_for_then node learnt (known_after node.known reply) c (hearing c from reply (counts_at setting.layout.block c from.0 call reply))
       (on_reply setting.layout.block setting.code (fresh_stamp me c.stamp.view now node.boot (known_after node.known reply)) c from call reply)
-      (job_reading node.job c.call.seq)
+      (job_reading node.job c.call.seq) (scrub_of node.scrub c.call.seq)
 
   -- a reply itself leaves what a brick has learnt, what it keeps of ballots and its parts as they are
   pub record IsAtRest (node next : Node) : Type 0 where
@@ -155,16 +162,20 @@ module _ (setting : Setting) (me from : BrickId) (now group : ℕ) (call : Call)
   carried_rests node known c (Makes d) = record { boot = refl; learnt = refl; ballots = refl; replicas = refl; live = refl }
   carried_rests node known c (Ends answer seen stored) = record { boot = refl; learnt = refl; ballots = refl; replicas = refl; live = refl }
 
-  -- so is what a read of a synchronisation leaves
-  pub carried_for_rests : (node : Node) (known : ℕ) (c : Coordinator) (next : Next) (reading : Option Job)
-      → IsAtRest node (carried_for setting me now node known c next reading).node
-  carried_for_rests node known c next reading =
-      carried_each (λ (step : NodeStep). IsAtRest node step.node) setting me now node known c next reading (carried_rests node known c next)
+  -- so is what a read of a synchronisation, or a scrub, leaves
+  pub carried_for_rests : (node : Node) (known : ℕ) (c heard : Coordinator) (next : Next) (reading : Option Job) (scrub : Option Scrub)
+      → IsAtRest node (carried_for setting me now node known c heard next reading scrub).node
+  carried_for_rests node known c heard next reading scrub =
+      carried_each (λ (step : NodeStep). IsAtRest node step.node) setting me now node known c heard next reading scrub (carried_rests node known c next)
       (λ job is answer seen stored ends. record {
         stays = record { boot = refl; learnt = refl; ballots = refl; replicas = refl; live = refl };
         ends = λ answered. record { boot = refl; learnt = refl; ballots = refl; replicas = refl; live = refl };
         finishes = record { boot = refl; learnt = refl; ballots = refl; replicas = refl; live = refl };
         reads = λ attempt kept is. record { boot = refl; learnt = refl; ballots = refl; replicas = refl; live = refl };
+      })
+      (record {
+        begins = λ s is d sends. record { boot = refl; learnt = refl; ballots = refl; replicas = refl; live = refl };
+        ends = λ s is answer seen stored ends. record { boot = refl; learnt = refl; ballots = refl; replicas = refl; live = refl };
       })
 
   pub replied_rests : (node : Node) (found : Option Coordinator) → IsAtRest node (replied_at setting me now from node call reply found).node
@@ -172,9 +183,9 @@ module _ (setting : Setting) (me from : BrickId) (now group : ℕ) (call : Call)
       ballot_each (λ (step : NodeStep). IsAtRest node step.node) setting.layout me from (with_known node (known_after node.known reply)) call reply node.proposal
       (λ seq round proposal packets reports more are. record { boot = refl; learnt = refl; ballots = refl; replicas = refl; live = refl })
   replied_rests node (Some c) =
-      carried_for_rests node (known_after node.known reply) c
+      carried_for_rests node (known_after node.known reply) c (hearing c from reply (counts_at setting.layout.block c from.0 call reply))
       (on_reply setting.layout.block setting.code (fresh_stamp me c.stamp.view now node.boot (known_after node.known reply)) c from call reply)
-      (job_reading node.job c.call.seq)
+      (job_reading node.job c.call.seq) (scrub_of node.scrub c.call.seq)
 
   -- a reply does what it does, and teaches a view: it does so as well at a brick that was taught the view before
   pub taught_first : (node : Node) (found : Option Coordinator) (view : Option View)

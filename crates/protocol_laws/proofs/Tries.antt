@@ -1,5 +1,5 @@
--- The reads of synchronisations, try by try: of the stripe that one reads each earlier read was aborted, and of one that it gave up all were.
-use Rattle.std.proofs.Common.{◌≡◌, ◌≢◌, ℕ, ◌+◌, ◌-◌, ◌<◌, ◌≤◌, ⊎_elim, true, not, List, Option, Some, None, is_some, refl, sym, ap, ◌∙◌, subst, arith}
+-- What is reported of the reads of a brick's own. The reads of synchronisations, try by try: of the stripe that one reads each earlier read was aborted, and of one that it gave up all were.
+use Rattle.std.proofs.Common.{◌≡◌, ◌≢◌, ℕ, ◌+◌, ◌-◌, ◌<◌, ◌≤◌, ⊎_elim, true, not, List, Option, Some, None, is_some, refl, sym, ap, ◌∙◌, subst, arith, inl, inr}
 use Rattle.std.specs.Prelude.{slice_get}
 use Rattle.std.proofs.lemmas.Bool.{cases_eq}
 use Rattle.fab_base.specs.declared.identities.BrickId.{BrickId}
@@ -12,11 +12,26 @@ use Rattle.fab_base.specs.declared.stamps.Stamp.{Stamp}
 use Rattle.protocol.specs.declared.tellings.Report.{Report}
 use Rattle.protocol.specs.declared.tellings.SyncAnswer.TheVariants.{Stopped}
 use Rattle.protocol.specs.Jobs.{Job, most_tries}
-use Rattle.protocol.specs.Nodes.{Node, put}
+use Rattle.protocol.specs.Nodes.{put}
 use Rattle.protocol.specs.Worlds.{World, Operation, with_made, with_seen, with_answer, with_closed, is_answer}
 use Rattle.protocol.proofs.Puts.{put_other}
 use Rattle.protocol.proofs.Tables.{put_same}
 use Rattle.protocol_laws.proofs.BooksKept.{KeepsAsk, keeps_ask}
+use Rattle.protocol.specs.Settings.{Setting}
+use Rattle.protocol.specs.Views.{Views}
+use Rattle.protocol.specs.declared.tellings.ScrubAnswer.{ScrubAnswer}
+use Rattle.protocol.specs.declared.tellings.ScrubAnswer.TheVariants.{Clean, Repaired, Aborted}
+use Rattle.messages.specs.declared.calls.Call.{Call}
+use Rattle.messages.specs.declared.packets.Packet.{Packet}
+use Rattle.messages.specs.declared.packets.Message.TheVariants as Message
+use Rattle.messages.specs.declared.requests.Request.TheVariants as Request
+use Rattle.messages.specs.declared.replies.Reply.{Reply}
+use Rattle.protocol.specs.declared.phases.Counted.{Counted}
+use Rattle.protocol.specs.Coordinators.{tells}
+use Rattle.protocol.specs.Scrubs.{lagging_of}
+use Rattle.fab_base.specs.Layouts.{seat_in}
+use Rattle.protocol_laws.specs.Laws.{WasSent, RequestSent}
+use Rattle.protocol_laws.specs.ScrubEnds.{IsScrub, CountedAlone, AskedOld, ScrubTold, EachTold, Held, cause_of}
 
 -- operations, by number
 abbrev pub Table : Type 0
@@ -150,20 +165,106 @@ pub record StoppedTries (operations : Table) (brick : BrickId) (number : GroupId
   pub in_turn : (k : ℕ) → k + 1 < most_tries → read k < read (k + 1)
   pub last : (k : ℕ) → k + 1 ≡ most_tries → IsTry operations brick number stripe boot view (read k) (Some (Some cause))
 
--- a report of a synchronisation that was stopped shows its reads
-abbrev pub ReportTried : Table → BrickId → Report → Type 0
-ReportTried operations brick (Report.Sync number (Stopped stripe cause)) = StoppedTries operations brick number stripe cause
-ReportTried operations brick report = Unit {0}
+-- A scrub of these members ended, whose last phase had this call: it shows which operation it was, how it ended, that these members alone counted, and what was told.
+pub record ScrubEnded (setting : Setting) (views : Views) (w : World) (brick : BrickId) (call : Call) (members : List BrickId) (answer : ScrubAnswer) : Type 0 where
+  pub n : ℕ
+  pub operation : Operation
+  pub is : w.operations n ≡ Some operation
+  pub was : IsScrub brick call operation
+  pub ended : operation.closed ≡ Some (cause_of answer)
+  pub alone : CountedAlone w n operation members
+  pub told : ScrubTold setting views (w.replies n) w.held call operation.view members answer
 
--- what bricks read for their synchronisations, and what those that were stopped had read
-pub record AreTried (operations : Table) (numbers : ℕ → ℕ → ℕ → ℕ) (nodes : ℕ → Node) (reports : List (BrickId × Report)) : Type 0 where
-  pub jobs : (i : ℕ) (job : Job) → (nodes i).job ≡ Some job
-      → JobTries operations (record { 0 = i }) (nodes i).boot (numbers i (nodes i).boot job.seq) job
-  pub reported : (k : ℕ) (told : BrickId × Report) → slice_get reports k ≡ Some told → ReportTried operations told.0 told.1
+-- a report of a synchronisation that was stopped shows its reads, and one of a scrub what that showed
+abbrev pub ReportTried : Setting → Views → World → BrickId → Report → Type 0
+ReportTried setting views w brick (Report.Sync number (Stopped stripe cause)) = StoppedTries w.operations brick number stripe cause
+ReportTried setting views w brick (Report.Scrub call members answer) = ScrubEnded setting views w brick call members answer
+ReportTried setting views w brick report = Unit {0}
 
--- so in a world
-abbrev pub Tried : World → Type 0
-Tried w = AreTried w.operations w.numbers w.nodes w.choices.reports
+-- what bricks read for their synchronisations, and what those that were stopped had read; and what scrubs showed that ended
+pub record Tried (setting : Setting) (views : Views) (w : World) : Type 0 where
+  pub jobs : (i : ℕ) (job : Job) → (w.nodes i).job ≡ Some job
+      → JobTries w.operations (record { 0 = i }) (w.nodes i).boot (w.numbers i (w.nodes i).boot job.seq) job
+  pub reported : (k : ℕ) (told : BrickId × Report) → slice_get w.choices.reports k ≡ Some told → ReportTried setting views w told.0 told.1
+
+-- From one world to a later one: operations stay, those without marks that have ended stay so, and the replies that counted in them; what was held was held,
+-- and what was sent was sent.
+pub record Later (w next : World) : Type 0 where
+  pub stays : StaysClosed w.operations next.operations
+  pub replies : (n : ℕ) (o : Operation) (cause : Option Cause) → w.operations n ≡ Some o → o.closed ≡ Some cause → (p : ℕ) → next.replies n p ≡ w.replies n p
+  pub held : (i g s : ℕ) (t : Stamp) → w.held i g s t ≡ true → next.held i g s t ≡ true
+  pub sent : (packet : Packet) → WasSent w packet → WasSent next packet
+
+-- what each told of a version it told by the same replies, and has held it
+each_on : (replies later : List Counted) (held more : Held) (call : Call) (members : List BrickId) (version : Stamp) (Says : Reply → Type 0) → later ≡ replies
+    → ((i g s : ℕ) (t : Stamp) → held i g s t ≡ true → more i g s t ≡ true) → EachTold replies held call members version Says
+    → EachTold later more call members version Says
+each_on replies later held more call members version Says same grows each = record {
+  told = λ k member at.
+      (let was = each.told k member at in (was.0, was.1, ap (λ (l : List Counted). slice_get l was.0) same ∙ was.2, was.3, was.4));
+  has = λ k member at. grows member.0 call.group.0 call.stripe.0 version (each.has k member at);
+}
+
+-- what was told stays so, where the replies do
+pub told_on : (setting : Setting) (views : Views) (replies later : ℕ → List Counted) (held more : Held) (call : Call) (view : ℕ) (members : List BrickId)
+    (answer : ScrubAnswer) → ((p : ℕ) → later p ≡ replies p) → ((i g s : ℕ) (t : Stamp) → held i g s t ≡ true → more i g s t ≡ true)
+    → ScrubTold setting views replies held call view members answer → ScrubTold setting views later more call view members answer
+told_on setting views replies later held more call view members Clean same grows told = record {
+  version = told.version;
+  each = each_on (replies 1) (later 1) held more call members told.version (λ reply. tells told.version reply ≡ true) (same 1) grows told.each;
+  final = λ p above. same p ∙ told.final p above;
+}
+told_on setting views replies later held more call view members (Repaired version lagging) same grows told = record {
+  each = each_on (replies call.phase) (later call.phase) held more call members version (λ reply. reply ≡ Reply.Stored) (same call.phase) grows told.each;
+  group = told.group;
+  group_is = told.group_is;
+  lagged = told.lagged ∙ ap (λ (l : List Counted). lagging_of told.group.members l) (sym (same 1));
+  final = λ p above. same p ∙ told.final p above;
+}
+told_on setting views replies later held more call view members (Aborted cause) same grows told = tt
+
+-- who counted alone did so
+pub counted_on : (w next : World) (n : ℕ) (o p : Operation) (members : List BrickId) → ((phase : ℕ) → next.replies n phase ≡ w.replies n phase)
+    → ((packet : Packet) → WasSent w packet → WasSent next packet) → KeepsAsk o p → CountedAlone w n o members → CountedAlone next n p members
+counted_on w next n o p members same sent keeps alone phase k x at = ⊎_elim
+    (λ (one : is_some (seat_in members x.brick.0) ≡ true). inl one)
+    (λ (back : AskedOld w o phase).
+    inr (record {
+      call = back.call;
+      own = (back.own.0 ∙ sym keeps.boot, back.own.1 ∙ sym keeps.seq);
+      phase_is = back.phase_is;
+      member = back.member;
+      bound = back.bound;
+      asked = sent (record { from = p.brick; to = back.member; message = Message.Request back.call (Request.OldRead back.bound) })
+          (subst (λ (b : BrickId). RequestSent w back.call b back.member (Request.OldRead back.bound)) (sym keeps.brick) back.asked);
+    }))
+    (alone phase k x (ap (λ (l : List Counted). slice_get l k) (sym (same phase)) ∙ at))
+
+-- and it was a scrub
+pub scrub_on : (brick : BrickId) (call : Call) (o p : Operation) → KeepsAsk o p → IsScrub brick call o → IsScrub brick call p
+scrub_on brick call o p keeps was = record {
+  unmarked = keeps.mark ∙ was.unmarked;
+  brick_is = keeps.brick ∙ was.brick_is;
+  own = (was.own.0 ∙ sym keeps.boot, was.own.1 ∙ sym keeps.seq);
+  ask = keeps.ask ∙ was.ask;
+}
+
+-- so a scrub that ended shows what it showed
+ended_on : (setting : Setting) (views : Views) (w next : World) → Later w next → (brick : BrickId) (call : Call) (members : List BrickId) (answer : ScrubAnswer)
+    → ScrubEnded setting views w brick call members answer → ScrubEnded setting views next brick call members answer
+ended_on setting views w next later brick call members answer was =
+    let goes = later.stays was.n was.operation was.is in
+    let same = later.replies was.n was.operation (cause_of answer) was.is was.ended in
+    record {
+      n = was.n;
+      operation = goes.0;
+      is = goes.1;
+      was = scrub_on brick call was.operation goes.0 goes.2.0 was.was;
+      ended = goes.2.1 (cause_of answer) was.ended;
+      alone = counted_on w next was.n was.operation goes.0 members same later.sent goes.2.0 was.alone;
+      told = subst (λ (view : ℕ). ScrubTold setting views (next.replies was.n) next.held call view members answer) (sym goes.2.0.view)
+          (told_on setting views (w.replies was.n) (next.replies was.n) w.held next.held call was.operation.view members answer same later.held was.told);
+    }
 
 -- all of this stays
 module _ (operations later : Table) (stays : StaysClosed operations later) where
@@ -193,9 +294,13 @@ module _ (operations later : Table) (stays : StaysClosed operations later) where
     last = λ k at. try_on operations later brick number stripe tries.boot tries.view (tries.read k) (Some cause) stays (tries.last k at);
   }
 
-  pub report_on : (brick : BrickId) (report : Report) → ReportTried operations brick report → ReportTried later brick report
-  report_on brick (Report.Sync number (Stopped stripe cause)) tries = stopped_on brick number stripe cause tries
-  report_on brick report tries = tt
+-- and so does a report
+pub report_on : (setting : Setting) (views : Views) (w next : World) → Later w next → (brick : BrickId) (report : Report) → ReportTried setting views w brick report
+    → ReportTried setting views next brick report
+report_on setting views w next later brick (Report.Sync number (Stopped stripe cause)) tries =
+    stopped_on w.operations next.operations later.stays brick number stripe cause tries
+report_on setting views w next later brick (Report.Scrub call members answer) was = ended_on setting views w next later brick call members answer was
+report_on setting views w next later brick report tries = tt
 
 -- a read begins, of the next number: it is the present try
 pub now_tried : (operations later : Table) (brick : BrickId) (boot begun seq : ℕ) (job : Job) → StaysClosed operations later

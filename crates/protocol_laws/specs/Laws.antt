@@ -35,6 +35,7 @@ use Rattle.protocol.specs.Worlds.{World, Event, Operation, content_on, first_wor
 use Rattle.protocol.specs.Happenings.{is_of, effect_in, happenings_of}
 pub use Rattle.view_laws.specs.Following.{WasSent, top_in, AtQuorum, IsGuarded, Follows, RunFollows}
 pub use Rattle.protocol_laws.specs.Evidence.{RequestSent, stamp_asked, order_of, AskedAt, IsCallOf, IsLastRound, IsLastPhase, LaterEvidence, FullEvidence, MovedEvidence, GoneEvidence, Evidence}
+use Rattle.protocol_laws.specs.ScrubEnds.{ScrubsShow}
 use Rattle.protocol_laws.specs.SyncEnds.{SyncsShow}
 use Rattle.protocol_laws.specs.Marked.{WordsFit, AreWithoutGaps, OwnMarks}
 
@@ -322,6 +323,7 @@ pub record Laws (setting : Setting) (views : Views) (w : World) : Type 0 where
   pub counted : CountedWereSent w
   pub aborts : AbortsShow w
   pub stopped : SyncsShow w
+  pub scrubbed : ScrubsShow setting views w
   pub own_marks : OwnMarks w
   pub refusals : RefusalsWereTrue setting w
   pub full : FullIsFull setting w

@@ -1,4 +1,5 @@
 pub mod Evidence
 pub mod Laws
 pub mod Marked
+pub mod ScrubEnds
 pub mod SyncEnds

@@ -11,8 +11,8 @@ ghost use Rattle.protocol_laws.specs.Laws.{EveryRunKeepsTheLaws, NeverSurfaces, 
 /// has learnt as a view is the assignment's, and where a brick has learnt a view, a quorum of each view before takes nothing below
 /// the next. A law on a version speaks of the members of the version's view: the view of its stamp, of the message that carries it,
 /// or of the part that keeps it. What a brick has come to is the stamp below which it takes nothing for a stripe, over all views.
-/// An operation that a client asked for has marks: its begin and its end. A read that a brick begins to synchronise a view has none,
-/// and is no happening. It may make a version, as any recovery does, and the laws on versions speak of that one too.
+/// An operation that a client asked for has marks: its begin and its end. A read that a brick begins to synchronise a view, or as a scrub, has
+/// none, and is no happening. It may make a version, as any recovery does, and the laws on versions speak of that one too.
 /// The laws are these.
 ///
 /// - Each stripe is strictly linearizable (Aguilera and Frølund, "Strict Linearizability and the Power of Aborting", 2003):
@@ -36,6 +36,11 @@ ghost use Rattle.protocol_laws.specs.Laws.{EveryRunKeepsTheLaws, NeverSurfaces, 
 ///   that view.
 /// - A synchronisation that was stopped at a stripe had read it eight times, one read after another; each was aborted, and shows why as
 ///   any abort does; and the last was aborted for the cause that is told.
+/// - A scrub that ended shows how, by the replies that counted: those of the members that it names, but for a phase that asked for what is
+///   kept in the view before. Where it was clean, each of these members had told one version as its newest, in the scrub's only phase, and has
+///   held it. Where it has repaired, each had said, in the last phase, that it stored the version, and has held it; and those lagged, of the
+///   members of its view, in the order of seats, who by the replies to its first phase told an earlier version than the newest of all, or none.
+///   Where it was aborted, it shows why as any abort does.
 /// - A version's content is what its maker makes of its base's: a stripe write's bytes, what a recovery read back, or that with the
 ///   one block that is written. The content of the first version is zero.
 /// - A version that is made on a base, as a recovery's or a block write's is, is above it; and no quorum of its view has held a

@@ -5,8 +5,7 @@ use Rattle.std.proofs.KnownBytes.{prepend_known-nil}
 use Rattle.fab_io.proofs.Content.{Appends-none}
 use Rattle.fab_base.specs.Layouts.{Layout}
 use Rattle.layout.specs.declared.faults.LayoutFault.{LayoutFault}
-use Rattle.layout.specs.Texts.{layout_of, audited_layout_of}
-use Rattle.layout.proofs.Readers.{text_is_audited}
+use Rattle.layout.specs.Texts.{layout_of}
 use Rattle.lines.specs.Lines.{raw_lines, content}
 use Rattle.lines.specs.Reading.{ReadsSchedule}
 use Rattle.lines.proofs.Needs.{IsNeeded-map}
@@ -38,7 +37,7 @@ with_alone (Ok layout) lines one other p q =
 
 -- what is found of an input is found alone
 finds_alone : (input : Input) (one other : Audited) → Audits input one → Audits input other → other ≡ one
-finds_alone (Parted head lines) one other p q = with_alone (audited_layout_of head) lines one other p q
+finds_alone (Parted head lines) one other p q = with_alone (layout_of head) lines one other p q
 finds_alone TooLong one other p q = q ∙ sym p
 finds_alone Endless one other p q = q ∙ sym p
 
@@ -46,13 +45,12 @@ finds_alone Endless one other p q = q ∙ sym p
 alone : (input : Input) (audited : Audited) → Audits input audited → FindsAlone input audited
 alone input audited p = record { finds = p; alone = λ other q. finds_alone input audited other p q }
 
--- a sound text behind a layout that a run reads too
+-- a sound text behind a layout
 pub sound_alone : (head : List ℕ) (layout : Layout) (lines : List (List ℕ)) → layout_of head ≡ Ok layout → Examines layout (text_of lines) (Judged Sound)
     → FindsAlone (Parted head lines) (Examined (Judged Sound))
 sound_alone head layout lines is sound =
     alone (Parted head lines) (Examined (Judged Sound))
-    (subst (λ (r : Result Layout LayoutFault). AuditsWith r lines (Examined (Judged Sound))) (sym (text_is_audited head layout is))
-    (Judged Sound, sound, refl))
+    (subst (λ (r : Result Layout LayoutFault). AuditsWith r lines (Examined (Judged Sound))) (sym is) (Judged Sound, sound, refl))
 
 -- an input has no layout, and this is found of it
 pub told_alone : (source : Option (List ℕ)) (input : Input) (audited : Audited) → IsInput source input → Audits input audited → FindsTold source audited
@@ -91,7 +89,7 @@ FindsIn-behind first unread source source_after left head audited none reads und
 )
 
 -- this was found of the lines that are left
-pub left_found : (head : List ℕ) (layout : Layout) (left : Option (List ℕ)) (found : AuditResult) → audited_layout_of head ≡ Ok layout
+pub left_found : (head : List ℕ) (layout : Layout) (left : Option (List ℕ)) (found : AuditResult) → layout_of head ≡ Ok layout
     → ExaminesLeft layout left found → FindsLeft head left (Examined found)
 left_found head layout None found is p = tt
 left_found head layout (Some bytes) found is p =
@@ -103,7 +101,7 @@ unfolding text_behind
 empty_found layout = refl
 
 -- no line is left, and the counts are missing on the first
-pub none_found : (head : List ℕ) (layout : Layout) (left : Option (List ℕ)) → audited_layout_of head ≡ Ok layout → IsAtEnd left
+pub none_found : (head : List ℕ) (layout : Layout) (left : Option (List ℕ)) → layout_of head ≡ Ok layout → IsAtEnd left
     → FindsLeft head left (Examined (BadForm 1))
 none_found head layout None is end = tt
 none_found head layout (Some bytes) is end =
@@ -111,13 +109,13 @@ none_found head layout (Some bytes) is end =
     (subst (λ (b : List ℕ). Examines layout (text_of (map content (raw_lines b))) (BadForm 1)) (sym end) (empty_found layout))
 
 -- the layout's text is none
-pub refused_found : (head : List ℕ) (left : Option (List ℕ)) (fault : LayoutFault) → audited_layout_of head ≡ Err fault → FindsLeft head left (NoLayout fault)
+pub refused_found : (head : List ℕ) (left : Option (List ℕ)) (fault : LayoutFault) → layout_of head ≡ Err fault → FindsLeft head left (NoLayout fault)
 refused_found head None fault is = tt
 refused_found head (Some bytes) fault is =
     subst (λ (r : Result Layout LayoutFault). AuditsWith r (map content (raw_lines bytes)) (NoLayout fault)) (sym is) refl
 
 -- lines that lead on were read behind a layout's text
-audit_goes : (head : List ℕ) (layout : Layout) (bytes : List ℕ) → audited_layout_of head ≡ Ok layout → TextSoFar bytes → BehindSoFar AuditGoesOn head bytes []
+audit_goes : (head : List ℕ) (layout : Layout) (bytes : List ℕ) → layout_of head ≡ Ok layout → TextSoFar bytes → BehindSoFar AuditGoesOn head bytes []
 audit_goes head layout bytes is s = record {
   raw = s.raw;
   begun = s.begun;
@@ -129,7 +127,7 @@ audit_goes head layout bytes is s = record {
 
 -- what was read of a text was read behind its layout's
 pub ReadsPart-text : (head : List ℕ) (layout : Layout) (unread : List ℕ) (told told_after : Option (List ℕ)) (came : ℕ) (untouched failed stopped : Type 0)
-    → audited_layout_of head ≡ Ok layout → (stopped → failed) → TextReads unread told told_after came untouched failed
+    → layout_of head ≡ Ok layout → (stopped → failed) → TextReads unread told told_after came untouched failed
     → ReadsPart (BehindSoFar AuditGoesOn head) unread told told_after None None came untouched stopped
 ReadsPart-text head layout unread told told_after came untouched failed stopped is cause r = record {
   read = r.read;

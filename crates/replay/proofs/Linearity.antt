@@ -47,6 +47,7 @@ strict_world layout is steps =
       strict = kept.strict;
       aborts_show = kept.aborts;
       syncs_show = kept.stopped;
+      scrubs_show = kept.scrubbed;
       synced_stand = kept.synced;
       laws = kept;
       views = record {

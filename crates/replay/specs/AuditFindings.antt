@@ -2,7 +2,7 @@
 use Rattle.std.specs.Prelude.{◌≡◌, ℕ, List, Result, Ok, Err}
 use Rattle.fab_base.specs.Layouts.{Layout}
 use Rattle.layout.specs.declared.faults.LayoutFault.{LayoutFault}
-use Rattle.layout.specs.Texts.{audited_layout_of}
+use Rattle.layout.specs.Texts.{layout_of}
 use Rattle.transcript.specs.Transcripts.{text_of}
 use Rattle.audit.specs.declared.examining.AuditResult.{AuditResult}
 use Rattle.audit.specs.Examining.{Examines}
@@ -17,7 +17,7 @@ AuditsWith (Ok layout) lines audited = (found : AuditResult) × Examines layout 
 
 -- what an audit finds of an input
 abbrev pub Audits : Input → Audited → Type 0
-Audits (Parted head lines) audited = AuditsWith (audited_layout_of head) lines audited
+Audits (Parted head lines) audited = AuditsWith (layout_of head) lines audited
 Audits TooLong audited = audited ≡ LongLayout
 Audits Endless audited = audited ≡ NoEnd
 

@@ -1,5 +1,5 @@
 -- What the program `replay` promises for the word `audit`: what is found of a text, what is printed of it, and how that ends.
-use Rattle.std.specs.Prelude.{◌≡◌, ℕ, ◌⊎◌, Bool, List, [], ◌++◌, map, ⊤, codes, Option, Some, None, Result, Ok, Err}
+use Rattle.std.specs.Prelude.{◌≡◌, ℕ, ◌⊎◌, List, [], ◌++◌, map, ⊤, codes, Option, Some, None, Result, Ok, Err}
 use Rattle.std.specs.Fmt.{decimal}
 use Rattle.std.specs.Io.KnownBytes.{Appends, Keeps}
 use Rattle.fab_io.specs.Ends.{AppendsFront}
@@ -7,7 +7,7 @@ use Rattle.lines.specs.Lines.{raw_lines, content}
 use Rattle.lines.specs.Reading.{IsBegun}
 use Rattle.fab_base.specs.Layouts.{Layout}
 use Rattle.layout.specs.Names.{fault_text}
-use Rattle.layout.specs.Texts.{audited_layout_of}
+use Rattle.layout.specs.Texts.{layout_of}
 use Rattle.transcript.specs.Forms.{most_line_bytes}
 use Rattle.transcript.specs.Readings.{LeadsOn}
 use Rattle.audit.specs.declared.findings.Finding.TheVariants.{Sound, BadMarks, BadStripe, BadCount}
@@ -72,7 +72,7 @@ EndsAudited (Examined found) left = EndsJudged found left
 -- what an audit found of a layout's text and of what was left of a source behind it, and left of that
 abbrev pub FindsLeft : List ℕ → Option (List ℕ) → Audited → Type 0
 FindsLeft head None audited = ⊤
-FindsLeft head (Some bytes) audited = AuditsWith (audited_layout_of head) (map content (raw_lines bytes)) audited
+FindsLeft head (Some bytes) audited = AuditsWith (layout_of head) (map content (raw_lines bytes)) audited
 
 abbrev pub FindsBehind : List ℕ → Option (List ℕ) → Option (List ℕ) → Audited → Type 0
 FindsBehind head left left_after audited = FindsLeft head left audited × EndsAudited audited left_after
@@ -93,7 +93,7 @@ AuditPrints finds old new (Err Memory) = Keeps old new
 -- printed nothing.
 abbrev pub AuditGoesOn : List ℕ → List (List ℕ) → List ℕ → List ℕ → Type 0
 AuditGoesOn head lines begun text =
-    IsBegun most_line_bytes begun × ((layout : Layout) × (audited_layout_of head ≡ Ok layout)) × LeadsOn lines × (text ≡ [])
+    IsBegun most_line_bytes begun × ((layout : Layout) × (layout_of head ≡ Ok layout)) × LeadsOn lines × (text ≡ [])
 
 -- An audit. There is an end, of which the status tells. The sink took the one text of what was found, and nothing before it. What was
 -- found is what the input alone calls for, where the source tells its bytes: 0 exactly where its text has the forms, order and limits,

@@ -15,6 +15,7 @@ use Rattle.protocol.specs.Worlds.{World, first_world}
 use Rattle.protocol.specs.Happenings.{happenings_of}
 use Rattle.view_laws.specs.Following.{RunFollows}
 use Rattle.protocol_laws.specs.Laws.{AbortsShow, Laws, SyncedStand}
+use Rattle.protocol_laws.specs.ScrubEnds.{ScrubsShow}
 use Rattle.protocol_laws.specs.SyncEnds.{SyncsShow}
 use Rattle.protocol_laws.specs.Marked.{WordsFit}
 use Rattle.stripe_code.specs.Codes.{coding}
@@ -66,8 +67,9 @@ abbrev pub Refuses : List ℕ → Option (List ℕ) → Option (List ℕ) → �
 Refuses usage old new status = ((status ≡ 2) × Appends old new usage) ⊎ (((status ≡ 6) ⊎ (status ≡ 7)) × AppendsFront old new usage)
 
 -- What lines left is strict: the marks are well formed, and each answer has the word of its operation; the happenings of each stripe are
--- strict for its marks; every abort shows its evidence, and so does every synchronisation that was stopped; and each message that all stripes are kept in a
--- view is true. Beside these all laws of the disk hold of it, for the members that its messages teach, and all laws of views.
+-- strict for its marks; every abort shows its evidence, and so does every synchronisation that was stopped; every scrub that ended shows how, by what its
+-- members told and have held; and each message that all stripes are kept in a view is true. Beside these all laws of the disk hold of it, for the members
+-- that its messages teach, and all laws of views.
 pub record IsStrictWorld (layout : Layout) (world : World) : Type 0 where
   pub well_formed : IsWellFormed world.marks
   pub words : WordsFit layout world.marks
@@ -75,6 +77,7 @@ pub record IsStrictWorld (layout : Layout) (world : World) : Type 0 where
       → IsStrict group.m layout.block (stripe_marks g s world.marks) (happenings_of world g s)
   pub aborts_show : AbortsShow world
   pub syncs_show : SyncsShow world
+  pub scrubs_show : ScrubsShow (coding layout) (views_in layout world.packets) world
   pub synced_stand : SyncedStand (coding layout) (views_in layout world.packets) world
   pub laws : Laws (coding layout) (views_in layout world.packets) world
   pub views : ViewsHold layout world

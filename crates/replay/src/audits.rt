@@ -106,7 +106,7 @@ fn audit_layout<S: Source>(
         (result ≡ Err Halt.Source) }
     ensures cause { result ≢ Err Halt.Sink }
 {
-    match Layout::read_audited(alloc, head) {
+    match Layout::read(alloc, head) {
         Ok(layout) => {
             if is_alone {
                 return Ok(Audited::Examined(AuditResult::BadForm(1)));

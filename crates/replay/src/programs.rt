@@ -54,7 +54,9 @@ use std::alloc::Global;
 /// 70,000 bytes, a layout that is none, or a line too many (`ReadsAsNeeded` and `FailedSource`, `specs/Replays.antt`).
 ///
 /// However far a run comes, all laws of the disk hold of what its lines left (`Laws` of `protocol_laws`). Every abort shows its evidence, and
-/// so does a synchronisation that was stopped: its stripe had been read eight times, and each read was aborted. Once a message says that all
+/// so does a synchronisation that was stopped: its stripe had been read eight times, and each read was aborted. A scrub that ended shows how: where
+/// it was clean, each of its members told one version as its newest, and has held it; where it has repaired, each has stored the version, and those
+/// lagged who had told an earlier one than the newest of all, or none, to its first phase. Once a message says that all
 /// stripes are kept in a view, a quorum of its members has held a version of each (`IsStrictWorld`, `specs/Replays.antt`). What
 /// further lines leave follows it: no brick has lowered what it had promised or stored, or added a version
 /// below that, and no version that was lost has surfaced (`Succeeds`, `specs/Histories.antt`).

@@ -1,10 +1,10 @@
 //! What bricks report has a spelling: its numbers are those of their types, which the one who looks at them is told.
 
 ghost use Rattle.std.specs.Prelude.{◌≡◌};
-ghost use Rattle.printed.specs.Spellings.{BricksRead, ViewAnswerReads, SyncAnswerReads, ReportReads, AllReportsRead};
+ghost use Rattle.printed.specs.Spellings.{BricksRead, ViewAnswerReads, SyncAnswerReads, ScrubAnswerReads, ReportReads, AllReportsRead};
 
 use fab_base::BrickId;
-use protocol::{Report, SyncAnswer, ViewAnswer};
+use protocol::{Report, ScrubAnswer, SyncAnswer, ViewAnswer};
 
 /// The value that is pointed to. Its numbers are those of its type.
 fn value_at<T: Copy>(place: &T) -> T
@@ -62,6 +62,22 @@ fn look_at_sync_answer(answer: &SyncAnswer)
     }
 }
 
+/// Looks at how a scrub ended: its numbers are those of their types.
+fn look_at_scrub_answer(answer: &ScrubAnswer)
+    ensures { ScrubAnswerReads answer.now }
+{
+    match answer {
+        ScrubAnswer::Clean => {}
+        ScrubAnswer::Repaired { stamp, lagging } => {
+            let _stamp = value_at(stamp);
+            look_at_bricks(lagging.as_slice());
+        }
+        ScrubAnswer::Aborted { cause } => {
+            let _cause = value_at(cause);
+        }
+    }
+}
+
 /// Looks at a report: its numbers are those of their types.
 fn look_at_report(report: &Report)
     ensures { ReportReads report.now }
@@ -74,6 +90,11 @@ fn look_at_report(report: &Report)
         Report::Sync { group, answer } => {
             let _group = value_at(group);
             look_at_sync_answer(answer);
+        }
+        Report::Scrub { call, answer, .. } => {
+            let _group = value_at(&call.group);
+            let _stripe = value_at(&call.stripe);
+            look_at_scrub_answer(answer);
         }
     }
 }

@@ -10,12 +10,11 @@ use Rattle.fab_base.specs.declared.asks.Op.TheVariants.{ReadBlock, WriteBlock, R
 use Rattle.fab_base.specs.declared.identities.BrickId.{BrickId}
 use Rattle.fab_base.specs.declared.identities.ViewNo.{ViewNo}
 use Rattle.fab_base.specs.declared.stamps.Stamp.{Stamp}
-use Rattle.fab_base.specs.Layouts.{Layout, seat_in}
+use Rattle.fab_base.specs.Layouts.{Layout}
 use Rattle.messages.specs.declared.calls.Call.{Call}
 use Rattle.messages.specs.declared.replies.Reply.{Reply}
 use Rattle.messages.specs.declared.replies.Reply.TheVariants as replies
 use Rattle.messages.specs.declared.requests.Version.{Version}
-use Rattle.quorum.specs.Quorums.{quorum_of}
 use Rattle.reg_model.specs.Registers.{block_of, read_of}
 use Rattle.protocol.specs.declared.phases.Counted.{Counted}
 use Rattle.protocol.specs.declared.phases.Dropper.{Dropper}
@@ -24,7 +23,7 @@ use Rattle.protocol.specs.declared.phases.Mover.{Mover}
 use Rattle.protocol.specs.declared.phases.Refuser.{Refuser}
 use Rattle.protocol.specs.declared.phases.Phase.{Phase}
 use Rattle.protocol.specs.declared.phases.Phase.TheVariants.{Looks, LooksAt, Orders, OrdersAt, Recovers, Descends, LooksBack, Modifies, Bases, Stores}
-use Rattle.protocol.specs.Coordinators.{Coordinator, Next, Waits, Sends, Makes, Ends, asked_group, call_same, told_length, answers_phase, has_seat, new_seat, answering_seat, counts_at, found_bytes, bytes_at, pieces_of, pieces_at, fast_version, fast_version_at, common_version_at, some_behind, greatest_refuser, lowest_full, greatest_found, in_phase, restoring, block_written, modifying, reordering, forgetting, most_rounds, aborted_by, lowest_mover, lowest_dropper, unless_told_moved, unless_told_gone, unless_told_full, unless_refused, once_ordered, answered_fast, answered_fast_at, lower_phase, may_look_back, read_back, modified_if, once_modified, rebuilt, answer_with, decided, with_reply, counted_at, on_reply}
+use Rattle.protocol.specs.Coordinators.{Coordinator, Next, Waits, Sends, Makes, Ends, needed, counting_seat, call_same, told_length, answers_phase, has_seat, new_seat, answering_seat, counts_at, found_bytes, bytes_at, pieces_of, pieces_at, fast_version, fast_version_at, common_version_at, some_behind, greatest_refuser, lowest_full, greatest_found, in_phase, restoring, block_written, modifying, reordering, forgetting, most_rounds, aborted_by, lowest_mover, lowest_dropper, unless_told_moved, unless_told_gone, unless_told_full, unless_refused, once_ordered, answered_fast, answered_fast_at, lower_phase, may_look_back, read_back, modified_if, once_modified, rebuilt, answer_with, decided, with_reply, counted_at, on_reply}
 use Rattle.stripe_code.specs.Codes.{block_code}
 use Rattle.stripe_code.proofs.Changes.{length-block_delta}
 use Rattle.serving.proofs.CodeSizes.{length-decoded, length-after}
@@ -91,10 +90,10 @@ still_answering block c reply counted (Some seat) answers =
 counting : (block : ℕ) (c : Coordinator) (from : ℕ) (call : Call) (reply : Reply) → Answers block c reply (counts_at block c from call reply)
 unfolding counts_at
 counting block c from call reply =
-    cond_both (call_same call c.call && nat_lt c.call.phase (2 ^ 32 - 1)) (new_seat c.counted (answering_seat block c reply (seat_in (asked_group c).members from))) None
+    cond_both (call_same call c.call && nat_lt c.call.phase (2 ^ 32 - 1)) (new_seat c.counted (answering_seat block c reply (counting_seat c from))) None
     (Answers block c reply)
-    (λ this. still_answering block c reply c.counted (answering_seat block c reply (seat_in (asked_group c).members from))
-    (answering block c reply (seat_in (asked_group c).members from)))
+    (λ this. still_answering block c reply c.counted (answering_seat block c reply (counting_seat c from))
+    (answering block c reply (counting_seat c from)))
     (λ other. tt)
 
 -- the bytes that the reply of a seat tells are at most a block
@@ -303,7 +302,7 @@ module _ (layout : Layout) (few : layout.block ≤ 4096) where
   counted_fits fresh c from reply (Some seat) own fits answers =
       let it : Coordinator = with_reply c seat from reply in
       let now : CallFits layout it = reply_counted c seat from reply fits answers in
-      cond_both (nat_lt (length it.counted) (quorum_of (asked_group it))) (Waits it) (decided layout.block (block_code layout.block) fresh it) (NextFits layout)
+      cond_both (nat_lt (length it.counted) (needed it)) (Waits it) (decided layout.block (block_code layout.block) fresh it) (NextFits layout)
       (λ waits. now) (λ full. decided_in fresh it it.phase own now)
 
   -- what a coordinator does with a reply

@@ -9,6 +9,7 @@ mod Fitting
 mod Lists
 pub mod Looks
 mod Members
+mod OldBlocks
 mod OneTurn
 mod Runs
 mod Shown

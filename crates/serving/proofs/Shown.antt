@@ -6,17 +6,21 @@ use Rattle.std.specs.List.{AllByRecursion, list_all}
 use Rattle.std.specs.Map.{lookup}
 use Rattle.std.specs.BTreeMap.{is_at}
 use Rattle.std.proofs.lemmas.Bool.{cond_both, and_parts}
-use Rattle.std.proofs.lemmas.List.{length-replicate}
 use Rattle.fab_base.specs.declared.identities.BrickId.{BrickId}
 use Rattle.fab_base.specs.declared.member_lists.View.{View}
 use Rattle.fab_base.specs.Layouts.{Layout, Group, group_of, first_view}
 use Rattle.version_log.specs.Versions.{Version as Kept, version}
+use Rattle.frame_store.specs.declared.frames.Frame.{Frame}
+use Rattle.frame_store.specs.declared.shapes.Form.{Form}
+use Rattle.frame_store.specs.declared.shapes.Form.TheVariants.{Old, New, Moved}
 use Rattle.frame_store.specs.declared.shapes.Shape.{Shape}
 use Rattle.frame_store.specs.Images.{block_in}
+use Rattle.frame_store.specs.Layouts.{formed}
 use Rattle.brick_state.specs.Entries.{Entry}
 use Rattle.brick_state.specs.States.{Place, StripeOf, StateOf, place_cmp, first_stripe, stripe_at, group_at}
 use Rattle.brick_store.specs.Blocks.{resolved, resolved_stripe, log_of, learnt_view, accepted_of}
-use Rattle.brick_store.specs.Images.{block_at, state_in, StandsFor}
+use Rattle.brick_store.specs.Images.{block_at, state_by, state_in, StandsFor}
+use Rattle.brick_store.specs.OldLists.{old_state_in}
 use Rattle.layout.specs.Limits.{IsLayout, IsGroup}
 use Rattle.synod_laws.specs.Synods.{Kept as KeptBallots, last_of}
 use Rattle.protocol.specs.Views.{Learnt, members_of, first_learnt, is_view, may_be_taught}
@@ -33,19 +37,10 @@ use Rattle.serving.specs.Views.{IsViewOf, IsProposalOf, IsJobOf}
 use Rattle.serving.proofs.Everywhere.{all_append, all_map}
 use Rattle.serving.proofs.Fitting.{IsShort, AreShort, NamesSome, TellsSome, ViewFits, ProposalFits, NodeFits}
 use Rattle.serving.proofs.Lists.{names_some, view_fits, first_fits}
+use Rattle.serving.proofs.OldBlocks.{KeptShort, StripeShort, zeros_short, at_short, old_short}
 use Rattle.serving.proofs.Voting.{answer_names}
 
 -- ---- what lies in the slots of an image
-
--- a version that is kept has a short block
-abbrev KeptShort : ℕ → Kept → Type 0
-KeptShort block v = length v.block ≤ block
-
-abbrev StripeShort : ℕ → StripeOf Kept → Type 0
-StripeShort block s = AllByRecursion (KeptShort block) s.added
-
-zeros_short : (n : ℕ) → length {A = ℕ} (replicate n 0) ≤ n
-zeros_short n = let long : length {A = ℕ} (replicate n 0) ≡ n = length-replicate n 0 in omega (arith, long)
 
 front_short : (n : ℕ) (bytes : List ℕ) → length (take n bytes) ≤ n
 front_short n bytes = let front = length-take n bytes in omega (arith, front)
@@ -79,6 +74,14 @@ resolved_short : (shape : Shape) (image : List ℕ) (st : StateOf Entry) (p : Pl
 unfolding resolved
 resolved_short shape image st p = found_short shape image (is_at (place_cmp p)) (first_stripe p) tt st.stripes
 
+-- and so it is of each form
+stripe_short : (shape : Shape) (image : List ℕ) (form : Form) (frames : List Frame) (p : Place)
+    → StripeShort shape.block (stripe_at (state_by form shape frames image) p)
+stripe_short shape image Old frames p =
+    at_short shape.block p (old_state_in shape.block shape.records frames).stripes (old_short shape.block shape.records frames)
+stripe_short shape image New frames p = resolved_short shape image _ p
+stripe_short shape image Moved frames p = resolved_short shape image _ p
+
 -- the log of a stripe whose added versions are short
 log_short : (block : ℕ) (s : StripeOf Kept) → StripeShort block s → AreShort block (map as_version (log_of block s))
 log_short block s short =
@@ -91,7 +94,8 @@ pub logs_short : (shape : Shape) (st : StateOf Kept) (image : List ℕ) → Stan
     → AreShort shape.block (part_in shape.block st g e s).log
 logs_short shape st image stands g e s =
     subst (λ (z : StateOf Kept). AreShort shape.block (part_in shape.block z g e s).log) stands.state
-    (log_short shape.block (stripe_at (state_in shape stands.frames image) (g, e, s)) (resolved_short shape image _ (g, e, s)))
+    (log_short shape.block (stripe_at (state_in (formed stands.form shape) stands.frames image) (g, e, s))
+    (stripe_short (formed stands.form shape) image stands.form stands.frames (g, e, s)))
 
 -- ---- lists of members
 

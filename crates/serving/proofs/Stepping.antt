@@ -1,5 +1,5 @@
 -- A step of a brick of the layout leaves one, and sends and answers what has a spelling, whatever message came from a brick, and whatever was asked.
-use Rattle.std.proofs.Common.{◌≡◌, ℕ, ◌+◌, ◌*◌, ◌<◌, ◌≤◌, Bool, true, false, List, ◌++◌, length, Option, Some, None, refl, replicate, subst, arith}
+use Rattle.std.proofs.Common.{◌≡◌, ℕ, ◌+◌, ◌*◌, ◌<◌, ◌≤◌, Bool, true, false, List, [], ◌++◌, length, Option, Some, None, refl, replicate, subst, arith}
 use Rattle.std.specs.Prelude.{not, is_some, nat_eq, nat_lt, ◌-◌, ◌&&◌, ◌||◌, if◌then◌else◌, max}
 use Rattle.std.specs.Option.{IfSome, option_map}
 use Rattle.std.proofs.lemmas.Bool.{cond_both, eqb-true, eqb-false, ltb-true, and_parts, or_parts, not-false, false≢true}
@@ -31,9 +31,10 @@ use Rattle.quorum.specs.Memberships.{is_membership}
 use Rattle.synod_laws.specs.Synods.{Kept, last_of}
 use Rattle.protocol.specs.Views.{Learnt, kept_by, is_later, learns, is_unsynced, notes_synced, first_kept, view_told}
 use Rattle.protocol.specs.Ballots.{Voted, moved_to}
-use Rattle.protocol.specs.Coordinators.{Coordinator, Next, Ignores, Waits, Sends, Makes, Ends, on_reply}
+use Rattle.protocol.specs.Coordinators.{Coordinator, Next, Ignores, Waits, Sends, Makes, Ends, counts_at, hearing, on_reply}
+use Rattle.protocol.specs.Scrubs.{Scrub, lagging_after}
 use Rattle.protocol.specs.Jobs.{Job, JobNext, Reads, Finishes, GivesUp, job_ask, job_after, abort_cause}
-use Rattle.protocol.specs.Nodes.{Node, NodeStep, put, no_step, view_at, has_accepted, has_block, has_length, refusal_in, refusal_of, first_phase, has_later_time, new_stamp, fresh_stamp, given_content, coordinator_in, new_coordinator, began, invoked, replica_at, full_at, reply_packets, reacted, requested_at, is_now, has_successor, fits, seat_now, is_void, moved_at, served_unless, vote_at, voted_on, old_reply, requested_as, requested_in, requested, with_learnt, node_taught, may_teach, node_learnt, node_synced, known_after, with_call, with_known, with_round, carried_out, with_proposal, carried_ballot, replied_ballot, with_job, read_begun_by, read_begun_in, job_goes, read_closed, carried_read, job_reading, carried_for, replied_at, counts_here, view_counted, then_taught, replied, lists_fit, heard, received, ticked, ballot_resent, resent, calls_but_read, job_call, resent_up_to, most_open, is_spent}
+use Rattle.protocol.specs.Nodes.{Node, NodeStep, put, no_step, view_at, has_accepted, has_block, has_length, refusal_in, refusal_of, first_phase, has_later_time, new_stamp, fresh_stamp, given_content, coordinator_in, new_coordinator, began, invoked, replica_at, full_at, reply_packets, reacted, requested_at, is_now, has_successor, fits, seat_now, is_void, moved_at, served_unless, vote_at, voted_on, old_reply, requested_as, requested_in, requested, with_learnt, node_taught, may_teach, node_learnt, node_synced, known_after, with_call, with_known, with_round, carried_out, with_proposal, carried_ballot, replied_ballot, with_job, read_begun_by, read_begun_in, job_goes, read_closed, carried_read, job_reading, with_scrub, carried_scrub, collect_packets, scrub_of, carried_for, replied_at, counts_here, view_counted, then_taught, replied, lists_fit, heard, received, ticked, ballot_resent, resent, calls_but_read, calls_but_scrub, job_call, scrub_call, resent_up_to, most_open, is_spent}
 use Rattle.protocol.specs.Proposals.{Proposal, Voting, Ignored, Waited, Asks, Ended, voted}
 use Rattle.protocol.specs.Replicas.{Replica, Reaction, fresh_replica, handle, newest_of, under}
 use Rattle.protocol.proofs.Served.{parts_each}
@@ -506,11 +507,33 @@ module _ (layout : Layout) (is : IsLayout layout) (me : BrickId) where
       }
   read_carried now node known job c next fits its call next_fits = carried_fits node known c next fits call next_fits
 
-  carried_on : (now : ℕ) (node : Node) (known : ℕ) (c : Coordinator) (next : Next) (job : Option Job) → NodeFits layout node
-      → ((j : Job) → job ≡ Some j → ViewFits layout j.view) → CallFits layout c → NextFits layout next
-      → StepFits layout (carried_for (coding layout) me now node known c next job)
-  carried_on now node known c next None fits its call next_fits = carried_fits node known c next fits call next_fits
-  carried_on now node known c next (Some job) fits its call next_fits = read_carried now node known job c next fits (its job refl) call next_fits
+  -- ---- a scrub goes on
+
+  -- the scrub changes
+  scrubs : (node : Node) (scrub : Option Scrub) → NodeFits layout node → NodeFits layout (with_scrub node scrub)
+  scrubs node scrub fits =
+      record { views = fits.views; accepted = fits.accepted; logs = fits.logs; calls = fits.calls; proposal = fits.proposal; job = fits.job }
+
+  -- what its coordinator decided
+  scrub_carried : (node : Node) (known : ℕ) (scrub : Scrub) (c after : Coordinator) (next : Next) → NodeFits layout node
+      → CallFits layout c → NextFits layout next → StepFits layout (carried_scrub (coding layout) me node known scrub c after next)
+  scrub_carried node known scrub c after (Ends answer seen stored) fits call next =
+      record {
+        node = scrubs (with_call node known node.busy c.call.seq None) None (opens node known node.busy c.call.seq None fits (λ d none. cc));
+        packets = all_append (PacketFits layout) (collect_packets me c stored) [] (collect_fits layout is.few_bytes me c stored call) tt;
+        answers = tt;
+      }
+  scrub_carried node known scrub c after (Sends d) fits call next =
+      carried_fits (with_scrub node (Some (record scrub { lagging = lagging_after scrub after }))) known c (Sends d)
+      (scrubs node (Some (record scrub { lagging = lagging_after scrub after })) fits) call next
+  scrub_carried node known scrub c after next fits call next_fits = carried_fits node known c next fits call next_fits
+
+  carried_on : (now : ℕ) (node : Node) (known : ℕ) (c after : Coordinator) (next : Next) (job : Option Job) (scrub : Option Scrub)
+      → NodeFits layout node → ((j : Job) → job ≡ Some j → ViewFits layout j.view) → CallFits layout c → NextFits layout next
+      → StepFits layout (carried_for (coding layout) me now node known c after next job scrub)
+  carried_on now node known c after next None None fits its call next_fits = carried_fits node known c next fits call next_fits
+  carried_on now node known c after next None (Some scrub) fits its call next_fits = scrub_carried node known scrub c after next fits call next_fits
+  carried_on now node known c after next (Some job) scrub fits its call next_fits = read_carried now node known job c next fits (its job refl) call next_fits
 
   -- the synchronisation whose read a call is
   job_at : (job : Option Job) (seq : ℕ) → ((j : Job) → job ≡ Some j → ViewFits layout j.view) → (j : Job) → job_reading job seq ≡ Some j
@@ -552,7 +575,8 @@ module _ (layout : Layout) (is : IsLayout layout) (me : BrickId) where
   replied_fits_at now from node call reply (Some c) fits call_fits =
       let known : ℕ = known_after node.known reply in
       let fresh : Option Stamp = fresh_stamp me c.stamp.view now node.boot known in
-      carried_on now node known c (on_reply layout.block (block_code layout.block) fresh c from call reply) (job_reading node.job c.call.seq) fits
+      carried_on now node known c (hearing c from reply (counts_at layout.block c from.0 call reply))
+      (on_reply layout.block (block_code layout.block) fresh c from call reply) (job_reading node.job c.call.seq) (scrub_of node.scrub c.call.seq) fits
       (job_at node.job c.call.seq fits.job) (call_fits c refl)
       (replied_fits layout is.few_bytes fresh c from call reply (fresh_own c now node.boot known) (call_fits c refl))
 
@@ -608,12 +632,29 @@ module _ (layout : Layout) (is : IsLayout layout) (me : BrickId) where
   read_of_job calls None fits c none = cc
   read_of_job calls (Some job) fits c at = fits job.seq c at
 
+  -- the same of the scrub
+  but_scrub_fits : (calls : ℕ → Option Coordinator) (scrub : Option Scrub) → ((k : ℕ) (c : Coordinator) → calls k ≡ Some c → CallFits layout c)
+      → (k : ℕ) (c : Coordinator) → calls_but_scrub calls scrub k ≡ Some c → CallFits layout c
+  but_scrub_fits calls None fits = fits
+  but_scrub_fits calls (Some scrub) fits =
+      put_each (λ j x. (c : Coordinator) → x ≡ Some c → CallFits layout c) calls scrub.seq None (λ c none. cc) (λ j other. fits j)
+
+  call_of_scrub : (calls : ℕ → Option Coordinator) (scrub : Option Scrub) → ((k : ℕ) (c : Coordinator) → calls k ≡ Some c → CallFits layout c)
+      → (c : Coordinator) → scrub_call calls scrub ≡ Some c → CallFits layout c
+  call_of_scrub calls None fits c none = cc
+  call_of_scrub calls (Some scrub) fits c at = fits scrub.seq c at
+
   pub ticked_fits : (node : Node) → NodeFits layout node → PacketsFit layout (ticked (coding layout) me node)
   unfolding ticked
   ticked_fits node fits =
-      let others : ℕ → Option Coordinator = calls_but_read node.calls node.job in
+      let others : ℕ → Option Coordinator = calls_but_scrub (calls_but_read node.calls node.job) node.scrub in
       let own : Option Coordinator = job_call node.calls node.job in
-      all_append (PacketFits layout) (resent_up_to (coding layout) me others node.seq) (ballot_resent me node.proposal ++ resent (coding layout) me own)
-      (all_again layout is.few_bytes me others (but_fits node.calls node.job fits.calls) node.seq)
-      (all_append (PacketFits layout) (ballot_resent me node.proposal) (resent (coding layout) me own)
-      (ballot_again layout is.few_bytes me node.proposal fits.proposal) (again layout is.few_bytes me own (read_of_job node.calls node.job fits.calls)))
+      let last : Option Coordinator = scrub_call node.calls node.scrub in
+      all_append (PacketFits layout) (resent_up_to (coding layout) me others node.seq)
+      (ballot_resent me node.proposal ++ (resent (coding layout) me own ++ resent (coding layout) me last))
+      (all_again layout is.few_bytes me others (but_scrub_fits (calls_but_read node.calls node.job) node.scrub (but_fits node.calls node.job fits.calls)) node.seq)
+      (all_append (PacketFits layout) (ballot_resent me node.proposal) (resent (coding layout) me own ++ resent (coding layout) me last)
+      (ballot_again layout is.few_bytes me node.proposal fits.proposal)
+      (all_append (PacketFits layout) (resent (coding layout) me own) (resent (coding layout) me last)
+      (again layout is.few_bytes me own (read_of_job node.calls node.job fits.calls))
+      (again layout is.few_bytes me last (call_of_scrub node.calls node.scrub fits.calls))))

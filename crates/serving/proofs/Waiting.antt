@@ -17,9 +17,10 @@ use Rattle.messages.specs.declared.packets.Message.TheVariants as message
 use Rattle.messages.specs.declared.requests.Request.{Request}
 use Rattle.messages.specs.declared.replies.Reply.{Reply}
 use Rattle.protocol.specs.declared.tellings.Answered.{Answered}
-use Rattle.protocol.specs.Coordinators.{Coordinator, Next, Ignores, Waits, Sends, Makes, Ends, on_reply}
+use Rattle.protocol.specs.Coordinators.{Coordinator, Next, Ignores, Waits, Sends, Makes, Ends, counts_at, hearing, on_reply}
+use Rattle.protocol.specs.Scrubs.{Scrub}
 use Rattle.protocol.specs.Jobs.{Job, JobNext, Reads, Finishes, GivesUp, job_ask, job_after, abort_cause}
-use Rattle.protocol.specs.Nodes.{Node, NodeStep, put, group_at, requested, with_learnt, node_taught, node_taught_by, may_teach, node_learnt, node_synced, known_after, is_spent, fresh_stamp, coordinator_in, with_known, with_round, carried_out, carried_ballot, replied_ballot, read_begun_by, read_begun_in, job_goes, read_closed, carried_read, job_reading, carried_for, replied_at, view_counted, replied, lists_fit, heard, received, began, invoked, refusal_in, refusal_of, ticked}
+use Rattle.protocol.specs.Nodes.{Node, NodeStep, put, group_at, requested, with_learnt, node_taught, node_taught_by, may_teach, node_learnt, node_synced, known_after, is_spent, fresh_stamp, coordinator_in, with_known, with_round, carried_out, carried_ballot, replied_ballot, read_begun_by, read_begun_in, job_goes, read_closed, carried_read, job_reading, carried_scrub, scrub_of, carried_for, replied_at, view_counted, replied, lists_fit, heard, received, began, invoked, refusal_in, refusal_of, ticked}
 use Rattle.protocol.specs.Proposals.{Proposal, Voting, Ignored, Waited, Asks, Ended, voted}
 use Rattle.protocol.proofs.Served.{request_each}
 use Rattle.protocol.specs.Settings.{Setting}
@@ -113,11 +114,21 @@ carried_read-seq setting me now node known job c (Ends answer seen stored) =
 carried_read-seq setting me now node known job c next =
     as_before node (carried_out setting me node known c next).node (carried_out-seq setting me node known c next)
 
-carried_for-seq : (setting : Setting) (me : BrickId) (now : ℕ) (node : Node) (known : ℕ) (c : Coordinator) (next : Next) (job : Option Job)
-    → Counts node (carried_for setting me now node known c next job)
-carried_for-seq setting me now node known c next None =
+carried_scrub-seq : (setting : Setting) (me : BrickId) (node : Node) (known : ℕ) (scrub : Scrub) (c after : Coordinator) (next : Next)
+    → (carried_scrub setting me node known scrub c after next).node.seq ≡ node.seq
+carried_scrub-seq setting me node known scrub c after Ignores = refl
+carried_scrub-seq setting me node known scrub c after (Waits d) = refl
+carried_scrub-seq setting me node known scrub c after (Sends d) = refl
+carried_scrub-seq setting me node known scrub c after (Makes d) = refl
+carried_scrub-seq setting me node known scrub c after (Ends answer seen stored) = refl
+
+carried_for-seq : (setting : Setting) (me : BrickId) (now : ℕ) (node : Node) (known : ℕ) (c after : Coordinator) (next : Next) (job : Option Job)
+    (scrub : Option Scrub) → Counts node (carried_for setting me now node known c after next job scrub)
+carried_for-seq setting me now node known c after next None None =
     as_before node (carried_out setting me node known c next).node (carried_out-seq setting me node known c next)
-carried_for-seq setting me now node known c next (Some job) = carried_read-seq setting me now node known job c next
+carried_for-seq setting me now node known c after next None (Some scrub) =
+    as_before node (carried_scrub setting me node known scrub c after next).node (carried_scrub-seq setting me node known scrub c after next)
+carried_for-seq setting me now node known c after next (Some job) scrub = carried_read-seq setting me now node known job c next
 
 replied_at-seq : (setting : Setting) (me : BrickId) (now : ℕ) (from : BrickId) (node : Node) (call : Call) (reply : Reply) (found : Option Coordinator)
     → Counts node (replied_at setting me now from node call reply found)
@@ -127,8 +138,9 @@ replied_at-seq setting me now from node call reply None =
     (replied_ballot-seq setting.layout me from known call reply node.proposal)
 replied_at-seq setting me now from node call reply (Some c) =
     let known : ℕ = known_after node.known reply in
-    carried_for-seq setting me now node known c
+    carried_for-seq setting me now node known c (hearing c from reply (counts_at setting.layout.block c from.0 call reply))
     (on_reply setting.layout.block setting.code (fresh_stamp me c.stamp.view now node.boot known) c from call reply) (job_reading node.job c.call.seq)
+    (scrub_of node.scrub c.call.seq)
 
 heard-seq : (setting : Setting) (me : BrickId) (now : ℕ) (from : BrickId) (node : Node) (call : Call) (reply : Reply)
     → Counts node (heard setting me now from node call reply)

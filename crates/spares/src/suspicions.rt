@@ -126,7 +126,7 @@ impl Spares {
     }
 
     /// Whether one brick suspects another.
-    fn suspects(&self, by: BrickId, brick: BrickId) -> bool
+    pub fn suspects(&self, by: BrickId, brick: BrickId) -> bool
         ensures { result ≡ suspects self.now by brick }
     {
         match self.rows.get(usize::from(by.0)) {

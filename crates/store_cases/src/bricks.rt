@@ -7,13 +7,13 @@ ghost use Rattle.fab_base.specs.Stamps.{stamp_below};
 ghost use Rattle.version_log.specs.Versions.{newest, has_stamp};
 
 use anyhow::Result;
-use brick_store::{BrickStore, OpenFault, State, StoreFault, format, open_store};
+use brick_store::{BrickStore, OpenFault, State, StoreFault, format, format_one, open_store};
 use fab_base::{Ballot, BrickId, Bytes, GroupId, Members, Stamp, StripeNo, View, ViewNo};
 use fab_disk::{Armed, Disk, MemDisk, Plan};
 use std::alloc::Global;
 
 /// The records that a store has room for, where nothing else is said.
-pub const ROOMY: u32 = 100;
+pub const ROOMY: u32 = 8;
 
 const ME: BrickId = BrickId(5);
 
@@ -22,6 +22,13 @@ const GROUP: GroupId = GroupId(0);
 const VIEW: ViewNo = ViewNo(1);
 
 const STRIPE: StripeNo = StripeNo(7);
+
+/// In which format a store is made. An opening brings one of the old format over to the new one.
+#[derive(Clone, Copy)]
+pub enum Origin {
+    New,
+    Old,
+}
 
 /// What is asked of one stripe, or of its group.
 #[derive(Clone, Copy)]
@@ -137,11 +144,14 @@ impl<D: Disk + Drop> Brick<D> {
     }
 
     /// A store that is made on a disk, and opened.
-    pub fn make(alloc: Global, disk: D, records: u32) -> Result<Brick<D>>
+    pub fn make(alloc: Global, disk: D, origin: Origin, records: u32) -> Result<Brick<D>>
         requires { (1 ≤ records) × (records ≤ 1048576) }
     {
         let mut disk = disk;
-        format(alloc, &mut disk, ME, 2, records)?;
+        match origin {
+            Origin::New => format(alloc, &mut disk, ME, 2, records)?,
+            Origin::Old => format_one(alloc, &mut disk, ME, 2, records)?,
+        }
         Ok(Brick::reopen(alloc, disk, records)?)
     }
 
@@ -295,8 +305,13 @@ pub fn told_by<D: Disk + Drop>(alloc: Global, disk: D) -> Result<Picture, OpenFa
 }
 
 /// What a store tells that is made on a disk, once these changes were asked of it.
-pub fn told_after<D: Disk + Drop>(alloc: Global, disk: D, changes: &[Change]) -> Result<Picture> {
-    let mut brick = Brick::make(alloc, disk, ROOMY)?;
+pub fn told_after<D: Disk + Drop>(
+    alloc: Global,
+    disk: D,
+    origin: Origin,
+    changes: &[Change],
+) -> Result<Picture> {
+    let mut brick = Brick::make(alloc, disk, origin, ROOMY)?;
     let answer = brick.apply_all(alloc, changes);
     let told = brick.close();
     answer?;
@@ -304,8 +319,13 @@ pub fn told_after<D: Disk + Drop>(alloc: Global, disk: D, changes: &[Change]) ->
 }
 
 /// The disk of a store that is made on it, once these changes were asked of the store.
-pub fn disk_after<D: Disk + Drop>(alloc: Global, disk: D, changes: &[Change]) -> Result<D> {
-    let mut brick = Brick::make(alloc, disk, ROOMY)?;
+pub fn disk_after<D: Disk + Drop>(
+    alloc: Global,
+    disk: D,
+    origin: Origin,
+    changes: &[Change],
+) -> Result<D> {
+    let mut brick = Brick::make(alloc, disk, origin, ROOMY)?;
     let answer = brick.apply_all(alloc, changes);
     let disk = brick.into_disk();
     answer?;

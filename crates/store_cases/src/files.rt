@@ -1,6 +1,6 @@
 //! A store in a real file.
 
-use crate::bricks::{Brick, Change, Picture, ROOMY, told_after, told_by};
+use crate::bricks::{Brick, Change, Origin, Picture, ROOMY, told_after, told_by};
 use anyhow::Result;
 use brick_store::OpenFault;
 use fab_disk::{Disk, FileDisk};
@@ -30,7 +30,7 @@ fn refusal<D: Disk + Drop>(alloc: Global, disk: D) -> Option<OpenFault> {
 /// What a store tells that is made in the file.
 fn told_by_made<R: Files<File = File> + AllocGlobal>(rt: &R) -> Result<Picture> {
     let changes = [Change::Order(9), Change::Version(9, 9), Change::Accept(9)];
-    told_after(rt.alloc(), reopened(rt)?, &changes)
+    told_after(rt.alloc(), reopened(rt)?, Origin::New, &changes)
 }
 
 /// What the store in the file tells once it is opened again.

@@ -1,14 +1,16 @@
 //! The list of frames below a brick's store.
 
 ghost use Rattle.std.specs.Prelude.{◌≡◌, ◌++◌, ◌∷◌, [], ◌≤◌, ◌+◌, length, IfOk};
-ghost use Rattle.frame_store.specs.Layouts.{shape_of, half_size};
+ghost use Rattle.frame_store.specs.Layouts.{shape_of, formed};
 ghost use Rattle.frame_store.specs.Listed.{frame_of, size_of};
 
-use crate::bricks::{Change, ROOMY, disk_after, empty_disk};
+use crate::bricks::{Change, Origin, ROOMY, disk_after, empty_disk};
 use anyhow::Result;
 use fab_base::Bytes;
 use fab_disk::{Armed, Disk, FileDisk, MemDisk, Plan};
-use frame_store::{Collected, Frame, FrameFault, FrameStore, OpenFault, format, open_store};
+use frame_store::{
+    Collected, Frame, FrameFault, FrameStore, OpenFault, format, format_one, open_store,
+};
 use std::alloc::Global;
 use std::fs::File;
 use std::rt::Files;
@@ -16,7 +18,7 @@ use std::{fs, io};
 
 /// The list on a disk that was made for one block of two bytes at brick 258, and its frames.
 fn opened<D: Disk + Drop>(alloc: Global, disk: D) -> Result<(FrameStore<D>, Collected), OpenFault>
-    ensures { IfOk result (λ made. made.0.shape ≡ shape_of 258 2 1) }
+    ensures { IfOk result (λ made. made.0.shape ≡ formed made.0.shape.form (shape_of 258 2 1)) }
 {
     let mut list = Collected::new(alloc);
     match open_store(alloc, disk, 258, 2, 1, &mut list) {
@@ -48,7 +50,9 @@ fn rewrite<D: Armed>(
 ) -> Result<(), FrameFault> {
     store.sync()?;
     store.arm(Plan::Stop(call));
-    let _ = store.rewrite(two_frames(alloc)?);
+    if !store.is_old() {
+        let _ = store.rewrite(two_frames(alloc)?);
+    }
     Ok(())
 }
 
@@ -59,6 +63,25 @@ fn rewritten<D: Armed + Drop>(alloc: Global, disk: D, call: u64) -> Result<D> {
     let disk = store.into_disk();
     answer?;
     Ok(disk)
+}
+
+/// The list of the old format on a disk, brought over with none of its frames.
+fn brought_disk(alloc: Global) -> Result<MemDisk> {
+    let mut disk = empty_disk(alloc);
+    format_one(alloc, &mut disk, 258, 2, 1)?;
+    let (mut store, _) = opened(alloc, disk)?;
+    let answer = bring_none(alloc, &mut store);
+    let disk = store.into_disk();
+    answer?;
+    Ok(disk)
+}
+
+fn bring_none<D: Disk>(alloc: Global, store: &mut FrameStore<D>) -> Result<(), FrameFault> {
+    store.sync()?;
+    if store.is_old() {
+        store.bring_over(&[], Vec::new(alloc))?;
+    }
+    Ok(())
 }
 
 /// The list on a disk that holds none of its frames yet.
@@ -76,10 +99,18 @@ fn count_frames<D: Disk + Drop>(alloc: Global, disk: D) -> Result<usize> {
     Ok(list.frames().len())
 }
 
+/// The list on such a disk, by the format that it was made in.
+fn made_disk(alloc: Global, origin: Origin) -> Result<MemDisk> {
+    match origin {
+        Origin::New => Ok(fresh_disk(alloc, &[258])?),
+        Origin::Old => brought_disk(alloc),
+    }
+}
+
 /// How many frames are found where a rewrite stopped before its gate was opened, and the next one at its first call, which is settled by
 /// this number.
-fn stale_frames(alloc: Global, pick: u64) -> Result<usize> {
-    let mut disk = rewritten(alloc, fresh_disk(alloc, &[258])?, 5)?;
+fn stale_frames(alloc: Global, origin: Origin, pick: u64) -> Result<usize> {
+    let mut disk = rewritten(alloc, made_disk(alloc, origin)?, 5)?;
     disk.settle(1);
     let mut disk = rewritten(alloc, disk, 1)?;
     disk.settle(pick);
@@ -88,10 +119,10 @@ fn stale_frames(alloc: Global, pick: u64) -> Result<usize> {
 
 /// A rewrite that was stopped before its gate was opened leaves a list that the next one's first call may not bring to life. How many
 /// frames are found, at most, over many picks.
-fn most_stale_frames(alloc: Global) -> Result<usize> {
+fn most_stale_frames(alloc: Global, origin: Origin) -> Result<usize> {
     let mut most = 0;
     for pick in 0..32 {
-        most = stale_frames(alloc, pick)?.max(most);
+        most = stale_frames(alloc, origin, pick)?.max(most);
     }
     Ok(most)
 }
@@ -99,7 +130,7 @@ fn most_stale_frames(alloc: Global) -> Result<usize> {
 /// The first byte of the block in a slot of blocks of two bytes.
 fn byte_in<D: Disk>(store: &mut FrameStore<D>, slot: u32) -> Result<u8, FrameFault> {
     let mut block = [0; 2];
-    if store.has_slot(slot) && store.shape().block == 2 {
+    if !store.is_old() && store.has_slot(slot) && store.shape().block == 2 {
         store.read_slot(slot, &mut block)?;
     }
     Ok(block[0])
@@ -122,7 +153,7 @@ fn print_slots_on<D: Disk + Drop>(rt: &(impl Print + AllocGlobal), disk: D) -> R
 }
 
 /// A store of three versions, of which the last one alone is left, and then of a fourth: its block takes the least free slot.
-fn reuse_slots(rt: &(impl Print + AllocGlobal)) -> Result<()> {
+fn reuse_slots(rt: &(impl Print + AllocGlobal), origin: Origin) -> Result<()> {
     let alloc = rt.alloc();
     let changes = [
         Change::Version(1, 11),
@@ -131,7 +162,7 @@ fn reuse_slots(rt: &(impl Print + AllocGlobal)) -> Result<()> {
         Change::Collect(3),
         Change::Version(4, 14),
     ];
-    print_slots_on(rt, disk_after(alloc, empty_disk(alloc), &changes)?)
+    print_slots_on(rt, disk_after(alloc, empty_disk(alloc), origin, &changes)?)
 }
 
 /// Makes a list in a new file.
@@ -175,8 +206,8 @@ fn refusal(alloc: Global) -> Result<Option<OpenFault>, FrameFault> {
     Ok(opened(alloc, disk).err())
 }
 
-fn print_stale(rt: &(impl Print + AllocGlobal)) -> Result<()> {
-    let most = most_stale_frames(rt.alloc())?;
+fn print_stale(rt: &(impl Print + AllocGlobal), origin: Origin) -> Result<()> {
+    let most = most_stale_frames(rt.alloc(), origin)?;
     println!(rt; "frames of a stale list: {most}")?;
     Ok(())
 }
@@ -191,7 +222,9 @@ fn print_refusal(rt: &(impl Print + AllocGlobal)) -> Result<()> {
 /// Prints what is found of them.
 pub fn run<R: Files<File = File> + Print + AllocGlobal>(rt: &R) -> Result<()> {
     print_format(rt, &bytes_of_new(rt)?)?;
-    reuse_slots(rt)?;
-    print_stale(rt)?;
+    for origin in [Origin::New, Origin::Old] {
+        reuse_slots(rt, origin)?;
+        print_stale(rt, origin)?;
+    }
     print_refusal(rt)
 }

@@ -3,15 +3,17 @@
 //! A change of a store makes a number of calls of the disk. Each of them is made to stop, in the middle of its work, or to fail, with
 //! nothing done. The disk is then settled by pick 0 (nothing of the calls since the last sync was done), pick 1 (all was done) or pick 2
 //! (each byte that is not certain is drawn), and the store is opened again: it tells what it told before the change, or what it tells
-//! after it. A line has a word for each call, and one for a number that the change doesn't reach.
+//! after it. A line has a word for each call, and one for a number that the change doesn't reach. One is tried over a store of the old
+//! format, too, that an opening brought over; so is that opening.
 #![tactic(auto)]
 
 mod bricks;
 mod files;
 mod frames;
+mod olds;
 mod trials;
 
-use crate::bricks::{Brick, Change, Picture, disk_after, empty_disk, told_after, told_by};
+use crate::bricks::{Brick, Change, Origin, Picture, disk_after, empty_disk, told_after, told_by};
 use brick_store::StoreFault;
 use fab_disk::{Disk, MemDisk};
 use std::alloc::Global;
@@ -50,8 +52,12 @@ fn fill<D: Disk + Drop>(alloc: Global, brick: &mut Brick<D>) -> Result<Filled, S
 }
 
 /// What a store of three records tells that is made on a disk.
-fn told_when_filled<D: Disk + Drop>(alloc: Global, disk: D) -> anyhow::Result<Filled> {
-    let mut brick = Brick::make(alloc, disk, 3)?;
+fn told_when_filled<D: Disk + Drop>(
+    alloc: Global,
+    disk: D,
+    origin: Origin,
+) -> anyhow::Result<Filled> {
+    let mut brick = Brick::make(alloc, disk, origin, 3)?;
     let told = fill(alloc, &mut brick);
     let _ = brick.into_disk();
     Ok(told?)
@@ -71,7 +77,7 @@ fn often_ordered(alloc: Global) -> anyhow::Result<MemDisk> {
     for time in 1..12_001 {
         changes.push(Change::Order(time))?;
     }
-    disk_after(alloc, empty_disk(alloc), &changes)
+    disk_after(alloc, empty_disk(alloc), Origin::New, &changes)
 }
 
 /// Whether a disk holds less than 400,000 bytes.
@@ -91,12 +97,25 @@ fn print_ordered<D: Disk + Drop>(rt: &(impl Print + AllocGlobal), disk: D) -> an
     Ok(())
 }
 
-fn main(rt: HostRuntime) -> anyhow::Result<()> {
+/// Tries a store that is made in this format, and prints what it tells as it is filled.
+fn try_made(rt: &(impl Print + AllocGlobal), origin: Origin) -> anyhow::Result<()> {
     let alloc = rt.alloc();
-    println!(rt; "fresh: {:?}", told_after(alloc, empty_disk(alloc), &[])?)?;
-    trials::run(&rt)?;
-    print_filled(&rt, &told_when_filled(alloc, empty_disk(alloc))?)?;
-    print_ordered(&rt, often_ordered(alloc)?)?;
+    println!(rt;
+        "fresh: {:?}",
+        told_after(alloc, empty_disk(alloc), origin, &[])?
+    )?;
+    trials::run(rt, origin)?;
+    print_filled(rt, &told_when_filled(alloc, empty_disk(alloc), origin)?)?;
+    Ok(())
+}
+
+fn main(rt: HostRuntime) -> anyhow::Result<()> {
+    try_made(&rt, Origin::New)?;
+    trials::print_others(&rt)?;
+    print_ordered(&rt, often_ordered(rt.alloc())?)?;
+    println!(rt; "brought over:")?;
+    try_made(&rt, Origin::Old)?;
+    trials::print_bringing(&rt)?;
     files::run(&rt)?;
     frames::run(&rt)
 }

@@ -1,6 +1,7 @@
 //! Changes, and an opening, whose disk stops or fails at each of its calls.
 
-use crate::bricks::{Brick, Change, Picture, ROOMY, disk_after, empty_disk, told_by};
+use crate::bricks::{Brick, Change, Origin, Picture, ROOMY, disk_after, empty_disk, told_by};
+use crate::olds::PREPARED_OLD;
 use anyhow::Result;
 use brick_store::OpenFault;
 use fab_disk::{Armed, MemDisk, Plan};
@@ -72,8 +73,8 @@ impl End {
 }
 
 /// The bytes of the disk of a store that was made, and of which these changes were asked.
-fn image_after(alloc: Global, changes: &[Change]) -> Result<Vec<u8>> {
-    let disk = disk_after(alloc, empty_disk(alloc), changes)?;
+fn image_after(alloc: Global, origin: Origin, changes: &[Change]) -> Result<Vec<u8>> {
+    let disk = disk_after(alloc, empty_disk(alloc), origin, changes)?;
     Ok(disk.content(alloc)?)
 }
 
@@ -107,9 +108,9 @@ fn with_orders(alloc: Global, count: u64) -> Result<Vec<Change>> {
 
 /// The bytes of a prepared store that has no room for a further order once it is opened again.
 fn full_image(alloc: Global) -> Result<Vec<u8>> {
-    let disk = disk_after(alloc, empty_disk(alloc), &PREPARED)?;
+    let disk = disk_after(alloc, empty_disk(alloc), Origin::New, &PREPARED)?;
     let count = orders_left(alloc, disk)?;
-    image_after(alloc, &with_orders(alloc, count)?)
+    image_after(alloc, Origin::New, &with_orders(alloc, count)?)
 }
 
 /// The disk after a change of its store under this plan.
@@ -214,41 +215,51 @@ fn change<'a>(name: &'static str, change: Change, calls: u8, image: &'a [u8]) ->
     }
 }
 
-/// Prints each change and an opening of a plain store, and an order of a full one that first needs a rewrite of the list.
-fn print_all(
-    rt: &(impl Print + AllocGlobal),
-    plain: &[u8],
-    learnt: &[u8],
-    full: &[u8],
-) -> Result<()> {
-    let trials = [
-        change("set_order", Change::Order(9), 4, plain),
-        change("add_version", Change::Version(9, 9), 5, plain),
-        change("add_version of the same block", Change::Same(9), 4, plain),
-        change("collect", Change::Collect(2), 4, plain),
-        change("set_ballot", Change::Promise(9), 4, plain),
-        change("accept", Change::Accept(9), 4, plain),
-        change("learn", Change::Learn(2), 4, plain),
-        change("synced", Change::Synced, 4, learnt),
-        Trial {
-            name: "open_store",
-            deed: Deed::Opening,
-            calls: 5,
-            image: plain,
-        },
-        change("set_order with a rewrite", Change::Order(9), 11, full),
-    ];
-    for trial in &trials {
+/// A trial of an opening.
+fn opening<'a>(name: &'static str, calls: u8, image: &'a [u8]) -> Trial<'a> {
+    Trial {
+        name,
+        deed: Deed::Opening,
+        calls,
+        image,
+    }
+}
+
+/// Prints each of these trials.
+fn print_each(rt: &(impl Print + AllocGlobal), trials: &[Trial<'_>]) -> Result<()> {
+    for trial in trials {
         trial.print(rt)?;
     }
     Ok(())
 }
 
-/// Prints each trial.
-pub fn run(rt: &(impl Print + AllocGlobal)) -> Result<()> {
+/// Prints a change that needs a slot, of a store that is made in this format.
+pub fn run(rt: &(impl Print + AllocGlobal), origin: Origin) -> Result<()> {
+    let plain = image_after(rt.alloc(), origin, &PREPARED)?;
+    change("add_version", Change::Version(9, 9), 5, &plain).print(rt)
+}
+
+/// Prints each other change and an opening, and an order of a full store that first needs a rewrite of the list.
+pub fn print_others(rt: &(impl Print + AllocGlobal)) -> Result<()> {
     let alloc = rt.alloc();
-    let plain = image_after(alloc, &PREPARED)?;
-    let learnt = image_after(alloc, &LEARNT)?;
+    let plain = image_after(alloc, Origin::New, &PREPARED)?;
+    let learnt = image_after(alloc, Origin::New, &LEARNT)?;
     let full = full_image(alloc)?;
-    print_all(rt, &plain, &learnt, &full)
+    let trials = [
+        change("set_order", Change::Order(9), 4, &plain),
+        change("add_version of the same block", Change::Same(9), 4, &plain),
+        change("collect", Change::Collect(2), 4, &plain),
+        change("set_ballot", Change::Promise(9), 4, &plain),
+        change("accept", Change::Accept(9), 4, &plain),
+        change("learn", Change::Learn(2), 4, &plain),
+        change("synced", Change::Synced, 4, &learnt),
+        opening("open_store", 5, &plain),
+        change("set_order with a rewrite", Change::Order(9), 11, &full),
+    ];
+    print_each(rt, &trials)
+}
+
+/// Prints an opening that brings a prepared store of the old format over.
+pub fn print_bringing(rt: &(impl Print + AllocGlobal)) -> Result<()> {
+    opening("open_store of the old format", 13, &PREPARED_OLD).print(rt)
 }

@@ -1,5 +1,5 @@
 -- What `replay` prints for a line is whole lines, none of which begins with a space.
-use Rattle.std.proofs.Common.{◌≡◌, ℕ, zero, suc, ◌+◌, ◌/◌, ◌%◌, ◌<◌, ◌==◌, not, true, false, List, [], ◌∷◌, ◌++◌, codes, nat_lt, slice_index, refl, sym, ap, ◌∙◌, subst, arith, lit<, append_assoc}
+use Rattle.std.proofs.Common.{◌≡◌, Bool, ℕ, zero, suc, ◌+◌, ◌/◌, ◌%◌, ◌<◌, ◌==◌, not, true, false, List, [], ◌∷◌, ◌++◌, codes, nat_lt, slice_index, refl, sym, ap, ◌∙◌, subst, arith, lit<, append_assoc}
 use Rattle.std.specs.List.{list_all}
 use Rattle.std.specs.Fmt.{decimal, digits, digits_onto, digit_glyph}
 use Rattle.std.proofs.lemmas.Bool.{cond_both}
@@ -22,8 +22,10 @@ use Rattle.protocol.specs.declared.tellings.ViewAnswer.{ViewAnswer}
 use Rattle.protocol.specs.declared.tellings.ViewAnswer.TheVariants as ended
 use Rattle.protocol.specs.declared.tellings.SyncAnswer.{SyncAnswer}
 use Rattle.protocol.specs.declared.tellings.SyncAnswer.TheVariants as synced
+use Rattle.protocol.specs.declared.tellings.ScrubAnswer.{ScrubAnswer}
+use Rattle.protocol.specs.declared.tellings.ScrubAnswer.TheVariants as scrubbed
 use Rattle.protocol.specs.declared.tellings.Report.{Report}
-use Rattle.protocol.specs.declared.tellings.Report.TheVariants.{View, Sync}
+use Rattle.protocol.specs.declared.tellings.Report.TheVariants.{View, Sync, Scrub}
 use Rattle.reg_model.specs.declared.marks.Mark.{Mark}
 use Rattle.reg_model.specs.declared.marks.Mark.TheVariants.{Begin, End, Crash}
 use Rattle.lines.specs.declared.forms.Line.{Line}
@@ -31,7 +33,8 @@ use Rattle.lines.specs.declared.forms.Line.TheVariants as line
 use Rattle.protocol.specs.Settings.{Setting}
 use Rattle.protocol.specs.Worlds.{World, Event, happens}
 use Rattle.fab_base.specs.Texts.{newline, cause_text, refusal_text}
-use Rattle.world.specs.Texts.{place_text, op_text, answer_text, mark_text, marks_text, members_text, view_answer_text, sync_answer_text, report_text, reports_text, idle_text, outcome_of, new_marks, new_reports, outcome_text, event_text, text_of, empty_text, line_text}
+use Rattle.world.specs.Texts.{place_text, op_text, answer_text, mark_text, marks_text, members_text, view_answer_text, sync_answer_text, scrub_answer_text, report_text, reports_text, idle_text, outcome_of, new_marks, new_reports, outcome_text, event_text, text_of, suspicion_text, empty_text, line_text}
+use Rattle.world.specs.Suspected.{has_both}
 use Rattle.world.specs.declared.simulations.Outcome.{Outcome}
 use Rattle.world.specs.declared.simulations.Outcome.TheVariants.{Marks, Refused, Idle}
 use Rattle.trace.specs.Told.{told_in, IsTold, IsStepText, indented, is_inside}
@@ -238,6 +241,12 @@ sync_ends (synced.Stopped stripe cause) =
     behind (codes "stopped ") _ refl (number stripe.0 _ (behind (codes " ") _ refl (cause_ends cause)))
 sync_ends (synced.Spent stripe) = behind (codes "spent ") _ refl (number stripe.0 newline ends_here)
 
+scrub_ends : (answer : ScrubAnswer) → Ends (scrub_answer_text answer)
+scrub_ends scrubbed.Clean = behind (codes "clean") newline refl ends_here
+scrub_ends (scrubbed.Repaired version lagging) =
+    behind (codes "repaired ") _ refl (stamp version (members_text lagging) (members_end lagging))
+scrub_ends (scrubbed.Aborted cause) = behind (codes "aborted ") _ refl (cause_ends cause)
+
 -- a word makes a line of what stands behind its first letter
 line-word : (first : ℕ) (text : List ℕ) → 32 < first → Ends text → IsLine (first ∷ text)
 line-word first text solid (body, inside, is) =
@@ -249,6 +258,9 @@ report_line (View group call answer) =
     line-word 118 _ (lit< tt) (behind (codes "iew ") _ refl (number group.0 _ (behind (codes " ") _ refl (view_ends answer))))
 report_line (Sync group answer) =
     line-word 115 _ (lit< tt) (behind (codes "ync ") _ refl (number group.0 _ (behind (codes " ") _ refl (sync_ends answer))))
+report_line (Scrub call members answer) =
+    line-word 115 _ (lit< tt) (behind (codes "crub ") _ refl (number call.group.0 _ (behind (codes " ") _ refl
+    (number call.stripe.0 _ (behind (codes " ") _ refl (scrub_ends answer))))))
 
 speaks-reports : (reports : List (BrickId × Report)) → Speaks (reports_text reports)
 speaks-reports [] = speaks-none
@@ -281,20 +293,28 @@ speaks-events setting w (event ∷ events) =
     (speaks-outcome (outcome_of setting w event) (new_marks w (happens setting w event)) (new_reports w (happens setting w event))) (speaks-events setting (happens setting w event) events)
 
 -- what a line prints that is no event
-speaks-empty : (l : Line) → Speaks (empty_text l)
-speaks-empty line.Nothing = speaks-none
-speaks-empty (line.Invoke b g s access) = speaks-none
-speaks-empty (line.Deliver k fault) = speaks-none
-speaks-empty (line.SetClock b v) = speaks-none
-speaks-empty (line.Tick b) = speaks-none
-speaks-empty (line.Crash b) = speaks-none
-speaks-empty (line.Start b fault) = speaks-none
-speaks-empty (line.Propose b g members) = speaks-none
-speaks-empty (line.Sync b g) = speaks-none
-speaks-empty (line.Calm n bricks) = speaks-idle
+speaks-suspicion : (has : Bool) → Speaks (suspicion_text has)
+speaks-suspicion true = speaks-none
+speaks-suspicion false = speaks-idle
+
+speaks-empty : (bricks : ℕ) (l : Line) → Speaks (empty_text bricks l)
+speaks-empty bricks line.Nothing = speaks-none
+speaks-empty bricks (line.Invoke b g s access) = speaks-none
+speaks-empty bricks (line.Deliver k fault) = speaks-none
+speaks-empty bricks (line.SetClock b v) = speaks-none
+speaks-empty bricks (line.Tick b) = speaks-none
+speaks-empty bricks (line.Crash b) = speaks-none
+speaks-empty bricks (line.Start b fault) = speaks-none
+speaks-empty bricks (line.Propose b g members) = speaks-none
+speaks-empty bricks (line.Sync b g) = speaks-none
+speaks-empty bricks (line.Scrub b g s members) = speaks-none
+speaks-empty bricks (line.Suspect b c) = speaks-suspicion (has_both bricks b c)
+speaks-empty bricks (line.Trust b c) = speaks-suspicion (has_both bricks b c)
+speaks-empty bricks (line.Spare b g) = speaks-idle
+speaks-empty bricks (line.Calm n others) = speaks-idle
 
 speaks-events_of : (setting : Setting) (w : World) (l : Line) (events : List Event) → Speaks (line_text setting w l events)
-speaks-events_of setting w l [] = speaks-empty l
+speaks-events_of setting w l [] = speaks-empty setting.layout.bricks l
 speaks-events_of setting w l (event ∷ events) = speaks-events setting w (event ∷ events)
 
 -- what `replay` prints for a line, behind spaces

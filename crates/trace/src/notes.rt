@@ -4,8 +4,8 @@ use fab_base::BrickId;
 use messages::Packet;
 use std::alloc::Global;
 use trace_runs::{
-    DeliveryOutcome, FaultOutcome, Journal, LearntView, LineEffects, Text, number_at, packet_at,
-    put_message,
+    DeliveryOutcome, FaultOutcome, Journal, LearntView, LineEffects, SpareSeat, Suspicion, Text,
+    number_at, packet_at, put_message,
 };
 
 /// Writes the message of a number, of all that were sent, with its number.
@@ -62,6 +62,32 @@ fn note_view(notes: &mut Text, learnt: &LearntView) {
     notes.put("\n");
 }
 
+/// Notes what a brick suspects from then on.
+fn note_suspicion(notes: &mut Text, suspicion: &Suspicion) {
+    notes.fill("brick % suspects", &[suspicion.by.0.into()]);
+    if suspicion.bricks.is_empty() {
+        notes.put(" none");
+    }
+    for brick in &suspicion.bricks {
+        notes.fill(" %", &[brick.0.into()]);
+    }
+    notes.put("\n");
+}
+
+/// Notes a seat that a brick proposes to give to a spare.
+fn note_spare(notes: &mut Text, spared: &SpareSeat) {
+    let numbers = [
+        spared.seat as u64,
+        spared.group.0.into(),
+        spared.from.0.into(),
+        spared.to.0.into(),
+    ];
+    notes.fill(
+        "seat % of group % is to go from brick % to brick %\n",
+        &numbers,
+    );
+}
+
 /// What a line did, beside what `replay` prints for it: a note a line. These messages had been sent once it was run.
 pub(crate) fn effect_notes(
     alloc: Global,
@@ -84,6 +110,12 @@ pub(crate) fn effect_notes(
     }
     for learnt in &effects.learnt {
         note_view(&mut notes, learnt);
+    }
+    if let Some(suspicion) = &effects.suspicion {
+        note_suspicion(&mut notes, suspicion);
+    }
+    for spared in &effects.spared {
+        note_spare(&mut notes, spared);
     }
     for place in effects.sent..sent.len() {
         put_packet(&mut notes, sent, journal, number_at(place));

@@ -1,4 +1,4 @@
-//! What is known of the operations, the proposals and the synchronisations of a run, from its marks, messages and reports.
+//! What is known of the operations, the proposals, the synchronisations and the scrubs of a run, from its marks, messages and reports.
 
 use crate::line_effects::{Before, DeliveryOutcome};
 use fab_base::{BrickId, GroupId, NoMem, ViewNo};
@@ -16,7 +16,7 @@ type CallKey = (u16, u32, u64);
 /// A reply: the brick that sent it, and the phase and the number of its operation.
 type ReplyKey = (u16, u32, u64);
 
-/// A reply to a proposal, or to a read of a synchronisation: the brick that sent it, the phase, and its call.
+/// A reply to a proposal, to a read of a synchronisation, or to a scrub: the brick that sent it, the phase, and its call.
 type VoiceKey = (u16, u32, CallKey);
 
 /// What is known of an operation.
@@ -41,11 +41,35 @@ pub enum Owner {
     Operation(u64),
     /// A read of a synchronisation.
     Read,
+    /// A scrub.
+    Scrub,
     /// A proposal, or nothing.
     Other,
 }
 
-/// What is known of the operations, the proposals and the synchronisations of a run.
+/// What is known of a scrub that is open.
+#[derive(Drop)]
+struct OpenScrub {
+    /// Its call.
+    key: CallKey,
+    /// The number of its newest phase.
+    phase: u32,
+    /// Whether that phase asks the members of the view before.
+    looks_back: bool,
+    /// The bricks that its line names: in a phase that does not look back their replies alone count.
+    bricks: Vec<u64>,
+}
+
+impl OpenScrub {
+    /// Whether it counts the first reply of a brick to this phase of a call.
+    fn is_due(&self, key: CallKey, phase: u32, brick: BrickId) -> bool {
+        self.key == key
+            && self.phase == phase
+            && (self.looks_back || self.bricks.contains(&u64::from(brick.0)))
+    }
+}
+
+/// What is known of the operations, the proposals, the synchronisations and the scrubs of a run.
 pub struct Journal {
     /// The operations by number, from 1.
     operations: Vec<Operation>,
@@ -64,12 +88,18 @@ pub struct Journal {
     counted: BTreeSet<ReplyKey>,
     /// The proposals that are open, by their bricks: the call of each, and the number of its newest phase.
     proposals: BTreeMap<u16, (CallKey, u32)>,
-    /// The replies that were counted in proposals, and in reads of synchronisations.
+    /// The replies that were counted in proposals, in reads of synchronisations, and in scrubs.
     voices: BTreeSet<VoiceKey>,
     /// The reads of synchronisations that are open, by their bricks: the call of each, and the number of its newest phase.
     reads: BTreeMap<u16, (CallKey, u32)>,
     /// The calls of all reads of synchronisations.
     read_calls: BTreeSet<CallKey>,
+    /// The scrubs that are open, by their bricks.
+    scrubs: BTreeMap<u16, OpenScrub>,
+    /// The calls of all scrubs.
+    scrub_calls: BTreeSet<CallKey>,
+    /// The bricks that a line names, if it begins a scrub none of whose messages was seen yet.
+    scrubbed: Option<Vec<u64>>,
     /// The views that bricks are known to have learnt, by brick and group, if later than view 1.
     views: BTreeMap<(u16, u32), u32>,
     /// The views in which bricks know that all stripes are kept, by brick and group, if later than view 1.
@@ -90,6 +120,9 @@ impl Drop for Journal {
             voices: _,
             reads: _,
             read_calls: _,
+            scrubs: _,
+            scrub_calls: _,
+            scrubbed: _,
             views: _,
             synced: _,
         } = self;
@@ -144,6 +177,9 @@ impl Journal {
             voices: BTreeSet::new(alloc),
             reads: BTreeMap::new(alloc),
             read_calls: BTreeSet::new(alloc),
+            scrubs: BTreeMap::new(alloc),
+            scrub_calls: BTreeSet::new(alloc),
+            scrubbed: None,
             views: BTreeMap::new(alloc),
             synced: BTreeMap::new(alloc),
         }
@@ -176,12 +212,12 @@ impl Journal {
     pub fn operation_of(&self, number: u64) -> Option<u64> {
         match self.owner_of(number) {
             Owner::Operation(operation) => Some(operation),
-            Owner::Read | Owner::Other => None,
+            Owner::Read | Owner::Scrub | Owner::Other => None,
         }
     }
 
     /// What came of the message of a number, which was delivered to a brick that was up, where nothing else tells it. A reply that was
-    /// counted is noted: an operation, a proposal or a read counts the first reply of each brick in its newest phase.
+    /// counted is noted: an operation, a proposal, a read or a scrub counts the first reply of each brick in its newest phase, and a scrub those of its own bricks.
     pub(crate) fn note_delivery(
         &mut self,
         number: u64,
@@ -214,7 +250,7 @@ impl Journal {
         Ok(DeliveryOutcome::NotCounted)
     }
 
-    /// Notes that a brick's reply in a phase of a proposal or of a read was delivered, and answers whether it was counted.
+    /// Notes that a brick's reply in a phase of a proposal, of a read or of a scrub was delivered, and answers whether it was counted.
     fn note_voice(
         &mut self,
         key: CallKey,
@@ -222,7 +258,12 @@ impl Journal {
         brick: BrickId,
     ) -> Result<DeliveryOutcome, NoMem> {
         let due = Some((key, phase));
-        let is_due = self.proposals.get(&key.0).copied() == due
+        let is_scrub_due = match self.scrubs.get(&key.0) {
+            Some(scrub) => scrub.is_due(key, phase, brick),
+            None => false,
+        };
+        let is_due = is_scrub_due
+            || self.proposals.get(&key.0).copied() == due
             || self.reads.get(&key.0).copied() == due;
         if is_due && self.voices.insert((brick.0, phase, key))? {
             return Ok(DeliveryOutcome::Counted);
@@ -283,9 +324,15 @@ impl Journal {
         Ok(())
     }
 
-    /// Notes what a line did, before which there was so much.
-    pub(crate) fn note_line(&mut self, world: &World, before: Before) -> Result<(), NoMem> {
+    /// Notes what a line did, before which there was so much, and the bricks that it names, if it is to begin a scrub.
+    pub(crate) fn note_line(
+        &mut self,
+        world: &World,
+        before: Before,
+        scrubbed: Option<Vec<u64>>,
+    ) -> Result<(), NoMem> {
         let (marks, sent, reports) = (world.marks(), world.sent(), world.reports());
+        self.scrubbed = scrubbed;
         for place in before.marks..marks.len() {
             self.note_mark(place, &marks[place])?;
         }
@@ -294,12 +341,24 @@ impl Journal {
         }
         for place in before.reports..reports.len() {
             let (brick, report) = &reports[place];
-            match report {
-                Report::View { .. } => self.proposals.remove(&brick.0),
-                Report::Sync { .. } => self.reads.remove(&brick.0),
-            };
+            self.note_report(*brick, report);
         }
         Ok(())
+    }
+
+    /// Notes what a brick reported: its proposal, its synchronisation or its scrub has ended.
+    fn note_report(&mut self, brick: BrickId, report: &Report) {
+        match report {
+            Report::View { .. } => {
+                self.proposals.remove(&brick.0);
+            }
+            Report::Sync { .. } => {
+                self.reads.remove(&brick.0);
+            }
+            Report::Scrub { .. } => {
+                self.scrubs.remove(&brick.0);
+            }
+        }
     }
 
     /// Notes the mark at this place.
@@ -332,8 +391,8 @@ impl Journal {
         }
     }
 
-    /// Notes that a brick stopped, at the mark at this place: its operations that were open are cut off, and so are its proposal and its
-    /// synchronisation.
+    /// Notes that a brick stopped, at the mark at this place: its operations that were open are cut off, and so are its proposal, its
+    /// synchronisation and its scrub.
     fn note_crash(&mut self, place: usize, brick: BrickId) -> Result<(), NoMem> {
         let index = usize::from(brick.0);
         let count = self.operations.len();
@@ -344,6 +403,7 @@ impl Journal {
         cut_off(&mut self.operations[first..], brick, place);
         self.proposals.remove(&brick.0);
         self.reads.remove(&brick.0);
+        self.scrubs.remove(&brick.0);
         Ok(())
     }
 
@@ -352,7 +412,7 @@ impl Journal {
         let owner = match call_of(packet) {
             Some((key, phase)) => match self.note_call(key, phase)? {
                 Some(operation) => Owner::Operation(operation),
-                None => self.note_read(packet, key, phase)?,
+                None => self.note_own(packet, key, phase)?,
             },
             None => Owner::Other,
         };
@@ -360,23 +420,53 @@ impl Journal {
         self.note_ballot(packet)
     }
 
-    /// Notes that a message of a call of no operation was sent, in this phase, and answers what it is of. A request to a stripe is of a read, which its brick
-    /// has open, and this is its newest phase; unless it is a Collect, which is sent once the read has ended.
-    fn note_read(&mut self, packet: &Packet, key: CallKey, phase: u32) -> Result<Owner, NoMem> {
+    /// Notes that a message of a call of no operation was sent, in this phase, and answers what it is of. A request to a stripe is of a scrub or of a read, which its
+    /// brick has open, and this is its newest phase; unless it is a Collect, which is sent once that has ended.
+    fn note_own(&mut self, packet: &Packet, key: CallKey, phase: u32) -> Result<Owner, NoMem> {
         match &packet.message {
             Message::Request(_, Request::Prepare { .. } | Request::Accept { .. }) => {}
             Message::Request(_, Request::Collect { .. }) => {}
-            Message::Request(_, _) => {
-                self.read_calls.insert(key)?;
-                self.reads.insert(packet.from.0, (key, phase))?;
-            }
+            Message::Request(_, request) => self.note_own_phase(packet.from, key, phase, request)?,
             _ => {}
         }
-        if self.read_calls.contains(&key) {
+        if self.scrub_calls.contains(&key) {
+            Ok(Owner::Scrub)
+        } else if self.read_calls.contains(&key) {
             Ok(Owner::Read)
         } else {
             Ok(Owner::Other)
         }
+    }
+
+    /// Notes the newest phase of a brick's scrub, or of a read of its synchronisation, which sends this request to a stripe.
+    fn note_own_phase(
+        &mut self,
+        brick: BrickId,
+        key: CallKey,
+        phase: u32,
+        request: &Request,
+    ) -> Result<(), NoMem> {
+        if let Some(bricks) = self.scrubbed.take() {
+            self.scrub_calls.insert(key)?;
+            let scrub = OpenScrub {
+                key,
+                phase,
+                looks_back: false,
+                bricks,
+            };
+            self.scrubs.insert(brick.0, scrub)?;
+            return Ok(());
+        }
+        if !self.scrub_calls.contains(&key) {
+            self.read_calls.insert(key)?;
+            self.reads.insert(brick.0, (key, phase))?;
+            return Ok(());
+        }
+        if let Some(scrub) = self.scrubs.get_mut(&brick.0) {
+            scrub.phase = phase;
+            scrub.looks_back = matches!(request, Request::OldRead { .. });
+        }
+        Ok(())
     }
 
     /// Notes that a message was sent, if it is of a proposal: that is the one that its brick has open, and this is its newest phase.

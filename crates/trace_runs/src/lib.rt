@@ -13,7 +13,9 @@ mod stripe_histories;
 mod texts;
 
 pub use journals::{Journal, Operation, Owner, number_at, place_of};
-pub use line_effects::{DeliveryOutcome, FaultOutcome, LearntView, LineEffects, is_up, packet_at};
+pub use line_effects::{
+    DeliveryOutcome, FaultOutcome, LearntView, LineEffects, SpareSeat, Suspicion, is_up, packet_at,
+};
 pub use line_runs::{LineRun, take_line};
 pub use operation_texts::{answer_of, change, op_of, put_answer, put_op};
 pub use packets::{kind_of, put_message, word_of};

@@ -45,6 +45,28 @@ pub struct LearntView {
     pub is_synced: bool,
 }
 
+/// What a brick suspects from then on.
+#[derive(Drop)]
+pub struct Suspicion {
+    /// The brick that suspects.
+    pub by: BrickId,
+    /// Those that it suspects, by number.
+    pub bricks: Vec<BrickId>,
+}
+
+/// A seat that a brick proposes to give to a spare.
+#[derive(Clone, Copy)]
+pub struct SpareSeat {
+    /// The group.
+    pub group: GroupId,
+    /// The seat.
+    pub seat: usize,
+    /// The member that has it.
+    pub from: BrickId,
+    /// The spare that is to have it.
+    pub to: BrickId,
+}
+
 /// What came of a message that a line was to deliver.
 #[derive(Clone, Copy)]
 pub enum DeliveryOutcome {
@@ -86,6 +108,10 @@ pub struct LineEffects {
     pub started: Option<BrickId>,
     /// The views by which bricks go from then on, and those in which they know that all stripes are kept.
     pub learnt: Vec<LearntView>,
+    /// What a brick suspects from then on, if the line says what it suspects.
+    pub suspicion: Option<Suspicion>,
+    /// The seats that a brick proposes to give to spares.
+    pub spared: Vec<SpareSeat>,
     /// How many marks there were before.
     pub marks: usize,
     /// How many messages had been sent before.
@@ -111,6 +137,16 @@ fn fault_outcome(fault: Fault, is_up: bool) -> FaultOutcome {
     }
 }
 
+/// The bricks that a line names, if it is to begin a scrub.
+fn scrubbed_by(alloc: Global, line: &Option<Line>) -> Result<Option<Vec<u64>>, NoMem> {
+    match line {
+        Some(Line::Scrub { members, .. }) => {
+            Ok(Some(Vec::from_slice(alloc, members.as_slice())?))
+        }
+        _ => Ok(None),
+    }
+}
+
 impl LineEffects {
     /// What a line did that was run, before which there was so much; and whether `replay` prints `idle` for it. The journal notes it too.
     pub(crate) fn of(
@@ -121,19 +157,21 @@ impl LineEffects {
         content: &[u8],
         is_idle: bool,
     ) -> Result<LineEffects, NoMem> {
-        journal.note_line(world, before)?;
         let line = parse(alloc, content)?;
+        journal.note_line(world, before, scrubbed_by(alloc, &line)?)?;
         let mut effects = LineEffects {
             is_event: true,
             deliveries: Vec::new(alloc),
             fault: None,
             started: None,
             learnt: Vec::new(alloc),
+            suspicion: None,
+            spared: Vec::new(alloc),
             marks: before.marks,
             sent: before.sent,
         };
         if let Some(line) = &line {
-            effects.note_line(world, journal, line, is_idle)?;
+            effects.note_line(alloc, world, journal, line, is_idle)?;
         }
         if Before::of(world).reports != before.reports {
             effects.note_told();
@@ -144,6 +182,7 @@ impl LineEffects {
     /// Notes what a line did that says this.
     fn note_line(
         &mut self,
+        alloc: Global,
         world: &World,
         journal: &mut Journal,
         line: &Line,
@@ -160,6 +199,10 @@ impl LineEffects {
                 self.note_start(world, *brick, *fault, is_idle);
                 self.note_started_views(world, journal)
             }
+            Line::Suspect { by, .. } | Line::Trust { by, .. } if !is_idle => {
+                self.note_suspicion(alloc, world, *by)
+            }
+            Line::Spare { brick, group } => self.note_spares(world, *brick, *group),
             Line::Nothing => {
                 self.is_event = false;
                 Ok(())
@@ -209,6 +252,52 @@ impl LineEffects {
                 self.fault = Some((brick, fault_outcome(fault, is_up)));
             }
         }
+    }
+
+    /// Notes what a brick suspects from then on.
+    fn note_suspicion(&mut self, alloc: Global, world: &World, by: u64) -> Result<(), NoMem> {
+        if let Ok(number) = u16::try_from(by) {
+            let by = BrickId(number);
+            let mut bricks = Vec::new(alloc);
+            for number in 0..world.layout().bricks() {
+                let brick = BrickId(number);
+                if world.suspects(by, brick) {
+                    bricks.push(brick)?;
+                }
+            }
+            self.suspicion = Some(Suspicion { by, bricks });
+        }
+        Ok(())
+    }
+
+    /// Notes the seats that a brick proposes to give to spares, if the line began a proposal.
+    fn note_spares(&mut self, world: &World, brick: u64, group: u64) -> Result<(), NoMem> {
+        if world.sent().len() == self.sent {
+            return Ok(());
+        }
+        let (Ok(brick), Ok(group)) = (u16::try_from(brick), u32::try_from(group)) else {
+            return Ok(());
+        };
+        let (brick, group) = (BrickId(brick), GroupId(group));
+        let Some(view) = world.learnt(brick, group) else {
+            return Ok(());
+        };
+        let Some(next) = world.replaced(brick, &view) else {
+            return Ok(());
+        };
+        let next = next.as_slice();
+        for (seat, from) in view.members.as_slice().iter().enumerate() {
+            match next.get(seat) {
+                Some(to) if to.0 != from.0 => self.spared.push(SpareSeat {
+                    group,
+                    seat,
+                    from: *from,
+                    to: *to,
+                })?,
+                _ => {}
+            }
+        }
+        Ok(())
     }
 
     /// Notes the view of a group by which a brick goes, if that is news, and answers whether it is.

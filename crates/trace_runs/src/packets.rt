@@ -187,18 +187,27 @@ fn put_reply(text: &mut Text, reply: &Reply) {
     }
 }
 
-/// Writes what a call is of: an operation, the read of a stripe for a synchronisation, or a proposal to follow a view of a group.
+/// Writes the stripe and the view that a call names.
+fn put_stripe(text: &mut Text, call: &Call) {
+    text.fill(
+        " group % stripe % view %",
+        &[
+            call.group.0.into(),
+            call.stripe.0.into(),
+            call.view.0.into(),
+        ],
+    );
+}
+
+/// Writes what a call is of: an operation, the read of a stripe for a synchronisation, a scrub, or a proposal to follow a view of a group.
 fn put_call(text: &mut Text, call: &Call, owner: Owner) {
     match owner {
         Owner::Operation(operation) => text.fill(" op %", &[operation]),
-        Owner::Read => text.fill(
-            " group % stripe % view %",
-            &[
-                call.group.0.into(),
-                call.stripe.0.into(),
-                call.view.0.into(),
-            ],
-        ),
+        Owner::Read => put_stripe(text, call),
+        Owner::Scrub => {
+            text.put(" scrub");
+            put_stripe(text, call);
+        }
         Owner::Other => text.fill(
             " group % view %",
             &[call.group.0.into(), call.view.0.into()],
@@ -208,7 +217,7 @@ fn put_call(text: &mut Text, call: &Call, owner: Owner) {
 }
 
 /// Writes the message of a number, of an operation, as `#7 write 1>0 op 1 phase 2 stamp 1.1.0.1 block 41`; or of a read for a synchronisation, as
-/// `#7 oldread 1>0 group 0 stripe 2 view 1 phase 3`; or of a proposal, as `#1 prepare 3>0 group 0 view 1 phase 1 ballot 1.3.1`; or of a view that is taught,
+/// `#7 oldread 1>0 group 0 stripe 2 view 1 phase 3`; or of a scrub, as `#7 read 1>0 scrub group 0 stripe 2 view 1 phase 1 all blocks`; or of a proposal, as `#1 prepare 3>0 group 0 view 1 phase 1 ballot 1.3.1`; or of a view that is taught,
 /// as `#9 learn 3>0 group 0 view 2 members 1 2 3`.
 pub fn put_message(text: &mut Text, number: u64, packet: &Packet, owner: Owner) {
     text.fill("#% ", &[number]);

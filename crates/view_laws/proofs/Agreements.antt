@@ -16,8 +16,8 @@ use Rattle.protocol.specs.Views.{Learnt}
 use Rattle.protocol.specs.Ballots.{granting}
 use Rattle.protocol.specs.Proposals.{Proposal}
 use Rattle.protocol.specs.Coordinators.{Coordinator}
-use Rattle.protocol.specs.Nodes.{Node, NodeStep, put, first_node, view_at, view_in, no_calls, node_taught_by, view_counted, lists_fit, received, absorbed, ticked, group_at, began, invoked, proposed, stopped, restarted, may_open, synced_at}
-use Rattle.protocol.specs.Worlds.{World, Event, first_world, is_up, packet_of, packet_during, left_after, world_stepped, run}
+use Rattle.protocol.specs.Nodes.{Node, NodeStep, put, view_at, view_in, no_calls, node_taught_by, view_counted, lists_fit, received, absorbed, ticked, group_at, began, invoked, proposed, stopped, restarted, may_open, synced_at, scrubbed_at}
+use Rattle.protocol.specs.Worlds.{World, Event, first_brick, first_world, is_up, packet_of, packet_during, left_after, world_stepped, run}
 use Rattle.protocol.proofs.Events.{EventCases, step_on, world_counting, always_where, started_each}
 use Rattle.protocol.proofs.Tables.{put_each, put_twice, get_kept}
 use Rattle.view_laws.proofs.Histories.{ViewWorld, view_world, IsSent, IsNamed, kept_at, history, name_stays}
@@ -28,7 +28,7 @@ use Rattle.view_laws.proofs.Drafting.{DraftSays, Drafting, draft_stays, StepSays
 use Rattle.view_laws.proofs.Deciding.{HasLimits}
 use Rattle.view_laws.proofs.Requesting.{no_turn, requested_says, learn_says, synced_turn, synced_says}
 use Rattle.view_laws.proofs.Replying.{reply_turn, heard_says}
-use Rattle.view_laws.proofs.Beginning.{quiet_step, invoked_says, proposed_says, ticked_says, sync_says}
+use Rattle.view_laws.proofs.Beginning.{quiet_step, invoked_says, proposed_says, ticked_says, sync_says, scrub_says}
 use Rattle.protocol.proofs.Packets.{each_none}
 use Rattle.view_laws.proofs.Replying.{IsQuiet}
 
@@ -344,6 +344,10 @@ agreement_cases setting limits w calls was = record {
       stepped_agreement setting w brick (synced_at setting brick (w.clocks brick.0) (w.nodes brick.0) group)
       (up_not_down setting.layout w brick (and_parts (is_up setting.layout w brick) _ may).0) calls.called was
       (sync_says setting (view_world w) was.agreed was.drafting brick (w.clocks brick.0) group);
+  scrubs = λ brick group stripe members may.
+      stepped_agreement setting w brick (scrubbed_at setting brick (w.clocks brick.0) (w.nodes brick.0) group stripe members)
+      (up_not_down setting.layout w brick (and_parts (is_up setting.layout w brick) _ may).0) calls.called was
+      (scrub_says setting (view_world w) was.agreed was.drafting brick (w.clocks brick.0) group stripe members);
   handles = λ number packet at up.
       stepped_agreement setting (world_counting setting w number packet) packet.to (step_on setting w packet) (up_not_down setting.layout w packet.to up)
       calls.called (record { agreed = was.agreed; drafting = was.drafting; left = was.left })
@@ -398,7 +402,7 @@ agreement_cases setting limits w calls was = record {
 }
 
 -- where nothing has happened, what a brick keeps is true of the history
-first_keeps : (layout : Layout) (i g e : ℕ) → 1 ≤ e → Keeps (history (view_world (first_world layout)) g e) i (kept_at (first_node layout) g e)
+first_keeps : (layout : Layout) (i g e : ℕ) → 1 ≤ e → Keeps (history (view_world (first_world layout)) g e) i (kept_at (first_brick layout) g e)
 first_keeps layout i g e some =
     let least : nat_lt e 1 ≡ false = grind (arith, nat_tests, some) in
     subst (λ (z : Kept (List BrickId)). Keeps (history (view_world (first_world layout)) g e) i z)
@@ -430,7 +434,7 @@ first_agreement layout = record {
     calls = λ i k c is. absurd (let never : None ≡ Some c = is in cc);
     jobs = λ i j is. absurd (let never : None ≡ Some j = is in cc);
   };
-  left = λ i down. absurd (false≢true (sym down));
+  left = λ i down. record { turn = no_turn layout [] (first_brick layout) (first_brick layout) (refl, refl); calls = refl; proposal = refl; job = refl };
 }
 
 -- the agreement holds in every world that a run reaches

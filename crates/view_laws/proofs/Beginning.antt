@@ -17,18 +17,19 @@ use Rattle.quorum.specs.Memberships.{is_membership}
 use Rattle.protocol.specs.Settings.{Setting}
 use Rattle.protocol.specs.Proposals.{Proposal, ballot_request, ballot_packets}
 use Rattle.protocol.specs.Coordinators.{Coordinator, request_of, asked_group}
-use Rattle.protocol.specs.Nodes.{Node, NodeStep, sending, phase_packets, group_at, new_coordinator, coordinator_in, reading, synced_at, opened, began, invoked, view_in, resent, resent_up_to, calls_but_read, job_call, ballot_resent, ticked, new_proposal, proposing, proposed_in, proposed}
-use Rattle.protocol.proofs.Packets.{OfEach, each_none, each_both, each_member, each_ballot, each_ticked, each_ballot_resent}
+use Rattle.protocol.specs.Nodes.{Node, NodeStep, sending, phase_packets, group_at, new_coordinator, coordinator_in, reading, synced_at, opened, began, invoked, view_in, resent, resent_up_to, calls_but_read, job_call, ballot_resent, ticked, new_proposal, proposing, proposed_in, proposed, scrubbed_at, scrub_coordinator, scrubbing, calls_but_scrub, scrub_call, put}
+use Rattle.protocol.proofs.Packets.{OfEach, each_none, each_member, each_ballot, each_ballot_resent}
 use Rattle.protocol.proofs.Tables.{put_each}
 use Rattle.view_laws.proofs.FirstTold.{first_told}
 use Rattle.view_laws.proofs.Histories.{ViewWorld, IsNamed, accept_in, accept_is, history, PacketSays, MessageSays, Extends, name_stays, known_taught, taught_stays, kept_is}
-use Rattle.view_laws.proofs.Agreeing.{Agreed, Turn, turned, sending_more}
+use Rattle.view_laws.proofs.Agreeing.{Agreed, Turn, turned, sending_more, KeepsViews}
 use Rattle.view_laws.proofs.Calling.{Called, unproposed}
 use Rattle.protocol.specs.Jobs.{Job, begun_job, job_ask}
-use Rattle.view_laws.proofs.SyncReads.{each_tick, synced_at_each}
+use Rattle.view_laws.proofs.SyncReads.{each_tick, synced_at_each, scrubbed_at_each}
 use Rattle.view_laws.proofs.Drafting.{DraftSays, Drafting, draft_stays, still_unproposed, StepSays, step_extends}
 use Rattle.view_laws.proofs.Requesting.{no_turn}
 use Rattle.view_laws.proofs.Replying.{IsQuiet, phase_quiet, same_accept, view_from, read_named}
+use Rattle.fab_base.specs.declared.identities.StripeNo.{StripeNo}
 
 -- a step that leaves the proposal as it was, and sends what owes nothing
 pub quiet_step : (layout : Layout) (v : ViewWorld) (i : ℕ) (next : Node) (new : List Packet) → Agreed layout v → Drafting layout v
@@ -79,6 +80,47 @@ invoked_says setting v agreed drafting me now ask = by (group_at setting.layout 
         (each_member (IsQuiet setting.layout) me c.call (request_of setting.code c) (λ seat to. phase_quiet setting.layout setting.code me to c.call c seat) 0
         (asked_group c).members)
 
+-- a read of the brick's own begins in a known view
+aside_says : (setting : Setting) (v : ViewWorld) → Agreed setting.layout v → Drafting setting.layout v → (me : BrickId) (later : Node) (d : Coordinator)
+    → KeepsViews (v.nodes me.0) later → later.calls ≡ put (v.nodes me.0).calls d.call.seq (Some d)
+    → IsNamed setting.layout v.packets d.call.group.0 (view_in d) → later.proposal ≡ (v.nodes me.0).proposal
+    → ((j : Job) → later.job ≡ Some j → IsNamed setting.layout v.packets j.group.0 j.view)
+    → StepSays setting.layout v me.0 later (phase_packets setting me d)
+aside_says setting v agreed drafting me later d keeps calls named proposal jobs =
+    quiet_step setting.layout v me.0 later (phase_packets setting me d) agreed drafting (no_turn setting.layout v.packets (v.nodes me.0) later keeps)
+    (subst (λ (t : ℕ → Option Coordinator). (k : ℕ) (c : Coordinator) → t k ≡ Some c → IsNamed setting.layout v.packets c.call.group.0 (view_in c)) (sym calls)
+    (put_each (λ k (o : Option Coordinator). (c : Coordinator) → o ≡ Some c → IsNamed setting.layout v.packets c.call.group.0 (view_in c)) (v.nodes me.0).calls
+    d.call.seq (Some d)
+    (λ c same. subst (λ (z : Coordinator). IsNamed setting.layout v.packets z.call.group.0 (view_in z)) (same_Some d c same) named)
+    (λ k other c at. drafting.calls me.0 k c at)))
+    jobs proposal
+    (each_member (IsQuiet setting.layout) me d.call (request_of setting.code d) (λ seat to. phase_quiet setting.layout setting.code me to d.call d seat) 0
+    (asked_group d).members)
+
+-- the view that a brick has learnt, of which an operation of the group at the brick is
+learnt_named : (setting : Setting) (v : ViewWorld) → Agreed setting.layout v → (me : BrickId) (number : ℕ) (group : Group)
+    → group_at setting.layout (v.nodes me.0) number ≡ Some group → (c : Coordinator) → c.stamp.view ≡ ((v.nodes me.0).learnt number).view.number
+    → c.group ≡ group → c.prior ≡ ((v.nodes me.0).learnt number).view.prior → IsNamed setting.layout v.packets number (view_in c)
+learnt_named setting v agreed me number group is c stamp of prior =
+    let learnt : View = ((v.nodes me.0).learnt number).view in
+    let kept = kept_is setting.layout learnt.members number group is in
+    let view : view_in c ≡ learnt
+    = view_from (view_in c) learnt (ap (λ (z : ViewNo). z.0) stamp) (ap (λ (z : Group). z.members) (of ∙ kept.2)) prior in
+    subst (λ (z : View). IsNamed setting.layout v.packets number z) (sym view) (agreed.learnt me.0 number)
+
+-- a scrub begins in the view that its brick has learnt
+pub scrub_says : (setting : Setting) (v : ViewWorld) → Agreed setting.layout v → Drafting setting.layout v → (me : BrickId) (now : ℕ) (group : GroupId)
+    (stripe : StripeNo) (members : List BrickId)
+    → (let step = scrubbed_at setting me now (v.nodes me.0) group stripe members in StepSays setting.layout v me.0 step.node step.packets)
+scrub_says setting v agreed drafting me now group stripe members =
+    scrubbed_at_each (λ (step : NodeStep). StepSays setting.layout v me.0 step.node step.packets) setting me now (v.nodes me.0) group stripe members
+    (quiet_step setting.layout v me.0 (v.nodes me.0) [] agreed drafting (no_turn setting.layout v.packets (v.nodes me.0) (v.nodes me.0) (refl, refl))
+    (λ k c at. drafting.calls me.0 k c at) (λ j at. drafting.jobs me.0 j at) refl (each_none (IsQuiet setting.layout)))
+    (λ kept is.
+    let d : Coordinator = scrub_coordinator kept me now (v.nodes me.0) group stripe members in
+    aside_says setting v agreed drafting me (scrubbing (v.nodes me.0) d) d (refl, refl) refl
+    (learnt_named setting v agreed me group.0 kept is d refl refl refl) refl (λ j at. drafting.jobs me.0 j at))
+
 -- a synchronisation begins in the view that its brick has learnt
 pub sync_says : (setting : Setting) (v : ViewWorld) → Agreed setting.layout v → Drafting setting.layout v → (me : BrickId) (now : ℕ) (group : GroupId)
     → (let step = synced_at setting me now (v.nodes me.0) group in StepSays setting.layout v me.0 step.node step.packets)
@@ -90,18 +132,10 @@ sync_says setting v agreed drafting me now group =
     let node : Node = v.nodes me.0 in
     let job : Job = begun_job group (node.learnt group.0).view in
     let d : Coordinator = coordinator_in kept job.view me now node (job_ask job) in
-    quiet_step setting.layout v me.0 (reading node job d) (phase_packets setting me d) agreed drafting
-    (no_turn setting.layout v.packets node (reading node job d) (refl, refl))
-    (put_each (λ k (o : Option Coordinator). (c : Coordinator) → o ≡ Some c → IsNamed setting.layout v.packets c.call.group.0 (view_in c)) node.calls
-    d.call.seq (Some d)
-    (λ c same. subst (λ (z : Coordinator). IsNamed setting.layout v.packets z.call.group.0 (view_in z)) (same_Some d c same)
-    (read_named setting.layout v.packets job kept is me now node job.attempt (agreed.learnt me.0 group.0)))
-    (λ k other c at. drafting.calls me.0 k c at))
+    aside_says setting v agreed drafting me (reading node job d) d (refl, refl) refl
+    (read_named setting.layout v.packets job kept is me now node job.attempt (agreed.learnt me.0 group.0)) refl
     (λ j same. subst (λ (z : Job). IsNamed setting.layout v.packets z.group.0 z.view) (same_Some (record job { seq = d.call.seq }) j same)
-    (agreed.learnt me.0 group.0))
-    refl
-    (each_member (IsQuiet setting.layout) me d.call (request_of setting.code d) (λ seat to. phase_quiet setting.layout setting.code me to d.call d seat) 0
-    (asked_group d).members))
+    (agreed.learnt me.0 group.0)))
   where
     quiet : StepSays setting.layout v me.0 (v.nodes me.0) []
     quiet =
@@ -187,13 +221,13 @@ pub ticked_says : (setting : Setting) (v : ViewWorld) → Agreed setting.layout 
 unfolding ticked
 ticked_says setting v agreed drafting me =
     let node : Node = v.nodes me.0 in
-    let new : List Packet = resent_up_to setting me (calls_but_read node.calls node.job) node.seq
-    ++ (ballot_resent me node.proposal ++ resent setting me (job_call node.calls node.job)) in
+    let new : List Packet = resent_up_to setting me (calls_but_scrub (calls_but_read node.calls node.job) node.scrub) node.seq
+    ++ (ballot_resent me node.proposal ++ (resent setting me (job_call node.calls node.job) ++ resent setting me (scrub_call node.calls node.scrub))) in
     let turn : Turn setting.layout v.packets node node = no_turn setting.layout v.packets node node (refl, refl) in
     let extends : Extends setting.layout v (sending_more (turned v me.0 node) new) = step_extends setting.layout v me.0 node new agreed turn in
     let accepts : OfEach Accepts new = each_tick Accepts setting me node.calls
     (λ j c is seat to g e b members asks. absurd ((phase_quiet setting.layout setting.code me to c.call c seat).none g e b members asks))
-    (λ j c is later from to g e b members asks. absurd (let never : None ≡ Some members = asks in cc)) node.job node.seq node.proposal
+    (λ j c is later from to g e b members asks. absurd (let never : None ≡ Some members = asks in cc)) node.job node.scrub node.seq node.proposal
     (each_ballot_resent Accepts me node.proposal
     (λ p is to. ballot_accepts p.asks p refl (drafting.drafts me.0 p is) to)
     (λ p is later from to g e b members asks. absurd (let never : None ≡ Some members = asks in cc))) in
@@ -213,7 +247,7 @@ ticked_says setting v agreed drafting me =
             (λ j c is seat to. (phase_quiet setting.layout setting.code me to c.call c seat).says (sending_more (turned v me.0 node) new))
             (λ j c is later from to. taught_stays setting.layout v (sending_more (turned v me.0 node) new) c.call.group.0 (view_in c) extends
             (known_taught setting.layout v c.call.group.0 (view_in c) agreed.says (drafting.calls me.0 j c is) later))
-            node.job node.seq node.proposal
+            node.job node.scrub node.seq node.proposal
             (each_ballot_resent (PacketSays setting.layout (sending_more (turned v me.0 node) new)) me node.proposal
             (λ p is to. ballot_says (sending_more (turned v me.0 node) new) extends p.asks p refl (drafting.drafts me.0 p is) to)
             (λ p is later from to. taught_stays setting.layout v (sending_more (turned v me.0 node) new) p.call.group.0 p.view extends

@@ -25,18 +25,20 @@ use Rattle.protocol.specs.Settings.{Setting, Code}
 use Rattle.synod_laws.specs.Synods.{value_or}
 use Rattle.protocol.specs.Replicas.{handle}
 use Rattle.protocol.specs.Proposals.{Proposal, Voting, ballot_request, ballot_packets, round_after, with_voice, asking, greatest_choice, voted}
-use Rattle.protocol.specs.Coordinators.{Coordinator, Next, Ignores, Waits, Sends, Makes, Ends, request_of, on_reply, asked_group}
-use Rattle.protocol.specs.Nodes.{Node, NodeStep, put, no_step, sending, with_known, with_round, known_after, carried_for, job_reading, synced_at, collect_packets, phase_packets, invoked, began, group_at, new_coordinator, fresh_stamp, requested, full_at, replica_at, vote_at, carried_out, ended_packets, carried_ballot, replied_ballot, replied_at, view_counted, replied, lists_fit, heard, received, absorbed, ticked, resent_up_to, ballot_resent, proposed, proposed_in, new_proposal, proposing, stopped, restarted, may_open, read_closed, synced_packets}
+use Rattle.protocol.specs.Coordinators.{Coordinator, Next, Ignores, Waits, Sends, Makes, Ends, request_of, hearing, counts_at, on_reply, asked_group}
+use Rattle.protocol.specs.Nodes.{Node, NodeStep, put, no_step, sending, with_known, with_round, known_after, carried_for, job_reading, scrub_of, scrub_coordinator, scrubbed_at, synced_at, collect_packets, phase_packets, invoked, began, group_at, new_coordinator, fresh_stamp, requested, full_at, replica_at, vote_at, carried_out, ended_packets, carried_ballot, replied_ballot, replied_at, view_counted, replied, lists_fit, heard, received, absorbed, ticked, proposed, proposed_in, new_proposal, proposing, stopped, restarted, may_open, read_closed, synced_packets}
 use Rattle.protocol.specs.Worlds.{World, Event, first_world, is_up, packet_during, left_after, world_stepped, run}
 use Rattle.protocol.proofs.Events.{EventCases, step_on, world_counting, always, started_each, stepped_each}
-use Rattle.protocol.proofs.Packets.{OfEach, each_none, each_both, each_member, each_collect, each_reply, each_learn, each_ticked, each_ballot, each_ballot_resent}
+use Rattle.protocol.proofs.Packets.{OfEach, each_none, each_both, each_member, each_collect, each_reply, each_learn, each_ballot, each_ballot_resent}
 use Rattle.protocol.proofs.Served.{request_each}
 use Rattle.protocol.proofs.Tables.{put_each, put_twice}
 use Rattle.protocol.specs.Jobs.{Job, begun_job}
-use Rattle.view_laws.proofs.SyncReads.{carried_each, synced_at_each, each_synced, each_tick, read_call}
+use Rattle.view_laws.proofs.SyncReads.{carried_each, synced_at_each, each_synced, each_tick, read_call, scrubbed_at_each}
 use Rattle.view_laws.proofs.Calling.{OfBallot, OfBallots, ballots_map, IsOldDraft, IsNewDraft, IsOfDraft, StepCalls, Called, own_calls, called_after}
 use Rattle.view_laws.proofs.Owning.{taught_own, learnt_own, absorbed_own, synced_own}
 use Rattle.view_laws.proofs.Votings.{voting_each}
+use Rattle.fab_base.specs.declared.identities.StripeNo.{StripeNo}
+use Rattle.protocol.specs.Scrubs.{Scrub}
 
 -- what a phase of an operation asks for names no ballot
 pub phase_names_none : (Q : Call → Ballot → Type 0) (call : Call) (code : Code) (c : Coordinator) (seat : ℕ) → OfBallot Q call (request_of code c seat)
@@ -135,11 +137,12 @@ carried_calls setting me node known c (Makes d) = still_calls me.0 node _ _ refl
 carried_calls setting me node known c (Ends answered seen stored) =
     still_calls me.0 node _ _ refl (omega arith) (omega arith) refl (each_collect NamesNone me c stored (λ t to. tt))
 
--- so is what the coordinator of a synchronisation's read decided
-carried_for_calls : (setting : Setting) (me : BrickId) (now : ℕ) (node : Node) (known : ℕ) (c : Coordinator) (next : Next) (reading : Option Job)
-    → StepCalls me.0 node (carried_for setting me now node known c next reading).node (carried_for setting me now node known c next reading).packets
-carried_for_calls setting me now node known c next reading =
-    carried_each (λ (step : NodeStep). StepCalls me.0 node step.node step.packets) setting me now node known c next reading
+-- so is what the coordinator of a synchronisation's read or of a scrub decided
+carried_for_calls : (setting : Setting) (me : BrickId) (now : ℕ) (node : Node) (known : ℕ) (c heard : Coordinator) (next : Next) (reading : Option Job)
+    (scrub : Option Scrub)
+    → (let step = carried_for setting me now node known c heard next reading scrub in StepCalls me.0 node step.node step.packets)
+carried_for_calls setting me now node known c heard next reading scrub =
+    carried_each (λ (step : NodeStep). StepCalls me.0 node step.node step.packets) setting me now node known c heard next reading scrub
     (carried_calls setting me node known c next)
     (λ job is answered seen stored ends.
     let collects = each_collect NamesNone me c stored (λ t to. tt) in
@@ -155,6 +158,11 @@ carried_for_calls setting me now node known c next reading =
           (each_both NamesNone (collect_packets me c stored) (phase_packets setting me (read_call group (record job { attempt = attempt }) me now closed.node)) collects
           (phase_none setting me (read_call group (record job { attempt = attempt }) me now closed.node)));
     })
+    (record {
+      begins = λ s is d sends. still_calls me.0 node _ _ refl (omega arith) (omega arith) refl (phase_none setting me d);
+      ends = λ s is answered seen stored ended. still_calls me.0 node _ _ refl (omega arith) (omega arith) refl
+          (each_both NamesNone (collect_packets me c stored) [] (each_collect NamesNone me c stored (λ t to. tt)) (each_none NamesNone));
+    })
 
 -- a synchronisation begins
 pub synced_calls : (setting : Setting) (me : BrickId) (now : ℕ) (node : Node) (group : GroupId)
@@ -166,6 +174,15 @@ synced_calls setting me now node group =
     (λ answer. still_calls me.0 node _ [] refl (omega arith) (omega arith) refl (each_none NamesNone))
     (λ kept is. still_calls me.0 node _ _ refl (omega arith) (omega arith) refl
     (phase_none setting me (read_call kept (begun_job group (node.learnt group.0).view) me now node)))
+
+-- a scrub begins
+pub scrubbed_calls : (setting : Setting) (me : BrickId) (now : ℕ) (node : Node) (group : GroupId) (stripe : StripeNo) (members : List BrickId)
+    → (let step = scrubbed_at setting me now node group stripe members in StepCalls me.0 node step.node step.packets)
+scrubbed_calls setting me now node group stripe members =
+    scrubbed_at_each (λ (step : NodeStep). StepCalls me.0 node step.node step.packets) setting me now node group stripe members
+    (still_calls me.0 node node [] refl (omega arith) (omega arith) refl (each_none NamesNone))
+    (λ kept is. still_calls me.0 node _ _ refl (omega arith) (omega arith) refl
+    (phase_none setting me (scrub_coordinator kept me now node group stripe members)))
 
 -- an end of a proposal names no ballot
 ended_none : (layout : Layout) (me : BrickId) (p : Proposal) (ended : ViewAnswer) → OfEach NamesNone (ended_packets layout me p ended)
@@ -297,8 +314,9 @@ heard_calls setting me from now node call reply =
     at_call (Some c) =
         from_round me.0 node (with_round node reply) _ _ refl refl (round_rises node.round reply) refl
         (carried_for_calls setting me now (with_round node reply) (known_after node.known reply) c
+        (hearing c from reply (counts_at setting.layout.block c from.0 call reply))
         (on_reply setting.layout.block setting.code (fresh_stamp me c.stamp.view now node.boot (known_after node.known reply)) c from call reply)
-        (job_reading node.job c.call.seq))
+        (job_reading node.job c.call.seq) (scrub_of node.scrub c.call.seq))
 
 -- a message is handled
 pub received_calls : (setting : Setting) (me : BrickId) (now : ℕ) (node : Node) (packet : Packet)
@@ -368,7 +386,7 @@ ticked_calls setting me node = record {
     round = omega arith;
   });
   packets = each_tick P setting me node.calls (λ j c is seat to. phase_names_none (IsOfDraft me.0 node me.0) c.call setting.code c seat)
-      (λ j c is later from to. tt) node.job node.seq node.proposal
+      (λ j c is later from to. tt) node.job node.scrub node.seq node.proposal
       (each_ballot_resent P me node.proposal
       (λ p is to. phase_names (IsOfDraft me.0 node me.0) p.call p (record { from_is = refl; draft = p; is = is; boot = refl; seq = refl; ballot = refl }))
       (λ p is later from to. tt));
@@ -495,6 +513,10 @@ calls_cases setting w calls = record {
       let up = up_not_down setting.layout w brick (and_parts (is_up setting.layout w brick) _ may).0 in
       stepped w brick (synced_at setting brick (w.clocks brick.0) (w.nodes brick.0) group) up calls.called calls.left
       (synced_calls setting brick (w.clocks brick.0) (w.nodes brick.0) group);
+  scrubs = λ brick group stripe members may.
+      let up = up_not_down setting.layout w brick (and_parts (is_up setting.layout w brick) _ may).0 in
+      stepped w brick (scrubbed_at setting brick (w.clocks brick.0) (w.nodes brick.0) group stripe members) up calls.called calls.left
+      (scrubbed_calls setting brick (w.clocks brick.0) (w.nodes brick.0) group stripe members);
   handles = λ number packet at is_up_now.
       stepped (world_counting setting w number packet) packet.to (step_on setting w packet) (up_not_down setting.layout w packet.to is_up_now) calls.called calls.left
       (received_calls setting packet.to (w.clocks packet.to.0) (w.nodes packet.to.0) packet);
@@ -551,6 +573,6 @@ always_calls setting =
         requests = λ k packet at. absurd (let never : None ≡ Some packet = at in cc);
         drafts = λ i p is. absurd (let never : None ≡ Some p = is in cc);
       };
-      left = λ i down. absurd (false≢true (sym down));
+      left = λ i down. record { boot = refl; seq = refl; round = refl; proposal = refl };
     })
     (calls_cases setting)

@@ -11,7 +11,7 @@ use Rattle.messages.specs.declared.replies.Reply.{Reply}
 use Rattle.quorum.proofs.Counts.{count_monotone}
 use Rattle.protocol.specs.Settings.{Setting, IsSound}
 use Rattle.protocol.specs.Replicas.{fresh_replica}
-use Rattle.protocol.specs.Nodes.{Node, NodeStep, put, invoked, proposed, ticked, stopped, restarted, may_open, synced_at}
+use Rattle.protocol.specs.Nodes.{Node, NodeStep, put, invoked, proposed, ticked, stopped, restarted, may_open, synced_at, scrubbed_at}
 use Rattle.protocol.specs.Worlds.{World, Event, first_world, run, happens}
 use Rattle.protocol.proofs.Events.{EventCases, step_on, happens_each, started_each, run-append}
 use Rattle.protocol.proofs.Packets.{each_none}
@@ -20,10 +20,10 @@ use Rattle.view_laws.specs.Successors.{has_closed, closes_in, is_serving, StaysC
 use Rattle.view_laws.proofs.Histories.{view_world}
 use Rattle.view_laws.proofs.CallSteps.{Calls, always_calls, append_none}
 use Rattle.view_laws.proofs.Deciding.{HasLimits}
-use Rattle.view_laws.proofs.Beginning.{invoked_says, proposed_says, sync_says}
+use Rattle.view_laws.proofs.Beginning.{invoked_says, proposed_says, sync_says, scrub_says}
 use Rattle.view_laws.proofs.Agreements.{Agreement, packet_sent, received_says, always_agreed}
 use Rattle.view_laws.proofs.Followed.{voter_closed}
-use Rattle.view_laws.proofs.Closing.{takes_on, PartsTake, parts_same, ServesNone, StepCloses, invoked_closes, proposed_closes, received_closes, ticked_serves, turn_closes, LeavesParts, always_left, sync_closes}
+use Rattle.view_laws.proofs.Closing.{takes_on, PartsTake, parts_same, ServesNone, StepCloses, invoked_closes, proposed_closes, received_closes, ticked_serves, turn_closes, LeavesParts, always_left, sync_closes, scrub_closes}
 
 -- What a world has closed is closed in the next one: it takes nothing for a part of it, and no packet that is sent serves it.
 record KeepsClosed (layout : Layout) (w x : World) : Type 0 where
@@ -135,6 +135,18 @@ closed_cases setting limits w calls was left = record {
       let turn = turn_closes setting.layout w.packets (w.nodes brick.0) step.node
       (sync_says setting (view_world w) was.agreed was.drafting brick (w.clocks brick.0) group).turn in
       let says = sync_closes setting brick (w.clocks brick.0) (w.nodes brick.0) group in
+      record {
+        closed = closed_after setting.layout w brick step.node step.packets turn says;
+        takes = takes_after setting.layout w brick step.node step.packets turn says;
+        new = step.packets;
+        sent = refl;
+        tells = tells_after setting.layout w brick step.node step.packets turn says;
+      };
+  scrubs = λ brick group stripe members may.
+      let step : NodeStep = scrubbed_at setting brick (w.clocks brick.0) (w.nodes brick.0) group stripe members in
+      let turn = turn_closes setting.layout w.packets (w.nodes brick.0) step.node
+      (scrub_says setting (view_world w) was.agreed was.drafting brick (w.clocks brick.0) group stripe members).turn in
+      let says = scrub_closes setting brick (w.clocks brick.0) (w.nodes brick.0) group stripe members in
       record {
         closed = closed_after setting.layout w brick step.node step.packets turn says;
         takes = takes_after setting.layout w brick step.node step.packets turn says;

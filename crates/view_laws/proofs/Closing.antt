@@ -1,6 +1,7 @@
 -- A brick that has closed a view keeps it closed, takes nothing for a stripe of it, and serves it no more.
-use Rattle.view_laws.proofs.SyncReads.{carried_each, synced_at_each, each_synced, each_tick, read_call}
+use Rattle.view_laws.proofs.SyncReads.{carried_each, synced_at_each, scrubbed_at_each, each_synced, each_tick, read_call}
 use Rattle.protocol.specs.Jobs.{Job, begun_job}
+use Rattle.protocol.specs.Scrubs.{Scrub}
 use Rattle.fab_base.specs.declared.identities.ViewNo.{ViewNo}
 use Rattle.view_laws.proofs.Syncing.{synced_each, synced_of}
 use Rattle.std.proofs.Common.{◌≡◌, ℕ, zero, suc, ◌+◌, ◌-◌, ◌<◌, ◌≤◌, Bool, true, false, ◌&&◌, ◌||◌, ◌⊎◌, inl, inr, ⊎_elim, List, [], ◌∷◌, Option, Some, None, refl, sym, ap, ◌∙◌, subst, arith, nat_lt, nat_eq, is_some}
@@ -11,6 +12,7 @@ use Rattle.std.proofs.lemmas.Bool.Decides.{nat_tests}
 use Rattle.std.proofs.lemmas.Option.{same_Some}
 use Rattle.fab_base.specs.declared.identities.BrickId.{BrickId}
 use Rattle.fab_base.specs.declared.identities.GroupId.{GroupId}
+use Rattle.fab_base.specs.declared.identities.StripeNo.{StripeNo}
 use Rattle.fab_base.specs.declared.member_lists.View.{View}
 use Rattle.fab_base.specs.declared.stamps.Ballot.{Ballot}
 use Rattle.fab_base.specs.declared.stamps.Stamp.{Stamp}
@@ -31,11 +33,11 @@ use Rattle.protocol.specs.Views.{Learnt, first_kept, is_later, learns}
 use Rattle.protocol.specs.Replicas.{Replica, Reaction, fresh_replica, is_held, ignored, collected, handle, newest_of, under}
 use Rattle.protocol.specs.Ballots.{moved_to, outbidding, granting, unless_barred, voting}
 use Rattle.protocol.specs.Proposals.{Proposal, Voting, Ignored, Waited, Asks, Ended, voted}
-use Rattle.protocol.specs.Coordinators.{Coordinator, Next, Ignores, Waits, Sends, Makes, Ends, request_of, on_reply, asked_group}
-use Rattle.protocol.specs.Nodes.{Node, NodeStep, view_at, has_accepted, put, no_step, sending, with_known, with_round, known_after, fresh_stamp, group_at, began, invoked, phase_packets, replica_at, full_at, moved_at, vote_at, voted_on, requested, with_learnt, node_taught, node_taught_by, may_teach, node_learnt, view_counted, carried_out, ended_packets, carried_ballot, replied_ballot, replied_at, replied, lists_fit, heard, received, absorbed, resent_up_to, ballot_resent, ticked, new_proposal, proposing, proposed_in, proposed, stopped, restarted, node_synced, old_reply, new_coordinator, synced_at, carried_for, job_reading, collect_packets, read_closed, synced_packets}
-use Rattle.protocol.specs.Worlds.{World, Event, first_world, is_up, packet_during, left_after, world_stepped, run}
+use Rattle.protocol.specs.Coordinators.{Coordinator, Next, Ignores, Waits, Sends, Makes, Ends, request_of, hearing, counts_at, on_reply, asked_group}
+use Rattle.protocol.specs.Nodes.{Node, NodeStep, view_at, has_accepted, put, no_step, sending, with_known, with_round, known_after, fresh_stamp, group_at, began, invoked, phase_packets, replica_at, full_at, moved_at, vote_at, voted_on, requested, with_learnt, node_taught, node_taught_by, may_teach, node_learnt, view_counted, carried_out, ended_packets, carried_ballot, replied_ballot, replied_at, replied, lists_fit, heard, received, absorbed, ticked, new_proposal, proposing, proposed_in, proposed, stopped, restarted, node_synced, old_reply, new_coordinator, synced_at, carried_for, job_reading, scrub_of, scrub_coordinator, scrubbed_at, collect_packets, read_closed, synced_packets}
+use Rattle.protocol.specs.Worlds.{World, Event, first_brick, first_world, is_up, packet_during, left_after, world_stepped, run}
 use Rattle.protocol.proofs.Events.{EventCases, step_on, world_counting, always, started_each}
-use Rattle.protocol.proofs.Packets.{OfEach, each_none, each_both, each_member, each_collect, each_reply, each_learn, each_ticked, each_ballot, each_ballot_resent}
+use Rattle.protocol.proofs.Packets.{OfEach, each_none, each_both, each_member, each_collect, each_reply, each_learn, each_ballot, each_ballot_resent}
 use Rattle.protocol.proofs.Served.{IsCollect, IsServed, request_each, parts_each, IsTold, TellsOld}
 use Rattle.protocol.proofs.Tables.{put_each, put_twice}
 use Rattle.view_laws.specs.Successors.{has_closed, IsKeptIn, TakesNothing, is_serving}
@@ -368,13 +370,14 @@ synced_serves : (me from to : BrickId) (node : Node) (group : GroupId) (view : V
     → ServesNone me node (record { from = from; to = to; message = Message.Synced group view })
 synced_serves me from to node group view other said is = cc
 
--- so is what the coordinator of a synchronisation's read decided
-carried_for_closes : (setting : Setting) (me : BrickId) (now : ℕ) (node mid : Node) (known : ℕ) (c : Coordinator) (decision : Next) (reading : Option Job)
-    → mid.replicas ≡ node.replicas
-    → (let step = carried_for setting me now mid known c decision reading in
+-- so is what the coordinator of a synchronisation's read or of a scrub decided
+carried_for_closes : (setting : Setting) (me : BrickId) (now : ℕ) (node mid : Node) (known : ℕ) (c heard : Coordinator) (decision : Next)
+    (reading : Option Job) (scrub : Option Scrub) → mid.replicas ≡ node.replicas
+    → (let step = carried_for setting me now mid known c heard decision reading scrub in
     (step.node.replicas ≡ node.replicas) × OfEach (ServesNone me node) step.packets)
-carried_for_closes setting me now node mid known c decision reading same =
-    carried_each (λ (step : NodeStep). (step.node.replicas ≡ node.replicas) × OfEach (ServesNone me node) step.packets) setting me now mid known c decision reading
+carried_for_closes setting me now node mid known c heard decision reading scrub same =
+    carried_each (λ (step : NodeStep). (step.node.replicas ≡ node.replicas) × OfEach (ServesNone me node) step.packets) setting me now mid known c heard decision
+    reading scrub
     (carried_closes setting me node mid known c decision same)
     (λ job is answered seen stored ends.
     let collects = each_collect (ServesNone me node) me c stored (λ t to. request_serves me me to node c.call (Request.Collect t)) in
@@ -394,6 +397,14 @@ carried_for_closes setting me now node mid known c decision reading same =
             collects (phase_serves setting me node (read_call group (record job { attempt = attempt }) me now closed.node)),
       );
     })
+    (record {
+      begins = λ s is d sends. (same, phase_serves setting me node d);
+      ends = λ s is answered seen stored ended. (
+        same,
+        each_both (ServesNone me node) (collect_packets me c stored) []
+            (each_collect (ServesNone me node) me c stored (λ t to. request_serves me me to node c.call (Request.Collect t))) (each_none (ServesNone me node)),
+      );
+    })
 
 -- a synchronisation begins
 pub sync_closes : (setting : Setting) (me : BrickId) (now : ℕ) (node : Node) (group : GroupId)
@@ -405,6 +416,15 @@ sync_closes setting me now node group =
     (λ answer. sends_closes setting.layout me node _ [] refl (each_none (ServesNone me node)))
     (λ kept is. sends_closes setting.layout me node _ _ refl
     (phase_serves setting me node (read_call kept (begun_job group (node.learnt group.0).view) me now node)))
+
+-- a scrub begins
+pub scrub_closes : (setting : Setting) (me : BrickId) (now : ℕ) (node : Node) (group : GroupId) (stripe : StripeNo) (members : List BrickId)
+    → (let step = scrubbed_at setting me now node group stripe members in StepCloses setting.layout me node step.node step.packets)
+scrub_closes setting me now node group stripe members =
+    scrubbed_at_each (λ (step : NodeStep). StepCloses setting.layout me node step.node step.packets) setting me now node group stripe members
+    (sends_closes setting.layout me node node [] refl (each_none (ServesNone me node)))
+    (λ kept is. sends_closes setting.layout me node _ _ refl
+    (phase_serves setting me node (scrub_coordinator kept me now node group stripe members)))
 
 -- what a proposal decided is carried out
 ended_serves : (layout : Layout) (me : BrickId) (node : Node) (p : Proposal) (ended : ViewAnswer) → OfEach (ServesNone me node) (ended_packets layout me p ended)
@@ -437,8 +457,9 @@ replied_closes setting me from now node call said None = by node.proposal
         ballot_closes setting.layout me node (with_known (with_round node said) (known_after node.known said)) p (voted setting.layout.bricks p from call said) refl
 replied_closes setting me from now node call said (Some c) =
     carried_for_closes setting me now node (with_round node said) (known_after node.known said) c
+    (hearing c from said (counts_at setting.layout.block c from.0 call said))
     (on_reply setting.layout.block setting.code (fresh_stamp me c.stamp.view now node.boot (known_after node.known said)) c from call said)
-    (job_reading node.job c.call.seq) refl
+    (job_reading node.job c.call.seq) (scrub_of node.scrub c.call.seq) refl
 
 -- so a reply has a brick take nothing, and serve nothing
 heard_closes : (setting : Setting) (me from : BrickId) (now : ℕ) (node : Node) (call : Call) (said : Reply)
@@ -483,7 +504,7 @@ pub ticked_serves : (setting : Setting) (me : BrickId) (node : Node) → OfEach 
 unfolding ticked
 ticked_serves setting me node =
     each_tick (ServesNone me node) setting me node.calls (λ j c is seat to. request_serves me me to node c.call (request_of setting.code c seat))
-    (λ j c is later from to. learn_serves me from to node c.call.group _) node.job node.seq node.proposal
+    (λ j c is later from to. learn_serves me from to node c.call.group _) node.job node.scrub node.seq node.proposal
     (each_ballot_resent (ServesNone me node) me node.proposal (λ p is to. request_serves me me to node p.call _)
     (λ p is later from to. learn_serves me from to node p.call.group p.view))
 
@@ -559,6 +580,9 @@ left_cases setting w left = record {
   syncs = λ brick group may.
       stepped w brick (synced_at setting brick (w.clocks brick.0) (w.nodes brick.0) group)
       (up_not_down setting.layout w brick (and_parts (is_up setting.layout w brick) _ may).0) left;
+  scrubs = λ brick group stripe members may.
+      stepped w brick (scrubbed_at setting brick (w.clocks brick.0) (w.nodes brick.0) group stripe members)
+      (up_not_down setting.layout w brick (and_parts (is_up setting.layout w brick) _ may).0) left;
   handles = λ number packet at up.
       stepped (world_counting setting w number packet) packet.to (step_on setting w packet) (up_not_down setting.layout w packet.to up) left;
   sets = λ brick time is. left;
@@ -584,4 +608,5 @@ left_cases setting w left = record {
 
 -- so it is in every world that a run reaches
 pub always_left : (setting : Setting) (events : List Event) → LeavesParts setting.layout (run setting events (first_world setting.layout))
-always_left setting = always (LeavesParts setting.layout) setting (λ i down. absurd (false≢true (sym down))) (left_cases setting)
+always_left setting = always (LeavesParts setting.layout) setting
+    (λ i down. parts_same setting.layout (first_brick setting.layout) (first_brick setting.layout) refl) (left_cases setting)

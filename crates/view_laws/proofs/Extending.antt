@@ -5,7 +5,7 @@ use Rattle.std.proofs.lemmas.Bool.{and_parts, not-true}
 use Rattle.fab_base.specs.Layouts.{Layout}
 use Rattle.messages.specs.declared.packets.Packet.{Packet}
 use Rattle.protocol.specs.Settings.{Setting, IsSound}
-use Rattle.protocol.specs.Nodes.{Node, NodeStep, invoked, proposed, ticked, stopped, restarted, may_open, synced_at}
+use Rattle.protocol.specs.Nodes.{Node, NodeStep, invoked, proposed, ticked, stopped, restarted, may_open, synced_at, scrubbed_at}
 use Rattle.protocol.specs.Worlds.{World, Event, first_world, run, happens}
 use Rattle.protocol.proofs.Events.{EventCases, step_on, happens_each, started_each, run-append}
 use Rattle.view_laws.proofs.Histories.{ViewWorld, view_world, Extends}
@@ -13,7 +13,7 @@ use Rattle.view_laws.proofs.Agreeing.{turned, turn_extends, turned_placed, place
 use Rattle.view_laws.proofs.CallSteps.{Calls, always_calls, put_back}
 use Rattle.view_laws.proofs.Drafting.{step_extends, extends_on}
 use Rattle.view_laws.proofs.Deciding.{HasLimits}
-use Rattle.view_laws.proofs.Beginning.{invoked_says, proposed_says, ticked_says, sync_says}
+use Rattle.view_laws.proofs.Beginning.{invoked_says, proposed_says, ticked_says, sync_says, scrub_says}
 use Rattle.view_laws.proofs.Agreements.{Agreement, packet_sent, received_says, invoked_keeps, always_agreed}
 
 -- the same is known of the same
@@ -53,6 +53,10 @@ extends_cases setting limits w calls was = record {
       let step : NodeStep = synced_at setting brick (w.clocks brick.0) (w.nodes brick.0) group in
       step_extends setting.layout (view_world w) brick.0 step.node step.packets was.agreed
       (sync_says setting (view_world w) was.agreed was.drafting brick (w.clocks brick.0) group).turn;
+  scrubs = λ brick group stripe members may.
+      let step : NodeStep = scrubbed_at setting brick (w.clocks brick.0) (w.nodes brick.0) group stripe members in
+      step_extends setting.layout (view_world w) brick.0 step.node step.packets was.agreed
+      (scrub_says setting (view_world w) was.agreed was.drafting brick (w.clocks brick.0) group stripe members).turn;
   handles = λ number packet at up.
       let step : NodeStep = step_on setting w packet in
       step_extends setting.layout (view_world w) packet.to.0 step.node step.packets was.agreed

@@ -15,7 +15,6 @@ use Rattle.messages.specs.declared.packets.Message.{Message}
 use Rattle.messages.specs.declared.packets.Packet.{Packet}
 use Rattle.messages.specs.declared.replies.Reply.{Reply}
 use Rattle.messages.specs.declared.requests.Request.{Request}
-use Rattle.quorum.specs.Quorums.{quorum_of}
 use Rattle.protocol.specs.declared.phases.Phase.{Phase}
 use Rattle.protocol.specs.declared.phases.Phase.TheVariants.{Looks, LooksAt, Orders, OrdersAt, Recovers, Descends, Modifies, Bases, Stores, LooksBack}
 use Rattle.protocol.specs.declared.phases.Refuser.{Refuser}
@@ -23,12 +22,12 @@ use Rattle.protocol.specs.declared.phases.FullMember.{FullMember}
 use Rattle.protocol.specs.declared.phases.Mover.{Mover}
 use Rattle.protocol.specs.Settings.{Setting, Code}
 use Rattle.protocol.specs.Views.{learns, is_later}
-use Rattle.protocol.specs.Coordinators.{Coordinator, Next, Ignores, Waits, Sends, Makes, Ends, in_phase, reordering, forgetting, most_rounds, aborted_by, once_ordered, unless_refused, unless_told_full, unless_told_moved, answered_fast, answered_fast_at, fast_version, fast_version_at, common_version_at, read_back, pieces_at, modified_if, once_modified, some_behind, rebuilt, greatest_refuser, greatest_found, lowest_full, lowest_mover, decided, with_reply, once_full, counted_at, counts_at, on_reply, asked_group, may_look_back, lower_phase, lowest_dropper, unless_told_gone}
+use Rattle.protocol.specs.Coordinators.{Coordinator, Next, Ignores, Waits, Sends, Makes, Ends, in_phase, reordering, forgetting, most_rounds, aborted_by, once_ordered, unless_refused, unless_told_full, unless_told_moved, answered_fast, answered_fast_at, fast_version, fast_version_at, common_version_at, read_back, pieces_at, modified_if, once_modified, some_behind, rebuilt, greatest_refuser, greatest_found, lowest_full, lowest_mover, decided, with_reply, once_full, counted_at, counts_at, on_reply, needed, may_look_back, lower_phase, lowest_dropper, unless_told_gone}
 use Rattle.protocol.specs.Nodes.{Node, NodeStep, view_in, with_learnt, node_taught, node_taught_by, may_teach, node_learnt, lists_fit, view_counted, requested, absorbed, node_synced, has_later_time, new_stamp, fresh_stamp}
 use Rattle.protocol.proofs.Served.{request_each}
 
--- a brick's own stays: how often its store was opened, its last call and round, its operations, its proposal and its
--- synchronisation
+-- a brick's own stays: how often its store was opened, its last call and round, its operations, its proposal, its synchronisation
+-- and its scrub
 pub record KeepsOwn (node next : Node) : Type 0 where
   pub boot : next.boot ≡ node.boot
   pub seq : next.seq ≡ node.seq
@@ -36,18 +35,19 @@ pub record KeepsOwn (node next : Node) : Type 0 where
   pub proposal : next.proposal ≡ node.proposal
   pub calls : next.calls ≡ node.calls
   pub job : next.job ≡ node.job
+  pub scrub : next.scrub ≡ node.scrub
 
 -- a brick that does not change keeps its own
 pub own_same : (node : Node) → KeepsOwn node node
-own_same node = record { boot = refl; seq = refl; round = refl; proposal = refl; calls = refl; job = refl }
+own_same node = record { boot = refl; seq = refl; round = refl; proposal = refl; calls = refl; job = refl; scrub = refl }
 
 -- a request leaves it as it is
 pub requested_own : (setting : Setting) (me from : BrickId) (node : Node) (call : Call) (request : Request)
     → KeepsOwn node (requested setting me from node call request).node
 requested_own setting me from node call request =
     request_each (λ (step : NodeStep). KeepsOwn node step.node) setting me from node call request (own_same node) (λ reply is. own_same node)
-    (λ group seat is served. record { boot = refl; seq = refl; round = refl; proposal = refl; calls = refl; job = refl })
-    (λ group ballot asks is. record { boot = refl; seq = refl; round = refl; proposal = refl; calls = refl; job = refl })
+    (λ group seat is served. record { boot = refl; seq = refl; round = refl; proposal = refl; calls = refl; job = refl; scrub = refl })
+    (λ group ballot asks is. record { boot = refl; seq = refl; round = refl; proposal = refl; calls = refl; job = refl; scrub = refl })
 
 -- so does a view that is taught
 pub taught_own : (block group : ℕ) (node : Node) (view : Option View) → KeepsOwn node (node_taught_by block group node view)
@@ -55,7 +55,7 @@ unfolding node_taught
 taught_own block group node None = own_same node
 taught_own block group node (Some view) =
     cond_both (is_later (node.learnt group) view) (with_learnt block group node (learns (node.learnt group) view)) node (λ (n : Node). KeepsOwn node n)
-    (λ later. record { boot = refl; seq = refl; round = refl; proposal = refl; calls = refl; job = refl }) (λ isnt. own_same node)
+    (λ later. record { boot = refl; seq = refl; round = refl; proposal = refl; calls = refl; job = refl; scrub = refl }) (λ isnt. own_same node)
 
 -- so does a message that teaches a view
 pub learnt_own : (layout : Layout) (node : Node) (group : GroupId) (view : View) → KeepsOwn node (node_learnt layout node group view)
@@ -68,7 +68,7 @@ learnt_own layout node group view =
 pub synced_own : (layout : Layout) (node : Node) (group : GroupId) (number : ViewNo) → KeepsOwn node (node_synced layout node group number)
 synced_own layout node group number =
     synced_each (λ (n : Node). KeepsOwn node n) layout node group number (own_same node)
-    (λ now unsynced. record { boot = refl; seq = refl; round = refl; proposal = refl; calls = refl; job = refl })
+    (λ now unsynced. record { boot = refl; seq = refl; round = refl; proposal = refl; calls = refl; job = refl; scrub = refl })
 
 -- so does what is kept of a message whose handling was cut short
 pub absorbed_own : (setting : Setting) (me : BrickId) (node : Node) (packet : Packet) → KeepsOwn node (absorbed setting me node packet)
@@ -233,6 +233,6 @@ reply_view_kept block code fresh c from call reply of = by (counts_at block c fr
     by None = tt
     by (Some seat) =
         onto seat (once_full block code fresh (with_reply c seat from reply))
-        (cond_both (nat_lt (length (with_reply c seat from reply).counted) (quorum_of (asked_group c))) (Waits (with_reply c seat from reply))
+        (cond_both (nat_lt (length (with_reply c seat from reply).counted) (needed (with_reply c seat from reply))) (Waits (with_reply c seat from reply))
         (decided block code fresh (with_reply c seat from reply)) (λ (z : Next). KeepsView (with_reply c seat from reply) z)
         (λ few. record { group = refl; view = refl }) (λ enough. decided_view_kept block code fresh (with_reply c seat from reply) of))

@@ -23,8 +23,8 @@ use Rattle.synod_laws.proofs.Agreement.{two_chosen, chosen_stays}
 use Rattle.protocol.specs.Settings.{Setting, Code}
 use Rattle.protocol.specs.Views.{members_of, view_told, learn_in, group_kept}
 use Rattle.protocol.specs.Proposals.{Proposal, Voting, Ignored, Waited, Asks, Ended, ballot_quorum, ballot_packets, seat_voting, with_voice, refused_by, greatest_choice, asking, voted}
-use Rattle.protocol.specs.Coordinators.{Coordinator, Next, Ignores, Waits, Sends, Makes, Ends, request_of, on_reply, asked_group}
-use Rattle.protocol.specs.Nodes.{Node, NodeStep, put, no_step, with_known, with_round, known_after, carried_for, job_reading, coordinator_in, collect_packets, read_closed, synced_packets, phase_packets, fresh_stamp, view_in, carried_out, resent_to, learn_packets, decided_view, ended_packets, carried_ballot, replied_ballot, replied_at, counts_here, view_counted, node_taught_by, replied, lists_fit, heard}
+use Rattle.protocol.specs.Coordinators.{Coordinator, Next, Ignores, Waits, Sends, Makes, Ends, request_of, on_reply, asked_group, hearing, counts_at}
+use Rattle.protocol.specs.Nodes.{Node, NodeStep, put, no_step, with_known, with_round, known_after, carried_for, job_reading, coordinator_in, collect_packets, read_closed, synced_packets, phase_packets, fresh_stamp, view_in, carried_out, resent_to, learn_packets, decided_view, ended_packets, carried_ballot, replied_ballot, replied_at, counts_here, view_counted, node_taught_by, replied, lists_fit, heard, scrub_of}
 use Rattle.protocol.proofs.Packets.{OfEach, each_none, each_both, each_member, each_collect, each_ballot, each_learn}
 use Rattle.protocol.proofs.Tables.{put_each}
 use Rattle.protocol.specs.Jobs.{Job, Attempt, job_ask}
@@ -40,6 +40,7 @@ use Rattle.view_laws.proofs.Votings.{voting_each}
 use Rattle.view_laws.proofs.Drafting.{DraftSays, Drafting, draft_stays, still_unproposed, AcceptsNone, StepSays, BodySays, body_own, step_extends}
 use Rattle.view_laws.proofs.Deciding.{HasLimits, voice_says, group_at_draft, group_is, within, majority, agrees, asks_safely, asked_chosen, chosen_fits}
 use Rattle.view_laws.proofs.Requesting.{no_turn, taught_turn}
+use Rattle.protocol.specs.Scrubs.{Scrub}
 
 -- ---- what a reply teaches
 
@@ -227,17 +228,19 @@ carried_keeps setting me node known c (Sends d) = (refl, refl)
 carried_keeps setting me node known c (Makes d) = (refl, refl)
 carried_keeps setting me node known c (Ends answered seen stored) = (refl, refl)
 
--- so it does as it reads for its synchronisation
-carried_for_keeps : (setting : Setting) (me : BrickId) (now : ℕ) (node : Node) (known : ℕ) (c : Coordinator) (next : Next) (reading : Option Job)
-    → KeepsViews node (carried_for setting me now node known c next reading).node
-carried_for_keeps setting me now node known c next reading =
-    carried_each (λ (step : NodeStep). KeepsViews node step.node) setting me now node known c next reading (carried_keeps setting me node known c next)
+-- so it does as it reads for its synchronisation, or scrubs
+carried_for_keeps : (setting : Setting) (me : BrickId) (now : ℕ) (node : Node) (known : ℕ) (c heard : Coordinator) (next : Next) (reading : Option Job)
+    (scrub : Option Scrub) → KeepsViews node (carried_for setting me now node known c heard next reading scrub).node
+carried_for_keeps setting me now node known c heard next reading scrub =
+    carried_each (λ (step : NodeStep). KeepsViews node step.node) setting me now node known c heard next reading scrub
+    (carried_keeps setting me node known c next)
     (λ job is answered seen stored ends. record {
       stays = (refl, refl);
       ends = λ answer. (refl, refl);
       finishes = (refl, refl);
       reads = λ attempt group kept. (refl, refl);
     })
+    (record { begins = λ s is d sends. (refl, refl); ends = λ s is answered seen stored ended. (refl, refl) })
 
 -- as it carries out what its proposal decided
 ballot_keeps : (layout : Layout) (me : BrickId) (node : Node) (p : Proposal) (voting : Voting) → KeepsViews node (carried_ballot layout me node p voting).node
@@ -259,8 +262,9 @@ replied_keeps setting me now from node call said None =
     proposal_keeps setting.layout me from (with_known (with_round node said) (known_after node.known said)) call said node.proposal
 replied_keeps setting me now from node call said (Some c) =
     carried_for_keeps setting me now (with_round node said) (known_after node.known said) c
+    (hearing c from said (counts_at setting.layout.block c from.0 call said))
     (on_reply setting.layout.block setting.code (fresh_stamp me c.stamp.view now node.boot (known_after node.known said)) c from call said)
-    (job_reading node.job c.call.seq)
+    (job_reading node.job c.call.seq) (scrub_of node.scrub c.call.seq)
 
 module _ (setting : Setting) (limits : HasLimits setting.layout) (v : ViewWorld) (called : Called v.packets v.nodes) (agreed : Agreed setting.layout v)
     (drafting : Drafting setting.layout v) (me from : BrickId) (call : Call) (said : Reply)
@@ -356,13 +360,13 @@ module _ (setting : Setting) (limits : HasLimits setting.layout) (v : ViewWorld)
       quiet_body _ _ (kept_calls mid calls c.call.seq None (λ z is. absurd (let never : None ≡ Some z = is in cc))) (known_jobs mid jobs) proposal
       (each_collect (IsQuiet setting.layout) me c stored (λ t to. request_quiet setting.layout me to c.call (Request.Collect t) tt))
 
-  -- so is what the coordinator of a synchronisation's read decided, where the view of that is known
+  -- so is what the coordinator of a synchronisation's read or of a scrub decided, where the view of that is known
   carried_for_body : (now : ℕ) (mid : Node) → mid.calls ≡ (v.nodes me.0).calls → mid.job ≡ (v.nodes me.0).job → mid.proposal ≡ (v.nodes me.0).proposal
-      → (known : ℕ) (c : Coordinator) → IsNamed setting.layout v.packets c.call.group.0 (view_in c) → (decision : Next) → KeepsView c decision
-      → (reading : Option Job) → ((job : Job) → reading ≡ Some job → IsNamed setting.layout v.packets job.group.0 job.view)
-      → (let step = carried_for setting me now mid known c decision reading in BodySays setting.layout v x me.0 step.node step.packets)
-  carried_for_body now mid calls jobs proposal known c named decision keeps reading read =
-      carried_each (λ (step : NodeStep). BodySays setting.layout v x me.0 step.node step.packets) setting me now mid known c decision reading
+      → (known : ℕ) (c heard : Coordinator) → IsNamed setting.layout v.packets c.call.group.0 (view_in c) → (decision : Next) → KeepsView c decision
+      → (reading : Option Job) → ((job : Job) → reading ≡ Some job → IsNamed setting.layout v.packets job.group.0 job.view) → (scrub : Option Scrub)
+      → (let step = carried_for setting me now mid known c heard decision reading scrub in BodySays setting.layout v x me.0 step.node step.packets)
+  carried_for_body now mid calls jobs proposal known c heard named decision keeps reading read scrub =
+      carried_each (λ (step : NodeStep). BodySays setting.layout v x me.0 step.node step.packets) setting me now mid known c heard decision reading scrub
       (carried_body mid calls jobs proposal known c named decision keeps)
       (λ job is answered seen stored ends.
       let gone = kept_calls mid calls c.call.seq None (λ z same. absurd (let never : None ≡ Some z = same in cc)) in
@@ -389,6 +393,16 @@ module _ (setting : Setting) (limits : HasLimits setting.layout) (v : ViewWorld)
             (same_Some (record job { attempt = attempt; seq = d.call.seq }) j same) (read job is))
             proposal
             (each_both (IsQuiet setting.layout) (collect_packets me c stored) (phase_packets setting me d) collects (phase_sends d));
+      })
+      (record {
+        begins = λ s is d sends. quiet_body _ _
+            (kept_calls mid calls c.call.seq (Some d) (goes_on_known c d named (subst (λ (z : Next). KeepsView c z) sends keeps))) (known_jobs mid jobs) proposal
+            (phase_sends d);
+        ends = λ s is answered seen stored ended. quiet_body _ _
+            (kept_calls mid calls c.call.seq None (λ z same. absurd (let never : None ≡ Some z = same in cc))) (known_jobs mid jobs) proposal
+            (each_both (IsQuiet setting.layout) (collect_packets me c stored) []
+            (each_collect (IsQuiet setting.layout) me c stored (λ t to. request_quiet setting.layout me to c.call (Request.Collect t) tt))
+            (each_none (IsQuiet setting.layout)));
       })
 
   -- ---- the proposal
@@ -665,11 +679,13 @@ module _ (setting : Setting) (limits : HasLimits setting.layout) (v : ViewWorld)
   call_body now None is =
       ballot_body (with_known (with_round (v.nodes me.0) said) (known_after (v.nodes me.0).known said)) refl refl refl (v.nodes me.0).proposal refl
   call_body now (Some c) is =
-      carried_for_body now (with_round (v.nodes me.0) said) refl refl refl (known_after (v.nodes me.0).known said) c (known_calls call.seq c is)
+      carried_for_body now (with_round (v.nodes me.0) said) refl refl refl (known_after (v.nodes me.0).known said) c
+      (hearing c from said (counts_at setting.layout.block c from.0 call said)) (known_calls call.seq c is)
       (on_reply setting.layout.block setting.code (fresh_stamp me c.stamp.view now (v.nodes me.0).boot (known_after (v.nodes me.0).known said)) c from call said)
       (reply_view_kept setting.layout.block setting.code (fresh_stamp me c.stamp.view now (v.nodes me.0).boot (known_after (v.nodes me.0).known said)) c from call said
       (fresh_of me c.stamp.view now (v.nodes me.0).boot (known_after (v.nodes me.0).known said)))
       (job_reading (v.nodes me.0).job c.call.seq) (λ job is. drafting.jobs me.0 job (reading_is (v.nodes me.0).job c.call.seq job is))
+      (scrub_of (v.nodes me.0).scrub c.call.seq)
 
 -- what a brick owes when it handles a reply
 pub heard_says : (setting : Setting) → HasLimits setting.layout → (v : ViewWorld) → Called v.packets v.nodes → Agreed setting.layout v → Drafting setting.layout v

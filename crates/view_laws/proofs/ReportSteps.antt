@@ -1,5 +1,5 @@
 -- Each step of a brick reports what is so, so all reports of a run do.
-use Rattle.view_laws.proofs.SyncReads.{carried_each, synced_at_each}
+use Rattle.view_laws.proofs.SyncReads.{carried_each, synced_at_each, scrubbed_at_each}
 use Rattle.protocol.specs.Jobs.{Job}
 use Rattle.protocol.specs.declared.tellings.SyncAnswer.{SyncAnswer}
 use Rattle.std.proofs.Common.{◌≡◌, ℕ, zero, suc, ◌+◌, ◌<◌, ◌≤◌, Bool, true, false, cond, ◌&&◌, ◌⊎◌, inl, inr, List, [], ◌∷◌, ◌++◌, length, Option, Some, None, refl, sym, ap, ◌∙◌, subst, arith, nat_lt}
@@ -31,8 +31,8 @@ use Rattle.protocol.specs.declared.tellings.ViewAnswer.TheVariants as answer
 use Rattle.protocol.specs.Settings.{Setting, IsSound}
 use Rattle.protocol.specs.Views.{kept_by}
 use Rattle.protocol.specs.Proposals.{Proposal, Voting, ballot_quorum, seat_voting, with_voice, refused_by, greatest_choice, asking, answers_ballot, ballot_packets, voted}
-use Rattle.protocol.specs.Coordinators.{Coordinator, Next, Ignores, Waits, Sends, Makes, Ends, on_reply}
-use Rattle.protocol.specs.Nodes.{Node, NodeStep, put, no_step, sending, with_known, with_round, known_after, fresh_stamp, learn_packets, group_at, began, invoked, requested, carried_out, carried_ballot, replied_ballot, replied_at, view_counted, node_taught_by, replied, lists_fit, heard, received, proposed, proposed_in, new_proposal, proposing, reporting, ticked, stopped, restarted, may_open, synced_at, carried_for, job_reading}
+use Rattle.protocol.specs.Coordinators.{Coordinator, Next, Ignores, Waits, Sends, Makes, Ends, on_reply, hearing, counts_at}
+use Rattle.protocol.specs.Nodes.{Node, NodeStep, put, no_step, sending, with_known, with_round, known_after, fresh_stamp, learn_packets, group_at, began, invoked, requested, carried_out, carried_ballot, replied_ballot, replied_at, view_counted, node_taught_by, replied, lists_fit, heard, received, proposed, proposed_in, new_proposal, proposing, reporting, ticked, stopped, restarted, may_open, synced_at, carried_for, job_reading, scrubbed_at, scrub_of}
 use Rattle.protocol.specs.Worlds.{World, Event, first_world, is_brick, run, reports_of, voiced_after, voices_at, voices_with, with_voiced}
 use Rattle.protocol.proofs.Events.{EventCases, step_on, always_where, started_each}
 use Rattle.protocol.proofs.Served.{request_each}
@@ -40,7 +40,7 @@ use Rattle.protocol.proofs.Tables.{get_one}
 use Rattle.view_laws.proofs.Histories.{ViewWorld, view_world, IsSent, history, seated, seated_grows, Extends}
 use Rattle.view_laws.proofs.Agreeing.{Turn, turned, turn_extends, placed, sending_more}
 use Rattle.view_laws.proofs.Calling.{StepCalls, Called}
-use Rattle.view_laws.proofs.CallSteps.{Calls, always_calls, append_none, invoked_calls, proposed_calls, received_calls, stopped_calls, restarted_calls, found_calls, found_called, synced_calls}
+use Rattle.view_laws.proofs.CallSteps.{Calls, always_calls, append_none, invoked_calls, proposed_calls, received_calls, stopped_calls, restarted_calls, found_calls, found_called, synced_calls, scrubbed_calls}
 use Rattle.view_laws.proofs.Owning.{requested_own, taught_own, learnt_own, synced_own}
 use Rattle.view_laws.proofs.Voices.{voice_counts, unrefused, acceptance_of}
 use Rattle.view_laws.proofs.Votings.{voting_each}
@@ -50,6 +50,9 @@ use Rattle.view_laws.proofs.Replying.{decided_named}
 use Rattle.view_laws.proofs.Agreements.{Agreement, packet_sent, received_says, always_agreed}
 use Rattle.view_laws.proofs.Extending.{extends_cases, restarted_extends}
 use Rattle.view_laws.proofs.Reporting.{Voices, EndSays, DecidedSays, end_stays, DraftVoices, Reporting, IsDraftPlace, IsNewEnd, StepVoices, reporting_after, still_voices, voiced_each}
+use Rattle.fab_base.specs.declared.identities.StripeNo.{StripeNo}
+use Rattle.protocol.specs.Scrubs.{Scrub}
+use Rattle.protocol.specs.declared.tellings.ScrubAnswer.{ScrubAnswer}
 
 -- ---- one more reply
 
@@ -145,20 +148,36 @@ end_voices layout last voices changed node me p is ended changes end = record {
     some_none : (call : Call) → Some call ≡ None → ⊥
     some_none call never = cc
 
--- where a brick reports of its synchronisation, nothing is reported of a proposal
-syncs_voices : (layout : Layout) (last : ViewWorld) (voices : Voices) (node : Node) (me : BrickId) (proposal : Option Proposal) (group : GroupId)
-    (answered : SyncAnswer) → ((q : Proposal) → proposal ≡ Some q → DraftVoices voices me.0 q)
-    → StepVoices layout last voices voices node me.0 proposal ((me, report.Sync group answered) ∷ [])
-syncs_voices layout last voices node me proposal group answered drafts = record {
+-- where a brick reports of no proposal, nothing is reported of one
+others_voices : (layout : Layout) (last : ViewWorld) (voices : Voices) (node : Node) (me : BrickId) (proposal : Option Proposal) (made : Report)
+    → ((number : GroupId) (call : Option Call) (ended : ViewAnswer) → made ≡ report.View number call ended → ⊥)
+    → ((q : Proposal) → proposal ≡ Some q → DraftVoices voices me.0 q) → StepVoices layout last voices voices node me.0 proposal ((me, made) ∷ [])
+others_voices layout last voices node me proposal made no_proposal drafts = record {
   changes = λ k boot seq phase. inl refl;
   drafts = drafts;
   ends = λ k brick number call ended at.
-      let same = get_one (me, report.Sync group answered) (brick, report.View number (Some call) ended) k at in
+      let same = get_one (me, made) (brick, report.View number (Some call) ended) k at in
       absurd (no_proposal number (Some call) ended (ap (λ (z : BrickId × Report). z.1) same));
   unsent = λ k brick number ended at.
-      let same = get_one (me, report.Sync group answered) (brick, report.View number None ended) k at in
+      let same = get_one (me, made) (brick, report.View number None ended) k at in
       absurd (no_proposal number None ended (ap (λ (z : BrickId × Report). z.1) same));
 }
+
+-- such is a report of a scrub
+scrubs_voices : (layout : Layout) (last : ViewWorld) (voices : Voices) (node : Node) (me : BrickId) (proposal : Option Proposal) (ended : Call)
+    (members : List BrickId) (answered : ScrubAnswer) → ((q : Proposal) → proposal ≡ Some q → DraftVoices voices me.0 q)
+    → StepVoices layout last voices voices node me.0 proposal ((me, report.Scrub ended members answered) ∷ [])
+scrubs_voices layout last voices node me proposal ended members answered =
+    others_voices layout last voices node me proposal (report.Scrub ended members answered) no_proposal
+  where
+    no_proposal : (number : GroupId) (call : Option Call) (made : ViewAnswer) → report.Scrub ended members answered ≡ report.View number call made → ⊥
+    no_proposal number call made never = cc
+
+-- and one of a synchronisation
+syncs_voices : (layout : Layout) (last : ViewWorld) (voices : Voices) (node : Node) (me : BrickId) (proposal : Option Proposal) (group : GroupId)
+    (answered : SyncAnswer) → ((q : Proposal) → proposal ≡ Some q → DraftVoices voices me.0 q)
+    → StepVoices layout last voices voices node me.0 proposal ((me, report.Sync group answered) ∷ [])
+syncs_voices layout last voices node me proposal group answered = others_voices layout last voices node me proposal (report.Sync group answered) no_proposal
   where
     no_proposal : (number : GroupId) (call : Option Call) (ended : ViewAnswer) → report.Sync group answered ≡ report.View number call ended → ⊥
     no_proposal number call ended never = cc
@@ -329,20 +348,26 @@ module _ (setting : Setting) (limits : HasLimits setting.layout) (w : World) (ca
   carried_voices mid same known c (Makes d) = still _ _ same
   carried_voices mid same known c (Ends answered seen stored) = still _ _ same
 
-  -- nor does one to a read of the synchronisation report of a proposal
-  carried_for_voices : (now : ℕ) (mid : Node) → mid.proposal ≡ (w.nodes me.0).proposal → (known : ℕ) (c : Coordinator) (decision : Next) (reading : Option Job)
-      → (let step = carried_for setting me now mid known c decision reading in
+  -- nor does one to a read of the synchronisation or to the scrub report of a proposal
+  carried_for_voices : (now : ℕ) (mid : Node) → mid.proposal ≡ (w.nodes me.0).proposal → (known : ℕ) (c heard : Coordinator) (decision : Next)
+      (reading : Option Job) (scrub : Option Scrub)
+      → (let step = carried_for setting me now mid known c heard decision reading scrub in
       StepVoices setting.layout (sending_more x step.packets) w.choices.voices w.choices.voices (w.nodes me.0) me.0 step.node.proposal (reports_of me step.reports))
-  carried_for_voices now mid same known c decision reading =
+  carried_for_voices now mid same known c heard decision reading scrub =
       carried_each
       (λ (step : NodeStep).
       StepVoices setting.layout (sending_more x step.packets) w.choices.voices w.choices.voices (w.nodes me.0) me.0 step.node.proposal (reports_of me step.reports))
-      setting me now mid known c decision reading (carried_voices mid same known c decision)
+      setting me now mid known c heard decision reading scrub (carried_voices mid same known c decision)
       (λ job is answered seen stored ends. record {
         stays = still _ _ same;
         ends = λ answer. syncs_voices setting.layout _ w.choices.voices (w.nodes me.0) me _ job.group answer (λ q at. was.drafts me.0 q (sym same ∙ at));
         finishes = syncs_voices setting.layout _ w.choices.voices (w.nodes me.0) me _ job.group _ (λ q at. was.drafts me.0 q (sym same ∙ at));
         reads = λ attempt group kept. still _ _ same;
+      })
+      (record {
+        begins = λ s is d sends. still _ _ same;
+        ends = λ s is answered seen stored ended.
+            scrubs_voices setting.layout _ w.choices.voices (w.nodes me.0) me _ c.call _ _ (λ q at. was.drafts me.0 q (sym same ∙ at));
       })
 
   -- a reply to an open operation, if there is one, or else to the proposal
@@ -361,8 +386,9 @@ module _ (setting : Setting) (limits : HasLimits setting.layout) (w : World) (ca
           me.0 step.node.proposal (reports_of me step.reports))
       coordinator_voices z =
           carried_for_voices now (with_round (w.nodes me.0) said) refl (known_after (w.nodes me.0).known said) c
+          (hearing c from said (counts_at setting.layout.block c from.0 call said))
           (on_reply setting.layout.block setting.code (fresh_stamp me c.stamp.view now (w.nodes me.0).boot (known_after (w.nodes me.0).known said)) c from call said)
-          (job_reading (w.nodes me.0).job c.call.seq)
+          (job_reading (w.nodes me.0).job c.call.seq) (scrub_of (w.nodes me.0).scrub c.call.seq)
 
 -- two choices by one test
 cond_two : {A B : Type 0} (t : Bool) (a b : A) (c d : B) (P : A → B → Type 0) → (t ≡ true → P a c) → (t ≡ false → P b d) → P (cond t a b) (cond t c d)
@@ -507,6 +533,19 @@ sync_voices setting w was me now group last =
     quiet : StepVoices setting.layout last w.choices.voices w.choices.voices (w.nodes me.0) me.0 (w.nodes me.0).proposal []
     quiet = still_voices setting.layout last w.choices.voices (w.nodes me.0) me.0 (w.nodes me.0).proposal (λ q is. was.drafts me.0 q is)
 
+-- a scrub begins
+scrub_voices : (setting : Setting) (w : World) → Reporting setting.layout (view_world w) w.choices.voices w.choices.reports → (me : BrickId) (now : ℕ)
+    (group : GroupId) (stripe : StripeNo) (members : List BrickId) (last : ViewWorld)
+    → (let step = scrubbed_at setting me now (w.nodes me.0) group stripe members in
+    StepVoices setting.layout last w.choices.voices w.choices.voices (w.nodes me.0) me.0 step.node.proposal (reports_of me step.reports))
+scrub_voices setting w was me now group stripe members last =
+    scrubbed_at_each
+    (λ (step : NodeStep). StepVoices setting.layout last w.choices.voices w.choices.voices (w.nodes me.0) me.0 step.node.proposal (reports_of me step.reports))
+    setting me now (w.nodes me.0) group stripe members quiet (λ kept is. quiet)
+  where
+    quiet : StepVoices setting.layout last w.choices.voices w.choices.voices (w.nodes me.0) me.0 (w.nodes me.0).proposal []
+    quiet = still_voices setting.layout last w.choices.voices (w.nodes me.0) me.0 (w.nodes me.0).proposal (λ q is. was.drafts me.0 q is)
+
 -- ---- events
 
 -- more is sent, or clocks change
@@ -595,6 +634,12 @@ reporting_cases setting limits w known was =
           step.packets (w.packets ++ step.packets) (turned (view_world w) brick.0 step.node).votes was calls.called
           (synced_calls setting brick (w.clocks brick.0) (w.nodes brick.0) group) (extends.syncs brick group may)
           (sync_voices setting w was brick (w.clocks brick.0) group _);
+      scrubs = λ brick group stripe members may.
+          let step : NodeStep = scrubbed_at setting brick (w.clocks brick.0) (w.nodes brick.0) group stripe members in
+          reporting_after setting.layout (view_world w) w.choices.voices w.choices.voices w.choices.reports (reports_of brick step.reports) brick.0 step.node
+          step.packets (w.packets ++ step.packets) (turned (view_world w) brick.0 step.node).votes was calls.called
+          (scrubbed_calls setting brick (w.clocks brick.0) (w.nodes brick.0) group stripe members) (extends.scrubs brick group stripe members may)
+          (scrub_voices setting w was brick (w.clocks brick.0) group stripe members _);
       handles = λ number packet at up.
           let step : NodeStep = step_on setting w packet in
           let sent = packet_sent w.packets number packet at in

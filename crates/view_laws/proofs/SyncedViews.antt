@@ -1,5 +1,5 @@
 -- What follows a view is chosen only once all stripes are said to be kept in that view.
-use Rattle.view_laws.proofs.SyncReads.{synced_at_each}
+use Rattle.view_laws.proofs.SyncReads.{synced_at_each, scrubbed_at_each}
 use Rattle.std.proofs.Common.{◌≡◌, ℕ, ◌+◌, ◌-◌, ◌<◌, ◌≤◌, Bool, true, false, ◌⊎◌, inl, inr, ⊎_elim, List, [], ◌++◌, length, Option, Some, None, refl, sym, ◌∙◌, subst, arith, nat_lt, nat_eq}
 use Rattle.std.specs.Prelude.{if◌then◌else◌}
 use Rattle.std.specs.Option.{option_map}
@@ -25,7 +25,7 @@ use Rattle.protocol.specs.Settings.{Setting}
 use Rattle.protocol.specs.Views.{Learnt, is_later, learns, views_in, group_in}
 use Rattle.protocol.specs.Ballots.{moved_to, outbidding, granting, unless_barred, voting}
 use Rattle.protocol.specs.Coordinators.{Coordinator}
-use Rattle.protocol.specs.Nodes.{Node, NodeStep, put, view_at, view_in, no_step, with_known, with_round, known_after, requested, vote_at, voted_on, with_learnt, node_taught, node_taught_by, may_teach, node_learnt, node_synced, view_counted, invoked, proposed, proposed_in, replied_at, replied, lists_fit, heard, received, absorbed, stopped, restarted, synced_at}
+use Rattle.protocol.specs.Nodes.{Node, NodeStep, put, view_at, view_in, no_step, with_known, with_round, known_after, requested, vote_at, voted_on, with_learnt, node_taught, node_taught_by, may_teach, node_learnt, node_synced, view_counted, invoked, proposed, proposed_in, replied_at, replied, lists_fit, heard, received, absorbed, stopped, restarted, synced_at, scrubbed_at}
 use Rattle.protocol.specs.Worlds.{World, Event, first_world, packet_during, left_after, vote_with, accepted_in, with_votes, world_stepped, run}
 use Rattle.protocol.proofs.Events.{EventCases, step_on, world_counting, always, started_each}
 use Rattle.protocol.proofs.Served.{request_each}
@@ -321,6 +321,12 @@ syncs_cases setting w was = record {
       (synced_at_each (λ (made : NodeStep). NodeSyncs w.packets made.node) setting brick (w.clocks brick.0) (w.nodes brick.0) group (was.nodes brick.0)
       (λ answer. was.nodes brick.0) (λ answer. syncs_same w.packets (w.nodes brick.0) _ (refl, refl) (was.nodes brick.0))
       (λ kept is. syncs_same w.packets (w.nodes brick.0) _ (refl, refl) (was.nodes brick.0)))
+      was;
+  scrubs = λ brick group stripe members may.
+      let step : NodeStep = scrubbed_at setting brick (w.clocks brick.0) (w.nodes brick.0) group stripe members in
+      stepped_syncs setting w brick step
+      (scrubbed_at_each (λ (made : NodeStep). NodeSyncs w.packets made.node) setting brick (w.clocks brick.0) (w.nodes brick.0) group stripe members
+      (was.nodes brick.0) (λ kept is. syncs_same w.packets (w.nodes brick.0) _ (refl, refl) (was.nodes brick.0)))
       was;
   handles = λ number packet at up.
       stepped_syncs setting (world_counting setting w number packet) packet.to (step_on setting w packet)

@@ -4,16 +4,14 @@ use Rattle.std.specs.Prelude.{nat_eq, replicate, slice_index_or}
 use Rattle.fab_base.specs.declared.identities.BrickId.{BrickId}
 use Rattle.fab_disk.specs.MemDisk.{content_of, IsSound}
 use Rattle.fab_disk.specs.declared.mem_disk.MemDisk.{MemDisk}
-use Rattle.frame_store.specs.declared.frames.Frame.{Frame}
-use Rattle.frame_store.specs.declared.shapes.Shape.{Shape}
 use Rattle.frame_store.specs.Layouts.{shape_of}
-use Rattle.frame_store.proofs.Openings.{opens_once}
 use Rattle.version_log.specs.Versions.{Version, version}
 use Rattle.fab_base.specs.Stamps.{first_stamp}
 use Rattle.brick_state.specs.declared.groups.Group.{Group}
 use Rattle.brick_state.specs.States.{StateOf, empty, no_group, live}
 use Rattle.brick_store.specs.Bricks.{Brick as Store}
-use Rattle.brick_store.specs.Images.{IsFound, StandsFor, state_in}
+use Rattle.brick_store.specs.Images.{IsFound, StandsFor}
+use Rattle.brick_store.proofs.Opened.{found_is}
 use Rattle.protocol.specs.Views.{first_learnt}
 use Rattle.protocol.specs.Replicas.{first_replica}
 use Rattle.replica.specs.Parts.{part_of, part_in, learnt_or, learnt_in, ballots_in, live_at, lists_stand}
@@ -24,12 +22,6 @@ use Rattle.world.specs.Disks.{ShowsDisk, IsUnwritten}
 use Rattle.world.specs.Shown.{IsRunning, IsUpWith, Runs, ShowsPower, unopened}
 use Rattle.world.specs.declared.bricks.Power.{Power}
 use Rattle.world.specs.declared.bricks.Power.TheVariants.{Up, Down}
-
--- an image is found as the one state that it stands for
-pub found_is : (shape : Shape) (st other : StateOf Version) (image : List ℕ) → IsFound shape st image → StandsFor shape other image → st ≡ other
-found_is shape st other image found stands =
-    let once = opens_once shape image found.frames stands.frames found.closed true found.opens stands.opens in
-    sym found.state ∙ ap (λ (frames : List Frame). state_in shape frames image) once.0 ∙ stands.state
 
 -- what is found was opened as often as the brick that it shows
 pub found_boot : (layout : Layout) (me : BrickId) (state : machine.Node) (st : StateOf Version) (image : List ℕ)

@@ -14,15 +14,14 @@ use Rattle.messages.specs.declared.packets.Packet.{Packet}
 use Rattle.messages.specs.declared.packets.Message.{Message}
 use Rattle.coord_phase.specs.Messages.{packets_from}
 use Rattle.brick_store.specs.Bricks.{Brick as Store}
-use Rattle.brick_store.specs.Images.{IsListed}
 use Rattle.node.specs.Outcomes.{Outcome}
 use Rattle.stripe_code.specs.Codes.{coding}
 use Rattle.node.specs.Running.{Running, state_of, shape_at, IsSameBrick}
-use Rattle.protocol.specs.Worlds.{World, first_world, is_up}
+use Rattle.protocol.specs.Worlds.{World, first_world, has_old_stores, is_up}
 use Rattle.fab_base.specs.Layouts.{Layout}
 use Rattle.protocol.specs.Nodes as machine
 use Rattle.world.specs.Runs.{brick_of}
-use Rattle.world.specs.Disks.{AreFreshDisks, first_listed}
+use Rattle.world.specs.Disks.{AreFreshDisks, IsFreshList}
 use Rattle.world.specs.BrickSteps.{ChangesBrick, RunsOn, DoesHandle, Stops}
 use Rattle.world.specs.Shown.{IsRunning, ShowsPower, ShowsBrick, ShowsBricks, IsFreshBrick, Takes, IsNodeOf, IsUpWith, Runs, IsUp, FindsUp, AreBricksOf, AreNodesOf, disk_in, disks_of, node_in, running_at, clock_at}
 use Rattle.lines.specs.declared.forms.Fault.{Fault}
@@ -255,16 +254,16 @@ pub shows_fresh : (layout : Layout) (bricks : List Brick) (n : ℕ) → n ≡ la
     → ShowsBricks layout bricks (first_world layout).nodes (first_world layout).after (first_world layout).up (first_world layout).clocks
 shows_fresh layout bricks n all fresh = record { count = fresh.count ∙ all; each = λ i brick at. (fresh.each i brick at).shows }
 
--- and the lists of their disks are as long as a first opening leaves them
+-- and the lists of their disks are as long as they are to be
 pub disks_fresh : (layout : Layout) (bricks : List Brick) (n : ℕ) → AreFresh layout bricks n → AreFreshDisks layout (disks_of bricks)
 disks_fresh layout bricks n fresh i disk at =
     by (slice_get bricks i) refl (sym (slice_get-map (λ (brick : Brick). disk_in brick.power) bricks i) ∙ at)
   where
     by : (found : Option Brick) → slice_get bricks i ≡ found → option_map (λ (brick : Brick). disk_in brick.power) found ≡ Some disk
-        → IsListed (shape_at layout (brick_of i)) first_listed (content_of disk)
+        → IsFreshList (has_old_stores layout) (shape_at layout (brick_of i)) (content_of disk)
     by None here is = absurd (let e : None ≡ Some disk = is in cc)
     by (Some brick) here is =
-        subst (λ (d : MemDisk). IsListed (shape_at layout (brick_of i)) first_listed (content_of d))
+        subst (λ (d : MemDisk). IsFreshList (has_old_stores layout) (shape_at layout (brick_of i)) (content_of d))
         (same_Some (disk_in brick.power) disk is) (fresh.each i brick here).listed
 
 -- each brick that is shown is one of the layout

@@ -1,5 +1,5 @@
 -- The number of a call is that of an operation of this very call, in every world that a schedule reaches.
-use Rattle.std.proofs.Common.{◌≡◌, ◌≢◌, ℕ, ◌+◌, ◌≤◌, ⊎_elim, Bool, true, false, cond, nat_eq, ◌&&◌, List, Option, Some, None, refl, sym, ap, ◌∙◌, subst, arith}
+use Rattle.std.proofs.Common.{◌≡◌, ◌≢◌, ℕ, ◌+◌, ◌≤◌, ⊎_elim, Bool, true, false, cond, nat_eq, ◌&&◌, List, [], length, Option, Some, None, refl, sym, ap, ◌∙◌, subst, arith}
 use Rattle.std.proofs.lemmas.Bool.{and_parts, cond_both, cases_eq, eqb-true}
 use Rattle.std.proofs.lemmas.Option.{same_Some}
 use Rattle.fab_base.specs.declared.answers.Answer.{Answer}
@@ -11,9 +11,10 @@ use Rattle.fab_base.specs.Layouts.{Layout}
 use Rattle.stripe_code.specs.Codes.{coding}
 use Rattle.protocol.specs.Settings.{Setting}
 use Rattle.protocol.specs.Coordinators.{Coordinator}
-use Rattle.protocol.specs.Nodes.{NodeStep, put, invoked, proposed, synced_at}
+use Rattle.protocol.specs.Nodes.{NodeStep, put, invoked, proposed, synced_at, scrubbed_at}
 use Rattle.protocol.specs.Worlds.{World, Operation, Event, first_world, is_brick, is_up, number_of, read_of_call, with_made, with_seen, with_closed, with_answer, world_began, world_stepped, run}
 use Rattle.protocol_laws.proofs.Books.{Books}
+use Rattle.world.specs.CallNumbers.{AreCalls}
 use Rattle.world.proofs.Places.{value_here, value_elsewhere}
 use Rattle.protocol.proofs.Events.{EventCases, step_on, world_counting, stepped_each, started_each, always}
 
@@ -122,6 +123,8 @@ numbers_cases setting w says = record {
   begins = λ brick ask may. numbers_began w brick ask (invoked setting brick (w.clocks brick.0) (w.nodes brick.0) ask) says;
   proposes = λ brick group members may. numbers_stepped setting w brick (proposed setting brick (w.nodes brick.0) group members) says;
   syncs = λ brick group may. numbers_stepped setting w brick (synced_at setting brick (w.clocks brick.0) (w.nodes brick.0) group) says;
+  scrubs = λ brick group stripe members may.
+      numbers_stepped setting w brick (scrubbed_at setting brick (w.clocks brick.0) (w.nodes brick.0) group stripe members) says;
   handles = λ number packet at up. numbers_stepped setting (world_counting setting w number packet) packet.to (step_on setting w packet) says;
   sets = λ brick time is. says;
   ticks = λ brick up. says;
@@ -208,6 +211,9 @@ bricks_cases setting w are = record {
       bricks_stepped setting w brick (proposed setting brick (w.nodes brick.0) group members) (is_there setting.layout w brick _ may) are;
   syncs = λ brick group may.
       bricks_stepped setting w brick (synced_at setting brick (w.clocks brick.0) (w.nodes brick.0) group) (is_there setting.layout w brick _ may) are;
+  scrubs = λ brick group stripe members may.
+      bricks_stepped setting w brick (scrubbed_at setting brick (w.clocks brick.0) (w.nodes brick.0) group stripe members)
+      (is_there setting.layout w brick _ may) are;
   handles = λ number packet at up.
       bricks_stepped setting (world_counting setting w number packet) packet.to (step_on setting w packet)
       (and_parts (is_brick setting.layout packet.to) (w.up packet.to.0) up).0 are;
@@ -250,3 +256,8 @@ next_unnumbered w says knows i = ⊎_elim
     let count : (w.nodes o.brick.0).seq ≡ (w.nodes i).seq = ap (λ j. (w.nodes j).seq) at in
     absurd (omega (arith, knows.called (number_of w i ((w.nodes i).seq + 1)) o found.1.1 boot, found.1.2.2, count)))
     (cases_eq (number_of w i ((w.nodes i).seq + 1)) 0)
+
+-- at first no brick has made a call, up or down
+pub none_called : (up : Bool) (calls : List ℕ) (number : ℕ → ℕ) → calls ≡ [] → AreCalls up calls number 0
+none_called true calls number none = (ap length none, λ k below. absurd (omega (arith, below)))
+none_called false calls number none = none

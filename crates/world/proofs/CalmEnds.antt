@@ -17,7 +17,9 @@ use Rattle.stripe_code.proofs.Soundness.{coding_is_sound}
 use Rattle.calm_laws.specs.Laws.{IsOver, LeavesItsOwn}
 use Rattle.calm_laws.proofs.Discharge.{calm_ends, marked_has_stripe}
 use Rattle.calm_laws.proofs.Leaving.{collects_leave}
-use Rattle.world.specs.Runs.{brick_of}
+use Rattle.calm_laws.proofs.LoneScrubs.{scrubs_end}
+use Rattle.world.specs.Runs.{Run, brick_of}
+use Rattle.world.specs.Steps.{LoneScrubsEnd}
 use Rattle.world.specs.Shown.{Shows, ComesTo, StopsAt, HasRun, HasBegun, IsReachedBy, is_empty}
 use Rattle.world.specs.Texts.{marks_text, reports_text, new_marks, new_reports, outcome_text, text_of, line_text}
 use Rattle.world.specs.declared.simulations.Outcome.TheVariants.{Marks, Idle}
@@ -33,7 +35,7 @@ over_alone layout is mark bricks w last events (before, reached) =
     → IsOver last (operation_marked v mark)) (sym reached)
     (λ calm runs. (calm_ends (coding layout) before (operation_marked (run (coding layout) before (first_world layout)) mark) bricks (coding_is_sound layout is)
     (λ m content seat. length-coded_block m layout.block content seat) is.few_records calm
-    (marked_has_stripe (coding layout) before mark calm.operation calm.is)).over events last runs)
+    (marked_has_stripe (coding layout) before mark calm.operation calm.coordinator bricks calm.is)).over events last runs)
 
 -- and its Collects leave its own version only
 leaves_own : (layout : Layout) (is : IsLayout layout) (mark : ℕ) (bricks : List BrickId) (w last : World) (events : List Event) → IsReachedBy layout w
@@ -44,7 +46,7 @@ leaves_own layout is mark bricks w last events (before, reached) =
     → RunsAlone (coding layout) (operation_marked v mark) bricks v events last → LeavesItsOwn (coding layout) v (operation_marked v mark) bricks calm last) (sym reached)
     (λ calm runs. collects_leave (coding layout) before (operation_marked (run (coding layout) before (first_world layout)) mark) bricks (coding_is_sound layout is)
     (λ m content seat. length-coded_block m layout.block content seat) is.few_records calm
-    (marked_has_stripe (coding layout) before mark calm.operation calm.is) events last runs)
+    (marked_has_stripe (coding layout) before mark calm.operation calm.coordinator bricks calm.is) events last runs)
 
 -- it leaves the world after its events
 runs_run : (setting : Setting) (n : ℕ) (bricks : List BrickId) (w last : World) (events : List Event) → RunsAlone setting n bricks w events last
@@ -101,3 +103,9 @@ begun_refused layout w disks new mark numbers may events has =
       shows = subst (λ (v : World). Shows layout new v) after has.shows;
       kept = has.kept;
     }
+
+-- so every scrub of a run ends that runs alone
+pub lone_scrubs_end : (r : Run) → IsLayout r.layout → LoneScrubsEnd r
+lone_scrubs_end r is before events brick group stripe members all =
+    scrubs_end (coding r.layout) before events brick group stripe members (coding_is_sound r.layout is)
+    (λ m content seat. length-coded_block m r.layout.block content seat) is.few_records

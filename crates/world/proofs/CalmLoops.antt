@@ -22,8 +22,9 @@ use Rattle.protocol.specs.declared.tellings.Answered.{Answered}
 use Rattle.protocol.specs.declared.tellings.Told.{Told}
 use Rattle.protocol.specs.declared.tellings.Told.TheVariants.{Made, Seen, Began, Closed}
 use Rattle.protocol.specs.Jobs.{Job}
+use Rattle.protocol.specs.Scrubs.{Scrub}
 use Rattle.protocol.specs.Happenings.{is_marked}
-use Rattle.protocol.specs.Nodes.{Node, NodeStep, put, received, job_reading}
+use Rattle.protocol.specs.Nodes.{Node, NodeStep, put, received, job_reading, scrub_of}
 use Rattle.protocol.specs.Worlds.{World, Operation, Event, Delivers, is_brick, is_up, number_of, mark_of, packet_of, reports_of, world_told, world_tells, world_answered, world_answers, first_world, happens, run}
 use Rattle.reg_model.specs.declared.marks.Mark.{Mark}
 use Rattle.reg_model.specs.declared.marks.Mark.TheVariants.{End}
@@ -49,7 +50,7 @@ use Rattle.world.proofs.HistoryLemmas.{heard_keeps}
 use Rattle.world.proofs.MachineBegins.{happens_handled}
 use Rattle.world.proofs.MachineSteps.{IsQuiet, request_quiet, reply_quiet}
 use Rattle.world.proofs.Places.{append_get}
-use Rattle.world.proofs.RunLaws.{JobsReadUnmarked, reached_numbers, reached_numbered, reached_knows, reached_unmarked}
+use Rattle.world.proofs.RunLaws.{OwnReadsUnmarked, reached_numbers, reached_numbered, reached_knows, reached_unmarked}
 use Rattle.protocol.proofs.Events.{run-append, step_on, world_counting, world_handled}
 
 -- what is told makes no mark, and what is answered adds some
@@ -227,7 +228,7 @@ has_open w n o opens is =
     by_up false down y same z call goes = absurd (let never : false ≡ true = goes in cc)
 
 -- the call of an operation that has marks is no read of its brick's synchronisation
-not_reading : (w : World) (i n seq : ℕ) (o : Operation) (job : Option Job) → JobsReadUnmarked w → (w.nodes i).job ≡ job → w.operations n ≡ Some o
+not_reading : (w : World) (i n seq : ℕ) (o : Operation) (job : Option Job) → OwnReadsUnmarked w → (w.nodes i).job ≡ job → w.operations n ≡ Some o
     → number_of w i seq ≡ n → is_marked o ≡ true → job_reading job seq ≡ None
 not_reading w i n seq o None unmarked is at number marked = refl
 not_reading w i n seq o (Some job) unmarked is at number marked = by_call (nat_eq job.seq seq) refl
@@ -237,12 +238,27 @@ not_reading w i n seq o (Some job) unmarked is at number marked = by_call (nat_e
     by_call true same =
         let own : w.operations (number_of w i job.seq) ≡ Some o =
         ap (λ (k : ℕ). w.operations (number_of w i k)) (eqb-true job.seq seq same) ∙ ap w.operations number ∙ at in
-        let none : o.mark ≡ 0 = unmarked i job is o own in
+        let none : o.mark ≡ 0 = unmarked.jobs i job is o own in
+        let never : true ≡ false = sym marked ∙ ap (λ (m : ℕ). nat_lt 0 m) none in
+        absurd (let e : true ≡ false = never in cc)
+
+-- nor is it its brick's scrub
+not_scrubbing : (w : World) (i n seq : ℕ) (o : Operation) (scrub : Option Scrub) → OwnReadsUnmarked w → (w.nodes i).scrub ≡ scrub
+    → w.operations n ≡ Some o → number_of w i seq ≡ n → is_marked o ≡ true → scrub_of scrub seq ≡ None
+not_scrubbing w i n seq o None unmarked is at number marked = refl
+not_scrubbing w i n seq o (Some scrub) unmarked is at number marked = by_call (nat_eq scrub.seq seq) refl
+  where
+    by_call : (b : Bool) → nat_eq scrub.seq seq ≡ b → cond b (Some scrub) None ≡ None
+    by_call false other = refl
+    by_call true same =
+        let own : w.operations (number_of w i scrub.seq) ≡ Some o =
+        ap (λ (k : ℕ). w.operations (number_of w i k)) (eqb-true scrub.seq seq same) ∙ ap w.operations number ∙ at in
+        let none : o.mark ≡ 0 = unmarked.scrubs i scrub is o own in
         let never : true ≡ false = sym marked ∙ ap (λ (m : ℕ). nat_lt 0 m) none in
         absurd (let e : true ≡ false = never in cc)
 
 -- a message of an open operation that has marks has its receiver report nothing, and begin no read
-message_as_quiet : (setting : Setting) (w : World) (n : ℕ) (from to : BrickId) (message : Message) → NumbersSay w → JobsReadUnmarked w → HasMarks w n
+message_as_quiet : (setting : Setting) (w : World) (n : ℕ) (from to : BrickId) (message : Message) → NumbersSay w → OwnReadsUnmarked w → HasMarks w n
     → IsNumbered w → n ≢ 0 → is_some (open_call w n) ≡ true
     → operation_of w (record { from = from; to = to; message = message }) ≡ n
     → IsQuiet (step_on setting w (record { from = from; to = to; message = message }))
@@ -262,9 +278,10 @@ message_as_quiet setting w n from to (Message.Reply call reply) says unmarked ha
     ap (λ (k : ℕ). number_of w to.0 k) own ∙ ap (λ (b : ℕ). w.numbers to.0 b call.seq) boot ∙ its in
     reply_quiet setting to (w.clocks to.0) from (w.nodes to.0) call reply has.coordinator called
     (not_reading w to.0 n has.coordinator.call.seq found.1.0 (w.nodes to.0).job unmarked refl at number (having found.1.0 at))
+    (not_scrubbing w to.0 n has.coordinator.call.seq found.1.0 (w.nodes to.0).scrub unmarked refl at number (having found.1.0 at))
 message_as_quiet setting w n from to message says unmarked having numbered some opens its = absurd (some (sym its))
 
-message_quiet : (setting : Setting) (w : World) (n : ℕ) (packet : Packet) → NumbersSay w → JobsReadUnmarked w → HasMarks w n → IsNumbered w → n ≢ 0
+message_quiet : (setting : Setting) (w : World) (n : ℕ) (packet : Packet) → NumbersSay w → OwnReadsUnmarked w → HasMarks w n → IsNumbered w → n ≢ 0
     → is_some (open_call w n) ≡ true → operation_of w packet ≡ n → IsQuiet (step_on setting w packet)
 message_quiet setting w n packet says unmarked having numbered some opens its =
     message_as_quiet setting w n packet.from packet.to packet.message says unmarked having numbered some opens its

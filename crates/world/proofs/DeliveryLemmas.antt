@@ -7,6 +7,7 @@ use Rattle.fab_base.specs.Layouts.{Layout}
 use Rattle.fab_disk.specs.declared.disk.Plan.{Plan}
 use Rattle.fab_disk.specs.Plan.{IsWithin}
 use Rattle.fab_disk.specs.declared.mem_disk.MemDisk.{MemDisk}
+use Rattle.frame_store.specs.declared.shapes.Form.TheVariants.{New}
 use Rattle.lines.specs.declared.forms.Fault.{Fault}
 use Rattle.lines.specs.declared.forms.Line.{Line}
 use Rattle.lines.specs.declared.forms.Line.TheVariants.{Nothing, Deliver, Start, Calm}
@@ -25,7 +26,7 @@ use Rattle.world.specs.Noted.{IsSameHistory}
 use Rattle.world.specs.Disks.{KeepsDisks, KeepsOthers, LeavesDisks, ListsEvent, ListsHandled, ListsPacket, receiver_of, changes_disk_of}
 use Rattle.world.specs.EventCalls.{handled_calls}
 use Rattle.world.specs.declared.bricks.Power.{Power}
-use Rattle.world.specs.Shown.{IsRunning, IsUpWith, Shows, ShowsBricks, ShowsPower, TookPart, TookWhole, disk_in, StartsAs, Tells, Comes, ComesTo, TakesEvent, StaysAs, StopsShort, RunsLine, RefusesLine, IsOther, disks_of, world_in}
+use Rattle.world.specs.Shown.{IsRunning, IsUpWith, Shows, ShowsBricks, ShowsPower, TookPart, TookWhole, disk_in, StartsAs, Tells, Comes, ComesTo, TakesEvent, StaysAs, StopsShort, RunsLine, RefusesLine, AsksBricks, IsOther, disks_of, world_in}
 use Rattle.world.specs.Texts.{marks_if, is_deliverable, outcome_of, outcome_text, new_marks, new_reports, event_text, text_of, line_text}
 use Rattle.world.specs.declared.simulations.Outcome.{Outcome}
 use Rattle.world.specs.declared.simulations.Outcome.TheVariants.{Marks, Idle}
@@ -129,7 +130,7 @@ module _ (layout : Layout) (w : World) (old new : Simulation) (number : ℕ) (fa
       (handled_here layout w packet (packet_of w.packets number) sent up)
       (record {
         others = subst (λ (b : Option BrickId). KeepsOthers b (disks_of old.bricks.items) (disks_of new.bricks.items)) (sym changes_here) (others_changed changes);
-        still = λ none. unwritten_changed changes (took.still (λ listed. sym (calls_here listed) ∙ none listed true));
+        still = λ none. unwritten_changed changes (took.still (λ listed. sym (calls_here listed) ∙ none listed New true));
         lists = subst (λ (p : Option Packet). ListsHandled layout w p (disks_of old.bricks.items) (disks_of new.bricks.items)) (sym sent)
             (λ is. of_disk changes (ListsPacket layout packet.to (w.nodes packet.to.0) packet) took.lists);
       })
@@ -188,7 +189,7 @@ module _ (layout : Layout) (w : World) (old new : Simulation) (number : ℕ) (fa
       (record {
         others = others_changed changes;
         still = λ none.
-            absurd (never_within calls (plan_of fault) (sym (calls_here took.reached.listed) ∙ none took.reached.listed true) took.reached.within);
+            absurd (never_within calls (plan_of fault) (sym (calls_here took.reached.listed) ∙ none took.reached.listed New true) took.reached.within);
         lists = tt;
       })
 
@@ -253,10 +254,10 @@ takes_runs layout old new line event outcome are lists takes = record {
       (same_kept layout (world_in layout old) event (disks_of old.bricks.items) (disks_of new.bricks.items) takes.disks lists);
 }
 
--- a line that is no such one has an operation run alone
-pub other_is : (line : Line) → ((n : ℕ) (bricks : List ℕ) → line ≡ Calm n bricks → ⊥) → IsOther line
-other_is (Calm n bricks) never = absurd (never n bricks refl)
-other_is line never = tt
+-- a line that asks something of bricks is such a one, or has an operation run alone
+pub other_is : (line : Line) → AsksBricks line → ((n : ℕ) (bricks : List ℕ) → line ≡ Calm n bricks → ⊥) → IsOther line
+other_is (Calm n bricks) asks never = absurd (never n bricks refl)
+other_is line asks never = asks
 
 pub other_refuses : (layout : Layout) (old new : Simulation) (line : Line) → ((n : ℕ) (bricks : List ℕ) → line ≡ Calm n bricks → ⊥)
     → StaysAs layout old new → RefusesLine layout old new line

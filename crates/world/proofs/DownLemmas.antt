@@ -14,16 +14,22 @@ use Rattle.fab_disk.specs.MemDisk.{plan_of as plan_in}
 use Rattle.fab_disk.specs.declared.disk.Plan.{Plan}
 use Rattle.fab_disk.specs.declared.mem_disk.MemDisk.{MemDisk}
 use Rattle.frame_store.specs.declared.shapes.Shape.{Shape}
-use Rattle.frame_store.specs.Images.{OpensAs}
+use Rattle.frame_store.specs.declared.shapes.Form.{Form}
+use Rattle.frame_store.specs.Layouts.{formed}
+use Rattle.frame_store.specs.declared.shapes.Half.{Half}
+use Rattle.frame_store.specs.declared.shapes.Half.TheVariants.{A, B}
+use Rattle.frame_store.specs.Images.{InForce, IsNoStore, OpensAs}
 use Rattle.frame_store.specs.Listed.{size_of}
-use Rattle.frame_store.proofs.Openings.{opens_once}
+use Rattle.frame_store.proofs.Openings.{opens_once, opens_in_one_form}
 use Rattle.messages.specs.declared.packets.Packet.{Packet}
 use Rattle.version_log.specs.Versions.{Version}
 use Rattle.brick_state.specs.States.{StateOf}
 use Rattle.brick_store.specs.Images.{IsFound, IsListed}
-use Rattle.brick_store.specs.Calls.{Append, IsListedAfter, opening_calls}
-use Rattle.brick_store.specs.Openings.{opens_appendable, IsCounted, IsListedOnOpening, IsWornOut}
+use Rattle.brick_store.specs.Calls.{Append, IsListedAfter}
+use Rattle.brick_store.specs.Openings.{calls_on_opening, IsCounted, IsListedOnOpening, IsWornOut}
+use Rattle.brick_store.proofs.Opened.{found_is}
 use Rattle.coord_phase.specs.Messages.{packets_from}
+use Rattle.replica.specs.Parts.{ListsStand}
 use Rattle.node.specs.Calls.{packet_append, packet_calls}
 use Rattle.node.specs.Ends.{StepChange, end_of}
 use Rattle.node.specs.Openings.{OpensBrick}
@@ -132,6 +138,12 @@ pub record IsArmed (plan : Plan) (disk armed : MemDisk) : Type 0 where
   pub planned : armed.plan ≡ plan
   pub listed : is_unlisted disk → is_unlisted armed
 
+-- what setting a plan tells of a disk
+pub armed_by : {plan asked : Plan} {disk armed : MemDisk} → content_of armed ≡ content_of disk
+    → ((image : List ℕ) → may_be_left armed image → may_be_left disk image) → armed.plan ≡ asked → asked ≡ plan → (is_unlisted disk → is_unlisted armed)
+    → IsArmed plan disk armed
+armed_by content crash planned is listed = record { content = content; crash = crash; planned = planned ∙ is; listed = listed }
+
 -- nothing was written on it, where a call did not touch it and its plan was taken back
 pub unwritten_by : (plan : Plan) (disk armed left last : MemDisk) → IsArmed plan disk armed
     → IsUntouched content_of may_be_left moment_of was_left_since armed left → IsUnwritten left last → IsUnwritten disk last
@@ -163,7 +175,7 @@ may_open_never state openings boot is most =
 restarted_again : (node : machine.Node) (openings : ℕ) → machine.restarted 1 (opened_more openings node) ≡ machine.restarted (openings + 1) node
 unfolding machine.restarted
 restarted_again node openings =
-    ap (λ (k : ℕ). record node { boot = k; seq = 0; known = 0; round = 0; busy = 0; calls = machine.no_calls; proposal = None; job = None }) (omega arith)
+    ap (λ (k : ℕ). record node { boot = k; seq = 0; known = 0; round = 0; busy = 0; calls = machine.no_calls; proposal = None; job = None; scrub = None }) (omega arith)
 
 -- how long the list of a brick's disk is, by what its store says
 listed_by : (layout : Layout) (me : BrickId) (node : Running MemDisk) (listed : ℕ) → node.layout ≡ layout → node.me ≡ me
@@ -178,6 +190,11 @@ listed_by layout me node listed layout_is me_is shape is long =
 restarted_live : (openings : ℕ) (node : machine.Node) → (machine.restarted openings node).live ≡ node.live
 unfolding machine.restarted
 restarted_live openings node = refl
+
+-- an image that is read by one half has an open header
+never_none : (shape : Shape) (form : Form) (half : Half) (image : List ℕ) → InForce (formed form shape) half image → IsNoStore shape image → ⊥
+never_none shape form A image force none = none.first form force.0
+never_none shape form B image force none = none.second form force.0
 
 -- A brick that is down is started over its disk, with a plan.
 module _ (layout : Layout) (me : BrickId) (state after : machine.Node) (fault : Option Fault) (disk armed : MemDisk)
@@ -196,19 +213,35 @@ module _ (layout : Layout) (me : BrickId) (state after : machine.Node) (fault : 
       ap (λ (k : ℕ). k + found_there.openings) (sym (found_boots state after found_there.found rests.boots))
       ∙ found_boot layout me node_there st (content_of armed) found shows_there
 
-  opens_there : OpensAs (shape_at layout me) found_there.shows.stands.frames true (content_of armed)
+  -- the store's shape, in the form that it has
+  abbrev shape_there : Shape
+  shape_there = formed found_there.shows.stands.form (shape_at layout me)
+
+  opens_there : OpensAs shape_there found_there.shows.stands.frames true (content_of armed)
   opens_there =
-      subst (λ (image : List ℕ). OpensAs (shape_at layout me) found_there.shows.stands.frames true image) (sym arms.content)
+      subst (λ (image : List ℕ). OpensAs shape_there found_there.shows.stands.frames true image) (sym arms.content)
       found_there.shows.stands.opens
 
   unlisted_there : is_unlisted armed
   unlisted_there = arms.listed rests.sound.unlisted
 
+  -- it holds a store, and the lists that this keeps may keep their groups
+  pub holds_store : (U : Type 0)
+      → ((IsNoStore (shape_at layout me) (content_of armed) × U)
+      ⊎ ((st : StateOf Version) × IsFound (shape_at layout me) st (content_of armed) × (ListsStand layout st → ⊥))) → ⊥
+  holds_store U refused = ⊎_elim
+      (λ (none : IsNoStore (shape_at layout me) (content_of armed) × U).
+      never_none (shape_at layout me) found_there.shows.stands.form opens_there.half (content_of armed) opens_there.in_force none.0)
+      (λ (other : (st : StateOf Version) × IsFound (shape_at layout me) st (content_of armed) × (ListsStand layout st → ⊥)).
+      other.2 (subst (ListsStand layout) (sym (found_is (shape_at layout me) other.0 shows_there.st (content_of armed) other.1 shows_there.stands))
+      shows_there.lists))
+      refused
+
   -- its opening, over the frames that there are
   module _ (left : MemDisk) (end : End) (opens : OpensBrick in_memory layout me armed left end) where
-    run_there : IsRun (Unit {0}) moment_of plan_in is_unlisted (opening_calls (opens_appendable (shape_at layout me) found_there.shows.stands.frames true))
+    run_there : IsRun (Unit {0}) moment_of plan_in is_unlisted (calls_on_opening shape_there found_there.shows.stands.frames true)
         armed left (end ≡ Whole) (end ≡ Cut)
-    run_there = opens.run tt found_there.shows.stands.frames true opens_there
+    run_there = opens.run tt found_there.shows.stands.form found_there.shows.stands.frames true opens_there
 
     -- no call of it was befallen
     pub unlisted_after : is_unlisted left
@@ -231,9 +264,11 @@ module _ (layout : Layout) (me : BrickId) (state after : machine.Node) (fault : 
         finds = found_there;
         may = may_open_once state found_there.openings found.before.boot (boots_there found.before found.found) found.not_worn;
         spared = λ reached.
-            (opens.run tt reached.frames reached.closed
-            (subst (λ (image : List ℕ). OpensAs (shape_at layout me) reached.frames reached.closed image) (sym arms.content) reached.opens)).spared refl
-            (subst (λ (p : Plan). IsWithin (opening_calls (opens_appendable (shape_at layout me) reached.frames reached.closed)) p) (sym arms.planned) reached.within);
+            (opens.run tt reached.form reached.frames reached.closed
+            (subst (λ (image : List ℕ). OpensAs (formed reached.form (shape_at layout me)) reached.frames reached.closed image) (sym arms.content)
+            reached.opens)).spared refl
+            (subst (λ (p : Plan). IsWithin (calls_on_opening (formed reached.form (shape_at layout me)) reached.frames reached.closed) p)
+            (sym arms.planned) reached.within);
         on = record {
           layout_is = same.layout ∙ layout_is;
           me_is = same.me ∙ me_is;
@@ -284,7 +319,7 @@ module _ (layout : Layout) (me : BrickId) (state after : machine.Node) (fault : 
       → WasCutShort layout me state after disk fault (Down last)
   cut_short left last opens same befallen crash sound =
       let run = run_there left Cut opens in
-      let stops = opens.cut refl tt unlisted_there found_there.shows.stands.frames true opens_there node_there shows_there in
+      let stops = opens.cut refl tt unlisted_there found_there.shows.stands.form found_there.shows.stands.frames true opens_there node_there shows_there in
       let made : moment_of left ≡ moment_of armed + calls_made (plan_of fault) =
       run.stopped tt unlisted_there refl ∙ ap (λ (p : Plan). moment_of armed + calls_made p) arms.planned in
       let had : (image : List ℕ) → may_be_left left image → may_be_left disk image ⊎ ShowsEither layout me node_there (reopened node_there) image =
@@ -307,10 +342,11 @@ module _ (layout : Layout) (me : BrickId) (state after : machine.Node) (fault : 
             (ap (λ (k : ℕ). k + found_there.openings) (sym (found_boots state after found_there.found rests.boots)))
             (opens.not_worn refl tt unlisted_there node_there shows_there);
         reached = record {
+          form = found_there.shows.stands.form;
           frames = found_there.shows.stands.frames;
           closed = true;
           opens = found_there.shows.stands.opens;
-          within = subst (λ (p : Plan). IsWithin (opening_calls (opens_appendable (shape_at layout me) found_there.shows.stands.frames true)) p) arms.planned
+          within = subst (λ (p : Plan). IsWithin (calls_on_opening shape_there found_there.shows.stands.frames true) p) arms.planned
               (run.named unlisted_there refl);
         };
         off = (
@@ -340,7 +376,10 @@ stopped_boots a b same = same
 
 -- the list of frames of an image is of one length
 listed_once : (shape : Shape) (image : List ℕ) (n m : ℕ) → IsListed shape n image → IsListed shape m image → n ≡ m
-listed_once shape image n m a b = sym a.bytes ∙ ap size_of (opens_once shape image a.frames b.frames true true a.opens b.opens).0 ∙ b.bytes
+listed_once shape image n m a b =
+    let same : b.form ≡ a.form = opens_in_one_form shape b.form a.form image b.frames a.frames true true b.opens a.opens in
+    let there : OpensAs (formed a.form shape) b.frames true image = subst (λ (f : Form). OpensAs (formed f shape) b.frames true image) same b.opens in
+    sym a.bytes ∙ ap size_of (opens_once (formed a.form shape) image a.frames b.frames true true a.opens there).0 ∙ b.bytes
 
 -- A brick that runs is handed a message, with a plan.
 module _ (layout : Layout) (me : BrickId) (state : machine.Node) (time : ℕ) (packet : Packet) (fault : Option Fault) (node armed : Running MemDisk)

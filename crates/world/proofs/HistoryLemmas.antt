@@ -421,7 +421,7 @@ tells_began old new w brick opened ask begun step tells up packets_is boot_is se
         ∙ ap (λ k. with_number w.numbers brick.0 step.node (w.begun + 1) brick.0 step.node.boot k) (sym next)
         ∙ number_new w.numbers brick.0 step.node.boot step.node.seq (w.begun + 1)
 
--- a read of a synchronisation that began
+-- a read of a brick's own that began
 pub tells_read : (setting : Setting) (nodes : ℕ → Node) (seqs : ℕ → ℕ) (old new : History) (w : World) (brick : BrickId) (call : Call) → TellsAt seqs old w → w.up brick.0 ≡ true
     → call.boot ≡ (w.nodes brick.0).boot → call.seq ≡ seqs brick.0 + 1 → NotesRead old new brick call
     → TellsAt (put seqs brick.0 (seqs brick.0 + 1)) new (world_told setting nodes w brick (Began call))

@@ -17,8 +17,12 @@ pub mod Orders
 pub mod Places
 pub mod RunLaws
 pub mod RunLemmas
+pub mod Suspecting
+pub mod Asides
 pub mod SimulationLemmas
+pub mod Asking
 pub mod DeliveryLemmas
+pub mod Delivering
 pub mod CallNumbers
 pub mod TimeLemmas
 pub mod DeliveryLists
@@ -30,3 +34,4 @@ pub mod OpenRecords
 pub mod CalmRuns
 pub mod CalmLoops
 pub mod CalmEnds
+pub mod AloneRuns

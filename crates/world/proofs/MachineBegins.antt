@@ -1,4 +1,4 @@
--- When an operation, a proposal or a synchronisation begins in the machine, and what a message does there.
+-- When an operation, a proposal, a synchronisation or a scrub begins in the machine, and what a message does there.
 use Rattle.std.proofs.Common.{◌≡◌, ℕ, ◌+◌, ◌<◌, ◌≤◌, Bool, true, false, not, cond, nat_lt, ◌&&◌, List, [], Option, Some, None, refl, ap, ◌∙◌, arith}
 use Rattle.std.specs.Prelude.{if◌then◌else◌}
 use Rattle.std.specs.Option.{is_some, option_map}
@@ -10,6 +10,7 @@ use Rattle.fab_base.specs.declared.asks.Op.{Op}
 use Rattle.fab_base.specs.declared.answers.Refusal.{Refusal}
 use Rattle.fab_base.specs.declared.identities.BrickId.{BrickId}
 use Rattle.fab_base.specs.declared.identities.GroupId.{GroupId}
+use Rattle.fab_base.specs.declared.identities.StripeNo.{StripeNo}
 use Rattle.messages.specs.declared.packets.Packet.{Packet}
 use Rattle.fab_base.specs.Layouts.{Layout, Group, group_of}
 use Rattle.protocol.specs.Settings.{Setting}
@@ -17,10 +18,11 @@ use Rattle.protocol.specs.Views.{kept_by}
 use Rattle.protocol.specs.declared.tellings.Report.TheVariants as report
 use Rattle.protocol.specs.declared.tellings.ViewAnswer.TheVariants.{BadMembers}
 use Rattle.protocol.specs.Proposals.{Proposal, ballot_packets}
-use Rattle.protocol.specs.Nodes.{Node, NodeStep, group_at, put, has_block, has_length, is_spent, most_open, refusal_in, refusal_of, began, invoked, new_proposal, proposing, reporting, sending, proposal_refusal_in, proposal_refusal, proposed_in, proposed, sync_refusal, synced_at}
+use Rattle.protocol.specs.Nodes.{Node, NodeStep, group_at, put, has_block, has_length, is_spent, most_open, refusal_in, refusal_of, began, invoked, new_proposal, proposing, reporting, sending, proposal_refusal_in, proposal_refusal, proposed_in, proposed, sync_refusal, synced_at, scrub_refusal_in, scrub_refusal, scrubbed_at}
 use Rattle.protocol.specs.Jobs.{sync_refusal_in}
-use Rattle.protocol.specs.Worlds.{World, Invokes, Proposes, Syncs, Delivers, Sets, Ticks, Stops, Starts, Found, is_up, may_start, world_began, world_stepped, world_ticked, world_stopped, world_found, world_started, delivered, packet_of, happens}
-use Rattle.world.specs.Runs.{ask_of, refusal_at, proposal_refusal_at, sync_refusal_at}
+use Rattle.protocol.specs.Scrubs.{names_quorum}
+use Rattle.protocol.specs.Worlds.{World, Invokes, Proposes, Syncs, Scrubs, Delivers, Sets, Ticks, Stops, Starts, Found, is_up, may_start, world_began, world_stepped, world_ticked, world_stopped, world_found, world_started, delivered, packet_of, happens}
+use Rattle.world.specs.Runs.{ask_of, group_no, stripe_no, refusal_at, proposal_refusal_at, sync_refusal_at, scrub_refusal_at}
 use Rattle.world.specs.Shown.{calls_used}
 use Rattle.protocol.proofs.Events.{world_handled}
 
@@ -176,7 +178,71 @@ pub unsynced_down : (setting : Setting) (w : World) (brick : BrickId) (group : G
     → sync_refusal_at setting w brick group ≡ Some Refusal.Down
 unsynced_down setting w brick group down = ap (λ b. cond b (sync_refusal setting.layout (w.nodes brick.0) group.0) (Some Refusal.Down)) down
 
+-- where there is no such group no brick scrubs a stripe of it
+pub unscrubbed_no_group : (layout : Layout) (g s : ℕ) (node : Node) (members : List BrickId) → group_of layout g ≡ None
+    → scrub_refusal layout node (group_no g) (stripe_no s) members ≡ Some Refusal.NoStripe
+unfolding scrub_refusal
+unscrubbed_no_group layout g s node members none =
+    ap (λ (found : Option Group). scrub_refusal_in node (stripe_no s) members (option_map (kept_by (node.learnt g).view.members) found)) none
+
+-- the reasons behind that of the stripe
+abbrev scrub_refusal_behind : Node → List BrickId → Group → Option Refusal
+scrub_refusal_behind node members group =
+    if not (names_quorum group members) then Some Refusal.NoQuorum
+    else if is_some node.scrub then Some Refusal.Busy
+    else if is_spent node then Some Refusal.Spent
+    else None
+
+-- nor one past the last of its group
+pub unscrubbed_no_stripe : (layout : Layout) (g s : ℕ) (group : Group) (node : Node) (members : List BrickId) → group_of layout g ≡ Some group
+    → group.stripes ≤ s → scrub_refusal layout node (group_no g) (stripe_no s) members ≡ Some Refusal.NoStripe
+unfolding scrub_refusal
+unscrubbed_no_stripe layout g s group node members found past =
+    let past_last : nat_lt s group.stripes ≡ false = grind (arith, nat_tests) in
+    ap (λ (x : Option Group). scrub_refusal_in node (stripe_no s) members (option_map (kept_by (node.learnt g).view.members) x)) found
+    ∙ ap (λ b. cond (not b) (Some Refusal.NoStripe) (scrub_refusal_behind node members (kept_by (node.learnt g).view.members group))) past_last
+
+-- a brick that is up refuses to scrub for its own reason
+pub unscrubbed_here : (setting : Setting) (w : World) (brick : BrickId) (group : GroupId) (stripe : StripeNo) (members : List BrickId)
+    → is_up setting.layout w brick ≡ true
+    → scrub_refusal_at setting w brick group stripe members ≡ scrub_refusal setting.layout (w.nodes brick.0) group stripe members
+unscrubbed_here setting w brick group stripe members up =
+    ap (λ b. cond b (scrub_refusal setting.layout (w.nodes brick.0) group stripe members) (Some Refusal.Down)) up
+
+-- there is no such brick that is up
+pub unscrubbed_down : (setting : Setting) (w : World) (brick : BrickId) (group : GroupId) (stripe : StripeNo) (members : List BrickId)
+    → is_up setting.layout w brick ≡ false → scrub_refusal_at setting w brick group stripe members ≡ Some Refusal.Down
+unscrubbed_down setting w brick group stripe members down =
+    ap (λ b. cond b (scrub_refusal setting.layout (w.nodes brick.0) group stripe members) (Some Refusal.Down)) down
+
 module _ (setting : Setting) (w : World) where
+  -- a scrub that is refused changes nothing
+  pub happens_unscrubbed : (brick : BrickId) (group : GroupId) (stripe : StripeNo) (members : List BrickId) (reason : Refusal)
+      → scrub_refusal setting.layout (w.nodes brick.0) group stripe members ≡ Some reason → happens setting w (Scrubs brick group stripe members) ≡ w
+  unfolding happens
+  happens_unscrubbed brick group stripe members reason is =
+      ap (λ b. cond b (world_stepped setting w brick (scrubbed_at setting brick (w.clocks brick.0) (w.nodes brick.0) group stripe members)) w)
+      (may_not (is_up setting.layout w brick) (scrub_refusal setting.layout (w.nodes brick.0) group stripe members) reason is)
+
+  -- no brick that is not up scrubs
+  pub happens_unscrubbed_down : (brick : BrickId) (group : GroupId) (stripe : StripeNo) (members : List BrickId) → is_up setting.layout w brick ≡ false
+      → happens setting w (Scrubs brick group stripe members) ≡ w
+  unfolding happens
+  happens_unscrubbed_down brick group stripe members down =
+      ap (λ b. cond (b && not (is_some (scrub_refusal setting.layout (w.nodes brick.0) group stripe members)))
+      (world_stepped setting w brick (scrubbed_at setting brick (w.clocks brick.0) (w.nodes brick.0) group stripe members)) w)
+      down
+
+  -- a brick that does not refuse to scrub takes its step
+  pub happens_scrubbed : (brick : BrickId) (group : GroupId) (stripe : StripeNo) (members : List BrickId) → is_up setting.layout w brick ≡ true
+      → scrub_refusal setting.layout (w.nodes brick.0) group stripe members ≡ None
+      → happens setting w (Scrubs brick group stripe members)
+      ≡ world_stepped setting w brick (scrubbed_at setting brick (w.clocks brick.0) (w.nodes brick.0) group stripe members)
+  unfolding happens
+  happens_scrubbed brick group stripe members up none =
+      ap (λ b. cond b (world_stepped setting w brick (scrubbed_at setting brick (w.clocks brick.0) (w.nodes brick.0) group stripe members)) w)
+      (may (is_up setting.layout w brick) (scrub_refusal setting.layout (w.nodes brick.0) group stripe members) up none)
+
   -- a synchronisation that is refused changes nothing
   pub happens_unsynced : (brick : BrickId) (group : GroupId) (reason : Refusal)
       → sync_refusal setting.layout (w.nodes brick.0) group.0 ≡ Some reason → happens setting w (Syncs brick group) ≡ w

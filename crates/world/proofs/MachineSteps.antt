@@ -1,9 +1,10 @@
--- A message leaves a brick's boot as it is, and its call numbers but for a read of its synchronisation; and what a brick tells is of one of its calls.
+-- A message leaves a brick's boot as it is, and its call numbers but for a read of its own; and what a brick tells is of one of its calls.
 use Rattle.std.proofs.Common.{◌≡◌, ℕ, ◌+◌, ◌≤◌, ◌&&◌, List, [], ◌∷◌, ◌++◌, Option, Some, None, refl, sym, ap, ◌∙◌, subst, arith}
 use Rattle.std.specs.Prelude.{is_some}
 use Rattle.std.proofs.lemmas.Bool.{cond_both}
 use Rattle.fab_base.specs.declared.identities.BrickId.{BrickId}
 use Rattle.fab_base.specs.declared.identities.GroupId.{GroupId}
+use Rattle.fab_base.specs.declared.identities.StripeNo.{StripeNo}
 use Rattle.fab_base.specs.declared.identities.ViewNo.{ViewNo}
 use Rattle.fab_base.specs.declared.member_lists.View.{View}
 use Rattle.fab_base.specs.declared.stamps.Stamp.{Stamp}
@@ -14,16 +15,17 @@ use Rattle.messages.specs.declared.packets.Packet.{Packet}
 use Rattle.messages.specs.declared.requests.Request.{Request}
 use Rattle.messages.specs.declared.replies.Reply.{Reply}
 use Rattle.protocol.specs.Settings.{Setting}
+use Rattle.protocol.specs.Scrubs.{Scrub, lagging_after, scrub_answer}
 use Rattle.protocol.specs.Views.{group_kept, is_later, learns, is_unsynced, notes_synced}
 use Rattle.protocol.specs.Jobs.{Job, JobNext, Reads, Finishes, GivesUp, begun_job, job_ask, job_after, abort_cause, synced_answer, spent_answer}
-use Rattle.protocol.specs.Coordinators.{Coordinator, Next, Ignores, Waits, Sends, Makes, Ends, on_reply}
+use Rattle.protocol.specs.Coordinators.{Coordinator, Next, Ignores, Waits, Sends, Makes, Ends, hearing, counts_at, on_reply}
 use Rattle.protocol.specs.Proposals.{Proposal, Voting, Ignored, Waited, Asks, Ended, voted}
 use Rattle.protocol.specs.declared.tellings.Answered.{Answered}
 use Rattle.protocol.specs.declared.tellings.Report.{Report}
 use Rattle.protocol.specs.declared.tellings.Report.TheVariants as report
 use Rattle.protocol.specs.declared.tellings.Told.{Told}
 use Rattle.protocol.specs.declared.tellings.Told.TheVariants.{Closed}
-use Rattle.protocol.specs.Nodes.{Node, NodeStep, no_step, known_after, with_round, with_known, with_job, with_learnt, fresh_stamp, coordinator_in, is_spent, may_teach, node_taught, node_taught_by, node_learnt, node_synced, view_counted, then_taught, then_does, lists_fit, carried_ballot, replied_ballot, requested, reporting, read_begun_by, read_begun_in, read_begun, read_closed, job_goes, job_reading, carried_read, carried_for, seen_told, carried_out, replied, replied_at, heard, received, absorbed, synced_at}
+use Rattle.protocol.specs.Nodes.{Node, NodeStep, no_step, known_after, with_round, with_known, with_job, with_learnt, fresh_stamp, coordinator_in, is_spent, may_teach, node_taught, node_taught_by, node_learnt, node_synced, view_counted, then_taught, then_does, with_scrub, group_at, members_alone, scrub_ended, scrub_of, scrubbed_in, scrubbed_at, carried_scrub, carried_unless_scrub, lists_fit, carried_ballot, replied_ballot, requested, reporting, read_begun_by, read_begun_in, read_begun, read_closed, job_goes, job_reading, carried_read, carried_for, seen_told, carried_out, replied, replied_at, heard, received, absorbed, synced_at}
 use Rattle.protocol.proofs.Served.{request_each}
 use Rattle.world.specs.Shown.{AreTold, AreAnswered, OpensReads, reads_begun}
 use Rattle.world.proofs.HearingLemmas.{reads_more, told_join}
@@ -174,10 +176,57 @@ carried_read_opens_reads setting me now node other same known job c (Ends answer
     ((low, (let none = seen_reads c.call.seq seen in omega (arith, high, none))), tt))
     refl (job_opens_reads setting me now closed.node job next) (job_quiet setting me now closed.node job next)
 
-carried_for_opens_reads : (setting : Setting) (me : BrickId) (now : ℕ) (node other : Node) → HasSameCalls node other → (known : ℕ) (c : Coordinator)
-    (next : Next) (job : Option Job) → 1 ≤ c.call.seq → c.call.seq ≤ node.seq → OpensReads node (carried_for setting me now other known c next job)
-carried_for_opens_reads setting me now node other same known c next None low high = carried_out_opens_reads setting me node other same known c next low high
-carried_for_opens_reads setting me now node other same known c next (Some job) low high =
+-- a scrub begins
+scrub_opens_reads : (setting : Setting) (me : BrickId) (now : ℕ) (node : Node) (group : GroupId) (stripe : StripeNo) (members : List BrickId)
+    (found : Option Group) → OpensReads node (scrubbed_in setting me now node group stripe members found)
+scrub_opens_reads setting me now node group stripe members None = quiet_opens node node (same_itself node) [] []
+scrub_opens_reads setting me now node group stripe members (Some kept) =
+    record { boot = refl; seq = refl; few = omega arith; told = ((refl, refl), tt); answers = tt }
+
+pub scrubbed_opens_reads : (setting : Setting) (me : BrickId) (now : ℕ) (node : Node) (group : GroupId) (stripe : StripeNo) (members : List BrickId)
+    → OpensReads node (scrubbed_at setting me now node group stripe members)
+unfolding scrubbed_at
+scrubbed_opens_reads setting me now node group stripe members =
+    scrub_opens_reads setting me now node group stripe members (group_at setting.layout node group.0)
+
+-- it goes on, or ends
+carried_scrub_opens_reads : (setting : Setting) (me : BrickId) (node other : Node) → HasSameCalls node other → (known : ℕ) (scrub : Scrub)
+    (c heard : Coordinator) (next : Next) → 1 ≤ c.call.seq → c.call.seq ≤ node.seq → OpensReads node (carried_scrub setting me other known scrub c heard next)
+carried_scrub_opens_reads setting me node other same known scrub c heard Ignores low high =
+    carried_out_opens_reads setting me node other same known c Ignores low high
+carried_scrub_opens_reads setting me node other same known scrub c heard (Waits d) low high =
+    carried_out_opens_reads setting me node other same known c (Waits d) low high
+carried_scrub_opens_reads setting me node other same known scrub c heard (Sends d) low high =
+    carried_out_opens_reads setting me node (with_scrub other (Some (record scrub { lagging = lagging_after scrub heard })))
+    (record { boot = same.boot; seq = same.seq }) known c (Sends d) low high
+carried_scrub_opens_reads setting me node other same known scrub c heard (Makes d) low high =
+    carried_out_opens_reads setting me node other same known c (Makes d) low high
+carried_scrub_opens_reads setting me node other same known scrub c heard (Ends answer seen stored) low high =
+    let closed : NodeStep = read_closed me other known c answer seen stored in
+    let end : List Told = Closed c.call.seq (abort_cause answer) ∷ [] in
+    let none : reads_begun closed.told ≡ 0 =
+    (let all = reads_more (seen_told c.call.seq seen) end in let first = seen_reads c.call.seq seen in omega (arith, all, first)) in
+    then_opens node closed
+    (scrub_ended closed.node c.call (members_alone c.only) (scrub_answer scrub.lagging (abort_cause answer) stored))
+    (record { boot = same.boot; seq = same.seq }) none
+    (told_join node.boot node.seq (seen_told c.call.seq seen) end (seen_is_told node c.call.seq seen low high)
+    ((low, (let none = seen_reads c.call.seq seen in omega (arith, high, none))), tt))
+    refl (quiet_opens closed.node (with_scrub closed.node None) (record { boot = refl; seq = refl }) [] _) refl
+
+unless_scrub_opens_reads : (setting : Setting) (me : BrickId) (node other : Node) → HasSameCalls node other → (known : ℕ) (c heard : Coordinator)
+    (next : Next) (scrub : Option Scrub) → 1 ≤ c.call.seq → c.call.seq ≤ node.seq
+    → OpensReads node (carried_unless_scrub setting me other known c heard next scrub)
+unless_scrub_opens_reads setting me node other same known c heard next None low high =
+    carried_out_opens_reads setting me node other same known c next low high
+unless_scrub_opens_reads setting me node other same known c heard next (Some scrub) low high =
+    carried_scrub_opens_reads setting me node other same known scrub c heard next low high
+
+carried_for_opens_reads : (setting : Setting) (me : BrickId) (now : ℕ) (node other : Node) → HasSameCalls node other → (known : ℕ) (c heard : Coordinator)
+    (next : Next) (job : Option Job) (scrub : Option Scrub) → 1 ≤ c.call.seq → c.call.seq ≤ node.seq
+    → OpensReads node (carried_for setting me now other known c heard next job scrub)
+carried_for_opens_reads setting me now node other same known c heard next None scrub low high =
+    unless_scrub_opens_reads setting me node other same known c heard next scrub low high
+carried_for_opens_reads setting me now node other same known c heard next (Some job) scrub low high =
     carried_read_opens_reads setting me now node other same known job c next low high
 
 carried_ballot_opens_reads : (layout : Layout) (me : BrickId) (node other : Node) → HasSameCalls node other → (p : Proposal) (next : Voting)
@@ -202,9 +251,9 @@ replied_at_opens_reads setting me now from node other same call reply None numbe
 replied_at_opens_reads setting me now from node other same call reply (Some c) numbered is =
     let at = numbered call.seq c is in
     let known : ℕ = known_after other.known reply in
-    carried_for_opens_reads setting me now node other same known c
+    carried_for_opens_reads setting me now node other same known c (hearing c from reply (counts_at setting.layout.block c from.0 call reply))
     (on_reply setting.layout.block setting.code (fresh_stamp me c.stamp.view now other.boot known) c from call reply)
-    (job_reading other.job c.call.seq) (omega (arith, at.0, at.1)) (omega (arith, at.0, at.2))
+    (job_reading other.job c.call.seq) (scrub_of other.scrub c.call.seq) (omega (arith, at.0, at.1)) (omega (arith, at.0, at.2))
 
 -- a brick that is taught a view is of the same boot, and has made as many calls
 taught_same : (block g : ℕ) (node other : Node) → HasSameCalls node other → (view : Option View) → HasSameCalls node (node_taught_by block g other view)
@@ -293,10 +342,28 @@ read_few setting me now node known job c (Ends answer seen stored) =
     let few = job_few setting me now closed.node job (job_after c.group.stripes job.attempt (abort_cause answer)) in
     omega (arith, first, closing, all, few)
 
-carried_for_few : (setting : Setting) (me : BrickId) (now : ℕ) (node : Node) (known : ℕ) (c : Coordinator) (next : Next) (job : Option Job)
-    → FewReads (carried_for setting me now node known c next job)
-carried_for_few setting me now node known c next None = carried_few setting me node known c next
-carried_for_few setting me now node known c next (Some job) = read_few setting me now node known job c next
+scrub_few : (setting : Setting) (me : BrickId) (node : Node) (known : ℕ) (scrub : Scrub) (c heard : Coordinator) (next : Next)
+    → FewReads (carried_scrub setting me node known scrub c heard next)
+scrub_few setting me node known scrub c heard Ignores = omega arith
+scrub_few setting me node known scrub c heard (Waits d) = omega arith
+scrub_few setting me node known scrub c heard (Sends d) = omega arith
+scrub_few setting me node known scrub c heard (Makes d) = omega arith
+scrub_few setting me node known scrub c heard (Ends answer seen stored) =
+    let closed : NodeStep = read_closed me node known c answer seen stored in
+    let first = seen_reads c.call.seq seen in
+    let closing = reads_more (seen_told c.call.seq seen) (Closed c.call.seq (abort_cause answer) ∷ []) in
+    let all = reads_more closed.told [] in
+    omega (arith, first, closing, all)
+
+unless_scrub_few : (setting : Setting) (me : BrickId) (node : Node) (known : ℕ) (c heard : Coordinator) (next : Next) (scrub : Option Scrub)
+    → FewReads (carried_unless_scrub setting me node known c heard next scrub)
+unless_scrub_few setting me node known c heard next None = carried_few setting me node known c next
+unless_scrub_few setting me node known c heard next (Some scrub) = scrub_few setting me node known scrub c heard next
+
+carried_for_few : (setting : Setting) (me : BrickId) (now : ℕ) (node : Node) (known : ℕ) (c heard : Coordinator) (next : Next) (job : Option Job)
+    (scrub : Option Scrub) → FewReads (carried_for setting me now node known c heard next job scrub)
+carried_for_few setting me now node known c heard next None scrub = unless_scrub_few setting me node known c heard next scrub
+carried_for_few setting me now node known c heard next (Some job) scrub = read_few setting me now node known job c next
 
 ballot_few : (layout : Layout) (me : BrickId) (node : Node) (p : Proposal) (next : Voting) → FewReads (carried_ballot layout me node p next)
 ballot_few layout me node p Ignored = omega arith
@@ -306,7 +373,11 @@ ballot_few layout me node p (Ended call ended) = omega arith
 
 replied_few : (setting : Setting) (me : BrickId) (now : ℕ) (from : BrickId) (node : Node) (call : Call) (reply : Reply) (found : Option Coordinator)
     → FewReads (replied_at setting me now from node call reply found)
-replied_few setting me now from node call reply (Some c) = carried_for_few setting me now node _ c _ (job_reading node.job c.call.seq)
+replied_few setting me now from node call reply (Some c) =
+    let known : ℕ = known_after node.known reply in
+    carried_for_few setting me now node known c (hearing c from reply (counts_at setting.layout.block c from.0 call reply))
+    (on_reply setting.layout.block setting.code (fresh_stamp me c.stamp.view now node.boot known) c from call reply) (job_reading node.job c.call.seq)
+    (scrub_of node.scrub c.call.seq)
 replied_few setting me now from node call reply None = by_proposal node.proposal
   where
     known : Node
@@ -334,7 +405,7 @@ received_as_few setting me now from to node message = omega arith
 pub received_few : (setting : Setting) (me : BrickId) (now : ℕ) (node : Node) (packet : Packet) → reads_begun (received setting me now node packet).told ≤ 1
 received_few setting me now node packet = received_as_few setting me now packet.from packet.to node packet.message
 
--- a reply to an open operation has its receiver report nothing, and begin no read, unless it is to a read of a synchronisation
+-- a reply to an open operation has its receiver report nothing, and begin no read, unless it is to a read of its own
 carried_quiet : (setting : Setting) (me : BrickId) (node : Node) (known : ℕ) (c : Coordinator) (next : Next)
     → (carried_out setting me node known c next).reports ≡ []
 carried_quiet setting me node known c Ignores = refl
@@ -356,23 +427,26 @@ carried_unread setting me node known c (Makes d) = refl
 carried_unread setting me node known c (Ends answer seen stored) = seen_reads c.call.seq seen
 
 replied_quiet : (setting : Setting) (me : BrickId) (now : ℕ) (from : BrickId) (node : Node) (call : Call) (reply : Reply) (c : Coordinator)
-    → job_reading node.job c.call.seq ≡ None → IsQuiet (replied_at setting me now from node call reply (Some c))
-replied_quiet setting me now from node call reply c other =
+    → job_reading node.job c.call.seq ≡ None → scrub_of node.scrub c.call.seq ≡ None → IsQuiet (replied_at setting me now from node call reply (Some c))
+replied_quiet setting me now from node call reply c other apart =
+    let heard : Coordinator = hearing c from reply (counts_at setting.layout.block c from.0 call reply) in
     let known : ℕ = known_after node.known reply in
     let next : Next = on_reply setting.layout.block setting.code (fresh_stamp me c.stamp.view now node.boot known) c from call reply in
-    subst (λ (job : Option Job). IsQuiet (carried_for setting me now node known c next job)) (sym other)
-    (record { reports = carried_quiet setting me node known c next; reads = carried_unread setting me node known c next })
+    subst (λ (job : Option Job). IsQuiet (carried_for setting me now node known c heard next job (scrub_of node.scrub c.call.seq))) (sym other)
+    (subst (λ (scrub : Option Scrub). IsQuiet (carried_unless_scrub setting me node known c heard next scrub)) (sym apart)
+    (record { reports = carried_quiet setting me node known c next; reads = carried_unread setting me node known c next }))
 
 pub reply_quiet : (setting : Setting) (me : BrickId) (now : ℕ) (from : BrickId) (node : Node) (call : Call) (reply : Reply) (c : Coordinator)
-    → node.calls call.seq ≡ Some c → job_reading node.job c.call.seq ≡ None → IsQuiet (heard setting me now from node call reply)
+    → node.calls call.seq ≡ Some c → job_reading node.job c.call.seq ≡ None → scrub_of node.scrub c.call.seq ≡ None
+    → IsQuiet (heard setting me now from node call reply)
 unfolding replied
-reply_quiet setting me now from node call reply c is other =
+reply_quiet setting me now from node call reply c is other apart =
     cond_both (lists_fit setting.layout call reply) (replied setting me now from node call reply)
     (no_step (with_known (with_round node reply) (known_after node.known reply))) IsQuiet
     (λ fit.
     let quiet : IsQuiet (replied_at setting me now from (with_round node reply) call reply (node.calls call.seq)) =
     subst (λ (found : Option Coordinator). IsQuiet (replied_at setting me now from (with_round node reply) call reply found)) (sym is)
-    (replied_quiet setting me now from (with_round node reply) call reply c other) in
+    (replied_quiet setting me now from (with_round node reply) call reply c other apart) in
     record { reports = quiet.reports; reads = quiet.reads })
     (λ isnt. record { reports = refl; reads = refl })
 

@@ -4,7 +4,7 @@ use Rattle.std.proofs.lemmas.Bool.{cond_both}
 use Rattle.fab_base.specs.declared.identities.BrickId.{BrickId}
 use Rattle.messages.specs.declared.packets.Packet.{Packet}
 use Rattle.protocol.specs.Settings.{Setting}
-use Rattle.protocol.specs.Nodes.{NodeStep, put, proposed, synced_at}
+use Rattle.protocol.specs.Nodes.{NodeStep, put, proposed, synced_at, scrubbed_at}
 use Rattle.protocol.specs.Worlds.{World, packet_of, reached_at, reached_during, world_stepped}
 use Rattle.stripe_code.specs.Codes.{coding}
 use Rattle.world.specs.Deliveries.{is_noted}
@@ -52,6 +52,8 @@ zero_cases setting w none = record {
   begins = λ brick ask may. none;
   proposes = λ brick group members may. zero_stepped setting w brick (proposed setting brick (w.nodes brick.0) group members) none;
   syncs = λ brick group may. zero_stepped setting w brick (synced_at setting brick (w.clocks brick.0) (w.nodes brick.0) group) none;
+  scrubs = λ brick group stripe members may.
+      zero_stepped setting w brick (scrubbed_at setting brick (w.clocks brick.0) (w.nodes brick.0) group stripe members) none;
   handles = λ number packet at up. zero_handled setting w number packet at none;
   sets = λ brick time is. none;
   ticks = λ brick up. none;

@@ -5,13 +5,14 @@ use Rattle.std.proofs.lemmas.Option.{same_Some}
 use Rattle.fab_base.specs.declared.identities.BrickId.{BrickId}
 use Rattle.fab_base.specs.Layouts.{Layout, Group, group_of}
 use Rattle.protocol.specs.Jobs.{Job}
+use Rattle.protocol.specs.Scrubs.{Scrub}
 use Rattle.protocol.specs.Worlds.{World, Operation, first_world, number_of, run}
 use Rattle.stripe_code.specs.Codes.{coding}
 use Rattle.protocol.specs.Settings.{IsSound}
 use Rattle.protocol.specs.Coordinators.{Coordinator}
 use Rattle.protocol.specs.Views.{Views, views_in, kept_by}
 use Rattle.protocol_laws.specs.Laws.{Laws}
-use Rattle.protocol_laws.proofs.Books.{Books}
+use Rattle.protocol_laws.proofs.Books.{Books, OwnBooks}
 use Rattle.protocol_laws.proofs.BooksEvents.{books}
 use Rattle.protocol_laws.proofs.EveryRun.{every_views_run}
 use Rattle.protocol_laws.proofs.SaidAlways.{always_said}
@@ -58,15 +59,21 @@ reached_knows layout w reached = knows_calls (coding layout) w (reached_books la
 pub reached_numbers : (layout : Layout) (w : World) → IsReachedBy layout w → NumbersSay w
 reached_numbers layout w (events, is) = subst NumbersSay (sym is) (numbers_say layout events)
 
--- no read of a synchronisation is an operation that has marks
-abbrev pub JobsReadUnmarked : World → Type 0
-JobsReadUnmarked w =
-    (i : ℕ) (job : Job) → (w.nodes i).job ≡ Some job → (o : Operation) → w.operations (number_of w i job.seq) ≡ Some o → o.mark ≡ 0
+-- no read of a brick's own is an operation that has marks: neither one of its synchronisation nor its scrub
+pub record OwnReadsUnmarked (w : World) : Type 0 where
+  pub jobs : (i : ℕ) (job : Job) → (w.nodes i).job ≡ Some job → (o : Operation) → w.operations (number_of w i job.seq) ≡ Some o → o.mark ≡ 0
+  pub scrubs : (i : ℕ) (scrub : Scrub) → (w.nodes i).scrub ≡ Some scrub → (o : Operation) → w.operations (number_of w i scrub.seq) ≡ Some o → o.mark ≡ 0
 
-pub reached_unmarked : (layout : Layout) (w : World) → IsReachedBy layout w → JobsReadUnmarked w
-reached_unmarked layout w reached i job is o at =
-    let own = (reached_books layout w reached).jobs i job is in
-    ap (λ (x : Operation). x.mark) (same_Some o own.operation (sym at ∙ own.operation_is)) ∙ own.mark
+own_unmarked : (w : World) (i k : ℕ) → OwnBooks w i k → (o : Operation) → w.operations (number_of w i k) ≡ Some o → o.mark ≡ 0
+own_unmarked w i k own o at = ap (λ (x : Operation). x.mark) (same_Some o own.operation (sym at ∙ own.operation_is)) ∙ own.mark
+
+pub reached_unmarked : (layout : Layout) (w : World) → IsReachedBy layout w → OwnReadsUnmarked w
+reached_unmarked layout w reached = record {
+  jobs = λ i job is. own_unmarked w i job.seq ((reached_books layout w reached).jobs i job is).own;
+  scrubs = λ i scrub is.
+      own_unmarked w i scrub.seq
+      ((reached_books layout w reached).scrubs i scrub.seq (ap (option_map (λ (x : Scrub). x.seq)) is));
+}
 
 pub reached_bricks : (layout : Layout) (w : World) → IsReachedBy layout w → AreOfBricks layout w
 reached_bricks layout w (events, is) = subst (AreOfBricks layout) (sym is) (of_bricks layout events)

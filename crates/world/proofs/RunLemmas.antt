@@ -1,5 +1,5 @@
 -- The world that a run leaves, and what its disks keep.
-use Rattle.std.proofs.Common.{◌≡◌, ℕ, ◌+◌, ◌≤◌, ◌-◌, ◌⊎◌, inl, inr, ⊎_elim, Bool, List, [], ◌∷◌, ◌++◌, length, length-append, take, drop, take_all, length-drop, append-nil, append_assoc, Option, Some, None, refl, sym, ap, ◌∙◌, subst, arith}
+use Rattle.std.proofs.Common.{◌≡◌, ℕ, ◌+◌, ◌≤◌, ◌-◌, ◌⊎◌, inl, inr, ⊎_elim, Bool, true, false, List, [], ◌∷◌, ◌++◌, length, length-append, take, drop, take_all, length-drop, append-nil, append_assoc, Option, Some, None, refl, sym, ap, ◌∙◌, subst, arith}
 use Rattle.std.specs.Prelude.{slice_get}
 use Rattle.std.specs.Option.{option_map}
 use Rattle.std.proofs.lemmas.List.{drop_all, length-map}
@@ -9,27 +9,32 @@ use Rattle.fab_disk.specs.declared.mem_disk.MemDisk.{MemDisk}
 use Rattle.reg_model.specs.declared.marks.Mark.{Mark}
 use Rattle.reg_model.specs.declared.marks.Mark.TheVariants as mark
 use Rattle.lines.specs.declared.forms.Line.{Line}
+use Rattle.lines.specs.declared.forms.Line.TheVariants.{Propose, Suspect, Trust, Spare}
 use Rattle.lines.specs.declared.forms.Fault.{Fault}
+use Rattle.spares.specs.Suspicions.{Suspicions, unsuspecting}
 use Rattle.stripe_code.specs.Codes.{coding}
 use Rattle.fab_base.specs.Layouts.{Layout}
-use Rattle.protocol.specs.Nodes.{Node, NodeStep, proposed, synced_at}
+use Rattle.protocol.specs.Nodes.{Node, NodeStep, proposed, synced_at, scrubbed_at}
 use Rattle.protocol.specs.Settings.{Setting}
 use Rattle.protocol.specs.declared.tellings.Report.{Report}
 use Rattle.protocol.specs.Worlds.{World, Event, Stops, Starts, Before, first_world, number_of, reports_of, world_stepped, run}
 use Rattle.protocol_laws.proofs.Books.{Books}
 use Rattle.world.specs.Runs.{Course, Run, Step, world_of, all_events, brick_of, with_events, world_at}
+use Rattle.world.specs.Suspected.{has_both, suspected_after, suspected_in, suspicions_of, spare_list, proposing_line, meant}
 use Rattle.world.specs.Faults.{IsEventsOf, IsStartOf, StaysDown, IsStarted, IsNoStart}
 use Rattle.world.specs.Disks.{ShowsDiskOf, ShowsDisks}
-use Rattle.world.specs.Shown.{IsNumbered, GoesOn, StaysAs, StopsShort, Shows, ShowsBricks, ShowsPower, ComesTo, StopsAt, disk_in, disks_of, came_to, world_in}
+use Rattle.world.specs.Shown.{IsNumbered, GoesOn, StaysAs, StopsShort, Shows, ShowsBricks, ShowsPower, ComesTo, StopsAt, IsBegunBy, disk_in, disks_of, came_to, world_in}
 use Rattle.protocol.proofs.Events.{run-append, EventCases, step_on, world_counting, stepped_each, started_each, run_each}
-use Rattle.world.specs.Steps.{Runs, RunsTo, LeavesSome, with_step}
-use Rattle.world.specs.Texts.{text_of, event_text, marks_text, reports_text, outcome_text, new_marks, new_reports, line_text, step_text}
+use Rattle.world.specs.Steps.{Runs, RunsTo, LeavesSome, Grows, with_step}
+use Rattle.world.specs.Texts.{text_of, event_text, marks_text, reports_text, outcome_text, new_marks, new_reports, line_text, step_text, marks_if, empty_text, suspicion_text}
 use Rattle.world.specs.declared.bricks.Brick.{Brick}
 use Rattle.world.specs.declared.bricks.Power.{Power}
 use Rattle.world.specs.declared.bricks.Power.TheVariants.{Up, Down}
 use Rattle.world.specs.declared.simulations.Outcome.{Outcome}
+use Rattle.world.specs.declared.simulations.Outcome.TheVariants.{Idle}
 use Rattle.world.specs.declared.simulations.Simulation.{Simulation}
 use Rattle.world.specs.declared.trails.Trail.{Trail}
+use Rattle.world.proofs.Suspecting.{suspected_on}
 
 -- the events of one step more
 pub all_events-more : (steps : List Step) (step : Step) → all_events (steps ++ step ∷ []) ≡ all_events steps ++ step.events
@@ -90,6 +95,8 @@ grow_cases : (setting : Setting) (least : ℕ) (w : World) → HasAtLeast least 
 grow_cases setting least w few = record {
   proposes = λ brick group members may. grow_stepped setting least w brick (proposed setting brick (w.nodes brick.0) group members) few;
   syncs = λ brick group may. grow_stepped setting least w brick (synced_at setting brick (w.clocks brick.0) (w.nodes brick.0) group) few;
+  scrubs = λ brick group stripe members may.
+      grow_stepped setting least w brick (scrubbed_at setting brick (w.clocks brick.0) (w.nodes brick.0) group stripe members) few;
   begins = λ brick ask may. grown_by w.marks (mark.Begin (length w.marks) (w.marked + 1) brick ask) least few;
   handles = λ number packet at up. grow_stepped setting least (world_counting setting w number packet) packet.to (step_on setting w packet) few;
   sets = λ brick time is. few;
@@ -113,6 +120,9 @@ report_cases setting least w few = record {
       reports_grown w.choices.reports (reports_of brick (proposed setting brick (w.nodes brick.0) group members).reports) least few;
   syncs = λ brick group may.
       reports_grown w.choices.reports (reports_of brick (synced_at setting brick (w.clocks brick.0) (w.nodes brick.0) group).reports) least few;
+  scrubs = λ brick group stripe members may.
+      reports_grown w.choices.reports
+      (reports_of brick (scrubbed_at setting brick (w.clocks brick.0) (w.nodes brick.0) group stripe members).reports) least few;
   handles = λ number packet at up. reports_grown w.choices.reports (reports_of packet.to (step_on setting w packet).reports) least few;
   sets = λ brick time is. few;
   ticks = λ brick up. few;
@@ -188,8 +198,8 @@ at_rest layout course none =
     ap (λ (l : List Event). run (coding layout) l (first_world layout))
     (ap (λ (l : List Event). all_events course.steps ++ l) none ∙ append-nil (all_events course.steps))
 
--- A line was run in a simulation, to its end or as far as memory lasted, and its events were made a step.
-module _ (layout : Layout) (old new : Simulation) (trail : Trail) (line : Line) (was : Run) (none : old.trail.course.events ≡ [])
+-- A line was run in a simulation as another, to its end or as far as memory lasted, and its events were made a step.
+module _ (layout : Layout) (old new : Simulation) (trail : Trail) (line other : Line) (was : Run) (none : old.trail.course.events ≡ [])
     (ended : trail.course ≡ record { steps = new.trail.course.steps ++ record { line = line; events = new.trail.course.events } ∷ []; events = [] })
     (view : record { layout = layout; steps = old.trail.course.steps; disks = disks_of old.bricks.items } ≡ was) where
   abbrev before : Run
@@ -221,46 +231,165 @@ module _ (layout : Layout) (old new : Simulation) (trail : Trail) (line : Line) 
       record { bricks = now.bricks; history = now.history }
 
   -- the state shows the world behind it
-  pub shows_ran : (outcome : Outcome) → GoesOn layout old new line outcome → Shows layout (record new { trail = trail }) (world_of after)
+  pub shows_ran : (outcome : Outcome) → GoesOn layout old new other outcome → Shows layout (record new { trail = trail }) (world_of after)
   shows_ran outcome (events, comes, goes) = shows_ended events goes comes.shows
 
-  pub shows_short : StopsShort layout old new line → Shows layout (record new { trail = trail }) (world_of after)
+  pub shows_short : StopsShort layout old new other → Shows layout (record new { trail = trail }) (world_of after)
   shows_short (events, stops, goes) = shows_ended events goes stops.shows
 
-  -- the step is one that was run
-  pub runs_to : (outcome : Outcome) → GoesOn layout old new line outcome → RunsTo was after line outcome
-  runs_to outcome (events, comes, goes) =
-      let came = subst (λ (w : World). ComesTo layout w (disks_of old.bricks.items) new line outcome events) rest comes in
+  -- the step is one that was run, if the line stands for the other, and that prints as the line does
+  pub runs_to : (outcome : Outcome) → meant was line ≡ other
+      → ((events : List Event) → IsEventsOf layout (world_of before) (disks_of old.bricks.items) (disks_of new.bricks.items) other events
+      → line_text (coding layout) (world_of before) other events ≡ line_text (coding layout) (world_of before) line events)
+      → GoesOn layout old new other outcome → RunsTo was after line outcome
+  runs_to outcome stands alike (events, comes, goes) =
+      let came = subst (λ (w : World). ComesTo layout w (disks_of old.bricks.items) new other outcome events) rest comes in
       subst (λ (r : Run). RunsTo r after line outcome) view (record {
         step = record { line = line; events = events };
         runs = record {
           line_is = refl;
-          events_are = came.are;
+          events_are = subst (λ (l : Line). IsEventsOf layout (world_of before) (disks_of old.bricks.items) (disks_of new.bricks.items) l events)
+              (sym (ap (λ (r : Run). meant r line) view ∙ stands)) came.are;
           run = is_after events goes;
           disks = came.kept;
           shows = disks_shown layout (record new { trail = trail }) trail.course.steps (shows_ended events goes comes.shows);
         };
         prints = ap (λ (v : World). outcome_text outcome (new_marks (world_of before) v) (new_reports (world_of before) v)) (world_after events goes)
-            ∙ came.prints;
+            ∙ came.prints ∙ alike events came.are;
       })
 
   -- marks and reports are only added
-  pub all_grow : (outcome : Outcome) → GoesOn layout old new line outcome
-      → (length (world_of was).marks ≤ length (world_of after).marks) × (length (world_of was).choices.reports ≤ length (world_of after).choices.reports)
+  pub all_grow : (outcome : Outcome) → GoesOn layout old new other outcome → Grows was after
   all_grow outcome (events, comes, goes) =
-      subst (λ (r : Run). (length (world_of r).marks ≤ length (world_of after).marks)
-      × (length (world_of r).choices.reports ≤ length (world_of after).choices.reports)) view
+      subst (λ (r : Run). Grows r after) view
       (subst (λ (v : World). (length (world_of before).marks ≤ length v.marks) × (length (world_of before).choices.reports ≤ length v.choices.reports))
       (sym (world_after events goes)) (run_grows (coding layout) (world_of before) events, run_reports (coding layout) (world_of before) events))
 
   -- or no memory was left for the rest of it
-  pub leaves_part : StopsShort layout old new line → LeavesSome was after line
-  leaves_part (events, stops, goes) =
-      let came = subst (λ (w : World). StopsAt layout w (disks_of old.bricks.items) new line events) rest stops in
+  pub leaves_part : line ≡ other → StopsShort layout old new other → LeavesSome was after line
+  leaves_part same (events, stops, goes) =
+      let came = subst (λ (w : World). StopsAt layout w (disks_of old.bricks.items) new other events) rest stops in
       subst (λ (r : Run). LeavesSome r after line) view (inr (
         record { line = line; events = events },
-        record { line_is = refl; events_are = came.are; run = is_after events goes; disks = came.kept },
+        record {
+          line_is = refl;
+          events_are = subst (λ (l : Line). IsBegunBy layout (world_of before) l events) (sym same) came.are;
+          run = is_after events goes;
+          disks = came.kept;
+        },
       ))
+
+  -- the steps are one more
+  pub steps_after : (events : List Event) → new.trail.course ≡ with_events old.trail.course events
+      → trail.course.steps ≡ old.trail.course.steps ++ record { line = line; events = events } ∷ []
+  steps_after events goes = ap (λ (r : Run). r.steps) (is_after events goes)
+
+  -- what is suspected is so still, if the line changes nothing of it
+  suspects_on : (suspicions : Suspicions) (events : List Event) → suspected_after suspicions line ≡ suspicions → suspicions ≡ suspicions_of before
+      → new.trail.course ≡ with_events old.trail.course events → suspicions ≡ suspicions_of after
+  suspects_on suspicions events keeps is goes =
+      suspected_on layout old.trail.course.steps trail.course.steps (record { line = line; events = events }) suspicions suspicions
+      (steps_after events goes) is (sym keeps)
+
+  pub suspects_ran : (suspicions : Suspicions) (outcome : Outcome) → suspected_after suspicions line ≡ suspicions → suspicions ≡ suspicions_of before
+      → GoesOn layout old new other outcome → suspicions ≡ suspicions_of after
+  suspects_ran suspicions outcome keeps is (events, comes, goes) = suspects_on suspicions events keeps is goes
+
+  pub suspects_short : (suspicions : Suspicions) → suspected_after suspicions line ≡ suspicions → suspicions ≡ suspicions_of before
+      → StopsShort layout old new other → suspicions ≡ suspicions_of after
+  suspects_short suspicions keeps is (events, stops, goes) = suspects_on suspicions events keeps is goes
+
+-- what is printed of two bricks for which there is nothing else to tell
+pub noted_text : (has : Bool) → outcome_text (marks_if has) [] [] ≡ suspicion_text has
+noted_text true = refl
+noted_text false = refl
+
+-- A line was run that is no event, and was made a step.
+module _ (layout : Layout) (state : Simulation) (trail : Trail) (line : Line) (was : Run) (none : state.trail.course.events ≡ [])
+    (ended : trail.course ≡ record { steps = state.trail.course.steps ++ record { line = line; events = state.trail.course.events } ∷ []; events = [] })
+    (view : record { layout = layout; steps = state.trail.course.steps; disks = disks_of state.bricks.items } ≡ was)
+    (shows : Shows layout state (world_of (record { layout = layout; steps = state.trail.course.steps; disks = disks_of state.bricks.items }))) where
+  abbrev at_first : Run
+  at_first = record { layout = layout; steps = state.trail.course.steps; disks = disks_of state.bricks.items }
+
+  abbrev passed : Run
+  passed = record { layout = layout; steps = trail.course.steps; disks = disks_of state.bricks.items }
+
+  abbrev empty_step : Step
+  empty_step = record { line = line; events = [] }
+
+  pub steps_passed : trail.course.steps ≡ state.trail.course.steps ++ empty_step ∷ []
+  steps_passed =
+      ap (λ (c : Course). c.steps) ended
+      ∙ ap (λ (l : List Event). state.trail.course.steps ++ record { line = line; events = l } ∷ []) none
+
+  is_passed : passed ≡ with_step at_first empty_step passed.disks
+  is_passed = ap (λ (steps : List Step). record { layout = layout; steps = steps; disks = disks_of state.bricks.items }) steps_passed
+
+  world_passed : world_of passed ≡ world_of at_first
+  world_passed = ap world_of is_passed ∙ world_of-with_step at_first empty_step (disks_of state.bricks.items)
+
+  pub shows_passed : Shows layout (record state { trail = trail }) (world_of passed)
+  shows_passed =
+      let now = subst (λ (v : World). Shows layout state v) (sym world_passed) shows in
+      record { bricks = now.bricks; history = now.history }
+
+  -- the step is one that was run, if the line is no event, and this is what it prints
+  pub passes : (outcome : Outcome) → IsEventsOf layout (world_of was) was.disks was.disks (meant was line) []
+      → outcome_text outcome [] [] ≡ empty_text layout.bricks line → RunsTo was passed line outcome
+  passes outcome are text =
+      let w : World = world_of at_first in
+      let none_made : new_marks w w ≡ [] = drop_all (length w.marks) w.marks (omega arith) in
+      let none_told : new_reports w w ≡ [] = drop_all (length w.choices.reports) w.choices.reports (omega arith) in
+      subst (λ (r : Run). RunsTo r passed line outcome) view (record {
+        step = empty_step;
+        runs = record {
+          line_is = refl;
+          events_are = subst (λ (r : Run). IsEventsOf r.layout (world_of r) r.disks r.disks (meant r line) []) (sym view)
+              (subst (λ (l : Layout). IsEventsOf l (world_of was) was.disks was.disks (meant was line) []) (ap (λ (r : Run). r.layout) view) are);
+          run = is_passed;
+          disks = refl;
+          shows = disks_shown layout (record state { trail = trail }) trail.course.steps shows_passed;
+        };
+        prints = ap (λ (v : World). outcome_text outcome (new_marks w v) (new_reports w v)) world_passed
+            ∙ ap (λ (marks : List Mark). outcome_text outcome marks (new_reports w w)) none_made
+            ∙ ap (outcome_text outcome []) none_told ∙ text;
+      })
+
+  -- so are the lines that speak of two bricks, and one for which no seat changes
+  pub suspect_runs : (b c : ℕ) (both : Bool) → line ≡ Suspect b c → both ≡ has_both layout.bricks b c → RunsTo was passed line (marks_if both)
+  suspect_runs b c both is has =
+      passes (marks_if both) (subst (λ (l : Line). IsEventsOf layout (world_of was) was.disks was.disks (meant was l) []) (sym is) refl)
+      (noted_text both ∙ ap suspicion_text has ∙ sym (ap (empty_text layout.bricks) is))
+
+  pub trust_runs : (b c : ℕ) (both : Bool) → line ≡ Trust b c → both ≡ has_both layout.bricks b c → RunsTo was passed line (marks_if both)
+  trust_runs b c both is has =
+      passes (marks_if both) (subst (λ (l : Line). IsEventsOf layout (world_of was) was.disks was.disks (meant was l) []) (sym is) refl)
+      (noted_text both ∙ ap suspicion_text has ∙ sym (ap (empty_text layout.bricks) is))
+
+  pub idle_runs : (b g : ℕ) → line ≡ Spare b g → spare_list was b g ≡ None → RunsTo was passed line Idle
+  idle_runs b g is none =
+      passes Idle
+      (subst (λ (l : Line). IsEventsOf layout (world_of was) was.disks was.disks (meant was l) []) (sym is)
+      (subst (λ (o : Option (List BrickId)). IsEventsOf layout (world_of was) was.disks was.disks (proposing_line b g o) []) (sym none) refl))
+      (sym (ap (empty_text layout.bricks) is))
+
+  -- what is suspected has changed by the line
+  pub suspects_passed : (old new : Suspicions) → old ≡ suspicions_of at_first → new ≡ suspected_after old line → new ≡ suspicions_of passed
+  suspects_passed old new is now = suspected_on layout state.trail.course.steps trail.course.steps empty_step old new steps_passed is now
+
+  pub grows_passed : Grows was passed
+  grows_passed =
+      subst (λ (r : Run). Grows r passed) view
+      (subst (λ (v : World). (length (world_of at_first).marks ≤ length v.marks) × (length (world_of at_first).choices.reports ≤ length v.choices.reports))
+      (sym world_passed) (omega arith, omega arith))
+
+-- a proposal prints as the line that stands for it
+pub proposal_text : (layout : Layout) (w : World) (old new : List MemDisk) (b g : ℕ) (members : List ℕ) (events : List Event)
+    → IsEventsOf layout w old new (Propose b g members) events
+    → line_text (coding layout) w (Propose b g members) events ≡ line_text (coding layout) w (Spare b g) events
+proposal_text layout w old new b g members events are =
+    subst (λ (l : List Event). line_text (coding layout) w (Propose b g members) l ≡ line_text (coding layout) w (Spare b g) l) (sym are) refl
 
 -- no memory was left for a line, and nothing was run
 module _ (layout : Layout) (old new : Simulation) (none : old.trail.course.events ≡ []) (stays : StaysAs layout old new) where
@@ -271,6 +400,9 @@ module _ (layout : Layout) (old new : Simulation) (none : old.trail.course.event
   shows_kept =
       subst (λ (v : World). Shows layout new v)
       (at_rest layout old.trail.course none ∙ ap (λ (t : Trail). run (coding layout) (all_events t.course.steps) (first_world layout)) (sym stays.trail)) stays.shows
+
+  pub suspects_kept : (suspicions : Suspicions) → suspicions ≡ suspicions_of (run_now old) → suspicions ≡ suspicions_of (run_now new)
+  suspects_kept suspicions is = is ∙ ap (λ (t : Trail). suspected_in (unsuspecting layout) t.course.steps) (sym stays.trail)
 
   pub leaves_none : (line : Line) (was : Run) → run_now old ≡ was → LeavesSome was (run_now new) line
   leaves_none line was view =

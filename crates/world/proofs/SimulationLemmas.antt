@@ -6,11 +6,12 @@ use Rattle.fab_base.specs.declared.asks.Ask.{Ask}
 use Rattle.fab_base.specs.declared.asks.Op.{Op}
 use Rattle.fab_base.specs.declared.identities.BrickId.{BrickId}
 use Rattle.fab_base.specs.declared.identities.GroupId.{GroupId}
+use Rattle.fab_base.specs.declared.identities.StripeNo.{StripeNo}
 use Rattle.messages.specs.declared.packets.Packet.{Packet}
 use Rattle.stripe_code.specs.Codes.{coding}
 use Rattle.fab_base.specs.Layouts.{Layout}
-use Rattle.protocol.specs.Nodes.{Node, NodeStep, put, refusal_of, proposal_refusal, sync_refusal, invoked, proposed, synced_at, received, ticked, stopped}
-use Rattle.protocol.specs.Worlds.{World, Event, first_world, run, Invokes, Proposes, Syncs, Delivers, Sets, Ticks, Stops, is_brick, is_up, packet_of, world_began, world_stepped, world_stopped, happens}
+use Rattle.protocol.specs.Nodes.{Node, NodeStep, put, refusal_of, proposal_refusal, sync_refusal, scrub_refusal, invoked, proposed, synced_at, scrubbed_at, received, ticked, stopped}
+use Rattle.protocol.specs.Worlds.{World, Event, first_world, run, Invokes, Proposes, Syncs, Scrubs, Delivers, Sets, Ticks, Stops, is_brick, is_up, packet_of, world_began, world_stepped, world_stopped, happens}
 use Rattle.world.specs.Runs.{Course, all_events, ask_of, with_events, world_at}
 use Rattle.protocol.proofs.Events.{run-append}
 use Rattle.world.specs.Noted.{IsSameHistory}
@@ -21,7 +22,7 @@ use Rattle.world.specs.declared.simulations.Outcome.TheVariants.{Marks, Idle}
 use Rattle.world.specs.declared.bricks.Brick.{Brick}
 use Rattle.world.specs.declared.histories.History.{History}
 use Rattle.world.specs.declared.simulations.Simulation.{Simulation}
-use Rattle.world.proofs.MachineBegins.{happens_begun, happens_proposed, happens_synced, happens_handled, happens_set, happens_ticked, happens_stopped}
+use Rattle.world.proofs.MachineBegins.{happens_begun, happens_proposed, happens_synced, happens_scrubbed, happens_handled, happens_set, happens_ticked, happens_stopped}
 use Rattle.world.proofs.BrickListLemmas.{shows_unput}
 use Rattle.world.proofs.HistoryLemmas.{tells_other, tells_same, heard_keeps}
 use Rattle.protocol.proofs.Events.{world_counting, world_handled}
@@ -169,6 +170,19 @@ pub shows_synced : (layout : Layout) (state : Simulation) (w : World) (brick : B
 shows_synced layout state w brick group up none bricks history =
     subst (λ (x : World). Shows layout state x) (sym (happens_synced (coding layout) w brick group up none)) (record {
       bricks = bricks_stepped layout state.bricks.items w brick (synced_at (coding layout) brick (w.clocks brick.0) (w.nodes brick.0) group) bricks;
+      history = history;
+    })
+
+-- a brick that began to scrub
+pub shows_scrubbed : (layout : Layout) (state : Simulation) (w : World) (brick : BrickId) (group : GroupId) (stripe : StripeNo) (members : List BrickId)
+    → is_up layout w brick ≡ true → scrub_refusal layout (w.nodes brick.0) group stripe members ≡ None
+    → (let step : NodeStep = scrubbed_at (coding layout) brick (w.clocks brick.0) (w.nodes brick.0) group stripe members in
+    ShowsBricks layout state.bricks.items (put w.nodes brick.0 step.node) w.after w.up w.clocks
+    → Tells state.history (world_stepped (coding layout) w brick step) → Shows layout state (happens (coding layout) w (Scrubs brick group stripe members)))
+shows_scrubbed layout state w brick group stripe members up none bricks history =
+    subst (λ (x : World). Shows layout state x) (sym (happens_scrubbed (coding layout) w brick group stripe members up none)) (record {
+      bricks = bricks_stepped layout state.bricks.items w brick
+          (scrubbed_at (coding layout) brick (w.clocks brick.0) (w.nodes brick.0) group stripe members) bricks;
       history = history;
     })
 

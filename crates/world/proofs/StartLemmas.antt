@@ -7,6 +7,7 @@ use Rattle.fab_base.specs.declared.identities.BrickId.{BrickId}
 use Rattle.fab_base.specs.Layouts.{Layout}
 use Rattle.fab_disk.specs.MemDisk.{content_of}
 use Rattle.fab_disk.specs.declared.mem_disk.MemDisk.{MemDisk}
+use Rattle.frame_store.specs.declared.shapes.Form.TheVariants.{New}
 use Rattle.lines.specs.declared.forms.Fault.{Fault}
 use Rattle.stripe_code.specs.Codes.{coding}
 use Rattle.protocol.specs.Nodes as machine
@@ -165,7 +166,7 @@ module _ {layout : Layout} {old new : List Brick} {number : BrickId} {Holds : Br
           kept = one_kept (coding layout) w event (disks_of old) (disks_of new)
               (record {
                 others = others_here;
-                still = λ none. absurd (never_none (may_start layout w number openings) 4 may (none 0 true));
+                still = λ none. absurd (never_none (may_start layout w number openings) 4 may (none 0 New true));
                 lists = λ yes. of_disk changes (ListsOpening layout number (found_of (w.nodes number.0) (w.after number.0) was.finds.found)) was.lists;
               });
         },
@@ -210,7 +211,7 @@ module _ {layout : Layout} {old new : List Brick} {number : BrickId} {Holds : Br
           kept = one_kept (coding layout) w event (disks_of old) (disks_of new)
               (record {
                 others = others_here;
-                still = λ none. absurd (never_none (is_down layout w number) 4 is_down_here (none 0 true));
+                still = λ none. absurd (never_none (is_down layout w number) 4 is_down_here (none 0 New true));
                 lists = tt;
               });
         },

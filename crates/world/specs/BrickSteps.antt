@@ -6,6 +6,7 @@ use Rattle.fab_base.specs.declared.asks.Ask.{Ask}
 use Rattle.fab_base.specs.declared.faults.NoMem.{NoMem}
 use Rattle.fab_base.specs.declared.identities.BrickId.{BrickId}
 use Rattle.fab_base.specs.declared.identities.GroupId.{GroupId}
+use Rattle.fab_base.specs.declared.identities.StripeNo.{StripeNo}
 use Rattle.lines.specs.declared.forms.Fault.{Fault}
 use Rattle.messages.specs.declared.packets.Packet.{Packet}
 use Rattle.stripe_code.specs.Codes.{coding}
@@ -47,7 +48,7 @@ pub record StepsOrStays (refusal : Option Refusal) (step : machine.NodeStep) (re
   pub steps : IfOk result (StepsAs me next step)
   pub stays : OnErr result (next ≡ state)
 
--- so where it is asked to propose, and so where it is asked to synchronise
+-- so where it is asked to propose, so where it is asked to synchronise, and so where it is asked to scrub
 abbrev pub DoesPropose : GroupId → List BrickId → Result Sent NodeFault → Layout → BrickId → ℕ → machine.Node → machine.Node → Type 0
 DoesPropose group members result layout me time state next =
     StepsOrStays (machine.proposal_refusal layout state group.0) (machine.proposed (coding layout) me state group members) result me state next
@@ -55,6 +56,11 @@ DoesPropose group members result layout me time state next =
 abbrev pub DoesSync : GroupId → Result Sent NodeFault → Layout → BrickId → ℕ → machine.Node → machine.Node → Type 0
 DoesSync group result layout me time state next =
     StepsOrStays (machine.sync_refusal layout state group.0) (machine.synced_at (coding layout) me time state group) result me state next
+
+abbrev pub DoesScrub : GroupId → StripeNo → List BrickId → Result Sent NodeFault → Layout → BrickId → ℕ → machine.Node → machine.Node → Type 0
+DoesScrub group stripe members result layout me time state next =
+    StepsOrStays (machine.scrub_refusal layout state group stripe members) (machine.scrubbed_at (coding layout) me time state group stripe members) result me
+    state next
 
 -- the brick runs, and is handed a message
 abbrev pub DoesHandle : Packet → Option Fault → Result (Option Sent) NoMem → Brick → Power → Type 0

@@ -6,6 +6,10 @@ use Rattle.fab_disk.specs.MemDisk.{content_of, may_be_left}
 use Rattle.fab_disk.specs.declared.mem_disk.MemDisk.{MemDisk}
 use Rattle.messages.specs.declared.packets.Packet.{Packet}
 use Rattle.fab_disk.specs.Changing.{Stands}
+use Rattle.frame_store.specs.declared.shapes.Form.TheVariants.{Old}
+use Rattle.frame_store.specs.declared.shapes.Shape.{Shape}
+use Rattle.frame_store.specs.Images.{OpensAs}
+use Rattle.frame_store.specs.Layouts.{formed}
 use Rattle.brick_store.specs.Calls.{IsListedAfter}
 use Rattle.brick_store.specs.Images.{IsListed}
 use Rattle.brick_store.specs.Openings.{IsListedOnOpening}
@@ -14,7 +18,7 @@ use Rattle.node.specs.Calls.{packet_append}
 use Rattle.node.specs.Running.{shape_at, ImageShows}
 use Rattle.protocol.specs.Nodes.{Node}
 use Rattle.protocol.specs.Settings.{Setting}
-use Rattle.protocol.specs.Worlds.{World, Event, Invokes, Proposes, Syncs, Delivers, Sets, Ticks, Stops, Starts, is_up, may_start, packet_of, happens}
+use Rattle.protocol.specs.Worlds.{World, Event, Invokes, Proposes, Syncs, Scrubs, Delivers, Sets, Ticks, Stops, Starts, has_old_stores, is_up, may_start, packet_of, happens}
 use Rattle.world.specs.Runs.{Run, world_of, brick_of}
 use Rattle.world.specs.EventCalls.{MakesNoCall, is_down}
 use Rattle.world.specs.Faults.{in_memory, HoldsOne, found_of}
@@ -38,10 +42,15 @@ pub record ShowsDisks (r : Run) : Type 0 where
 abbrev pub first_listed : ℕ
 first_listed = framed boot_size
 
--- the list of each of these disks, by the numbers of their bricks, is that long
+-- the list of a fresh disk is that long; that of an old store is empty
+abbrev pub IsFreshList : Bool → Shape → List ℕ → Type 0
+IsFreshList true shape image = OpensAs (formed Old shape) [] true image
+IsFreshList false shape image = IsListed shape first_listed image
+
+-- so it is of each of these disks, by the numbers of their bricks
 abbrev pub AreFreshDisks : Layout → List MemDisk → Type 0
 AreFreshDisks layout disks = (i : ℕ) (disk : MemDisk) → slice_get disks i ≡ Some disk
-    → IsListed (shape_at layout (brick_of i)) first_listed (content_of disk)
+    → IsFreshList (has_old_stores layout) (shape_at layout (brick_of i)) (content_of disk)
 
 -- so it is of each disk of a run
 abbrev pub HasFreshDisks : Run → Type 0
@@ -57,6 +66,7 @@ abbrev pub changes_disk_of : Layout → World → Event → Option BrickId
 changes_disk_of layout w (Invokes brick ask) = None
 changes_disk_of layout w (Proposes brick group members) = None
 changes_disk_of layout w (Syncs brick group) = None
+changes_disk_of layout w (Scrubs brick group stripe members) = None
 changes_disk_of layout w (Delivers number) = receiver_of layout w (packet_of w.packets number)
 changes_disk_of layout w (Sets brick time) = None
 changes_disk_of layout w (Ticks brick) = None
@@ -107,6 +117,7 @@ abbrev pub ListsEvent : Layout → World → Event → List MemDisk → List Mem
 ListsEvent layout w (Invokes brick ask) old new = Unit {0}
 ListsEvent layout w (Proposes brick group members) old new = Unit {0}
 ListsEvent layout w (Syncs brick group) old new = Unit {0}
+ListsEvent layout w (Scrubs brick group stripe members) old new = Unit {0}
 ListsEvent layout w (Delivers number) old new = ListsHandled layout w (packet_of w.packets number) old new
 ListsEvent layout w (Sets brick time) old new = Unit {0}
 ListsEvent layout w (Ticks brick) old new = Unit {0}

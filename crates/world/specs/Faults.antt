@@ -13,11 +13,12 @@ use Rattle.fab_disk.specs.MemDisk.{content_of, past_of_disk, may_be_left, certai
 use Rattle.fab_disk.specs.MemDisk.{plan_of as plan_in}
 use Rattle.fab_disk.specs.declared.mem_disk.MemDisk.{MemDisk}
 use Rattle.frame_store.specs.declared.frames.Frame.{Frame}
+use Rattle.frame_store.specs.declared.shapes.Form.{Form}
+use Rattle.frame_store.specs.Layouts.{formed}
 use Rattle.frame_store.specs.Images.{OpensAs}
 use Rattle.messages.specs.declared.packets.Packet.{Packet}
 use Rattle.brick_store.specs.Images.{IsListed}
-use Rattle.brick_store.specs.Calls.{opening_calls}
-use Rattle.brick_store.specs.Openings.{opens_appendable}
+use Rattle.brick_store.specs.Openings.{calls_on_opening}
 use Rattle.node.specs.Calls.{packet_calls}
 use Rattle.node.specs.Running.{shape_at, ImageShows, ShowsEither, reopened}
 use Rattle.lines.specs.declared.forms.Fault.{Fault}
@@ -102,10 +103,11 @@ pub record IsReached (layout : Layout) (me : BrickId) (node : Node) (packet : Pa
 
 -- so does the opening of this disk
 pub record IsReachedOpening (layout : Layout) (me : BrickId) (disk : MemDisk) (plan : Plan) : Type 0 where
+  pub form : Form
   pub frames : List Frame
   pub closed : Bool
-  pub opens : OpensAs (shape_at layout me) frames closed (content_of disk)
-  pub within : IsWithin (opening_calls (opens_appendable (shape_at layout me) frames closed)) plan
+  pub opens : OpensAs (formed form (shape_at layout me)) frames closed (content_of disk)
+  pub within : IsWithin (calls_on_opening (formed form (shape_at layout me)) frames closed) plan
 
 -- the message of a number, where its handling makes the call that the plan names
 pub record IsStruck (layout : Layout) (w : World) (disks : List MemDisk) (number : ℕ) (plan : Plan) : Type 0 where
@@ -172,7 +174,7 @@ pub record StaysDown (layout : Layout) (w : World) (old new : List MemDisk) (bri
   pub events_are : events ≡ Stops brick None ∷ []
   pub left : (disk : MemDisk) → slice_get new brick.0 ≡ Some disk
       → IsLeftOpening layout brick (w.nodes brick.0) (w.after brick.0) start.disk start.finds
-      (opening_calls (opens_appendable (shape_at layout brick) reached.frames reached.closed)) fault disk
+      (calls_on_opening (formed reached.form (shape_at layout brick)) reached.frames reached.closed) fault disk
 
 pub record IsStarted (layout : Layout) (w : World) (old : List MemDisk) (brick : BrickId) (fault : Option Fault) (events : List Event) : Type 0 where
   pub start : StartsDown layout w old brick

@@ -1,4 +1,5 @@
 pub mod Runs
+pub mod Suspected
 pub mod Calms
 pub mod Sendings
 pub mod CallNumbers

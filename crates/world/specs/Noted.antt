@@ -63,7 +63,7 @@ pub record NotesBegin (old new : History) (brick : BrickId) (boot : ℕ) (ask : 
   pub calls : (i : ℕ) → calls_in new.calls i ≡ calls_with old.calls brick.0 (length old.operations.items + 1) i
   pub rest : new ≡ record old { sent = new.sent; marks = new.marks; operations = new.operations; marked = new.marked; calls = new.calls }
 
--- A read of a synchronisation began under its brick's next call: an operation without marks.
+-- A read of a synchronisation, or a scrub, began under its brick's next call: an operation without marks.
 pub record NotesRead (old new : History) (brick : BrickId) (call : Call) : Type 0 where
   pub operations : new.operations.items
       ≡ old.operations.items

@@ -2,6 +2,7 @@
 use Rattle.std.specs.Prelude.{ℕ, nat_lt, if◌then◌else◌, List, [], ◌∷◌, ◌++◌, map, Option, Some, None}
 use Rattle.fab_base.specs.declared.identities.BrickId.{BrickId}
 use Rattle.fab_base.specs.declared.identities.GroupId.{GroupId}
+use Rattle.fab_base.specs.declared.identities.StripeNo.{StripeNo}
 use Rattle.fab_base.specs.declared.asks.Ask.{Ask}
 use Rattle.fab_base.specs.declared.asks.Op.{Op}
 use Rattle.fab_base.specs.declared.asks.Op.TheVariants as op
@@ -11,11 +12,11 @@ use Rattle.fab_disk.specs.declared.mem_disk.MemDisk.{MemDisk}
 use Rattle.lines.specs.declared.forms.Access.{Access}
 use Rattle.lines.specs.declared.forms.Access.TheVariants.{ReadBlock, WriteBlock, ReadStripe, WriteStripe}
 use Rattle.lines.specs.declared.forms.Line.{Line}
-use Rattle.lines.specs.declared.forms.Line.TheVariants.{Nothing, Invoke, Deliver, SetClock, Tick, Crash, Start, Propose, Sync, Calm}
+use Rattle.lines.specs.declared.forms.Line.TheVariants.{Nothing, Invoke, Deliver, SetClock, Tick, Crash, Start, Propose, Sync, Scrub, Suspect, Trust, Spare, Calm}
 use Rattle.fab_base.specs.Layouts.{Layout}
 use Rattle.protocol.specs.Settings.{Setting}
-use Rattle.protocol.specs.Nodes.{refusal_of, proposal_refusal, sync_refusal}
-use Rattle.protocol.specs.Worlds.{World, Event, Invokes, Proposes, Syncs, Delivers, Sets, Ticks, Stops, Starts, Before, first_world, is_up, run}
+use Rattle.protocol.specs.Nodes.{refusal_of, proposal_refusal, sync_refusal, scrub_refusal}
+use Rattle.protocol.specs.Worlds.{World, Event, Invokes, Proposes, Syncs, Scrubs, Delivers, Sets, Ticks, Stops, Starts, Before, first_world, is_up, run}
 use Rattle.stripe_code.specs.Codes.{coding}
 
 -- a line of a schedule that was run, and the events of the machine that it was
@@ -57,12 +58,16 @@ op_of (WriteStripe bytes) = op.WriteStripe bytes
 abbrev pub group_no : ℕ → GroupId
 group_no g = record { 0 = g }
 
--- a member that a line names, as a brick is asked to propose it: every number past 65535 is as far past the last brick of a layout as that is
+-- the stripe of a number
+abbrev pub stripe_no : ℕ → StripeNo
+stripe_no s = record { 0 = s }
+
+-- a member that a line names, as a brick is asked for it: every number past 65535 is as far past the last brick of a layout as that is
 abbrev pub member_no : ℕ → BrickId
 member_no number = brick_of (if nat_lt number 65536 then number else 65535)
 
 -- The events of a line of which no disk decides: a brick stops during no handling, and one that is not down does not start. An operation that is
--- to run alone does not.
+-- to run alone does not, and where a brick is to replace what it suspects, it proposes nothing. What a brick suspects is no event.
 abbrev pub events_of : Line → List Event
 events_of Nothing = []
 events_of (Invoke b g s access) = Invokes (brick_of b) (ask_of g s (op_of access)) ∷ []
@@ -73,6 +78,10 @@ events_of (Crash b) = Stops (brick_of b) None ∷ []
 events_of (Start b fault) = Starts (brick_of b) 1 Before ∷ []
 events_of (Propose b g members) = Proposes (brick_of b) (group_no g) (map member_no members) ∷ []
 events_of (Sync b g) = Syncs (brick_of b) (group_no g) ∷ []
+events_of (Scrub b g s members) = Scrubs (brick_of b) (group_no g) (stripe_no s) (map member_no members) ∷ []
+events_of (Suspect b c) = []
+events_of (Trust b c) = []
+events_of (Spare b g) = []
 events_of (Calm n bricks) = []
 
 -- the events of steps, in order
@@ -106,3 +115,8 @@ proposal_refusal_at setting w brick group =
 abbrev pub sync_refusal_at : Setting → World → BrickId → GroupId → Option Refusal
 sync_refusal_at setting w brick group =
     if is_up setting.layout w brick then sync_refusal setting.layout (w.nodes brick.0) group.0 else Some Down
+
+-- why a brick does not begin a scrub, where it does not: it is not up, or it refuses
+abbrev pub scrub_refusal_at : Setting → World → BrickId → GroupId → StripeNo → List BrickId → Option Refusal
+scrub_refusal_at setting w brick group stripe members =
+    if is_up setting.layout w brick then scrub_refusal setting.layout (w.nodes brick.0) group stripe members else Some Down

@@ -11,29 +11,28 @@ use Rattle.fab_base.specs.declared.member_lists.View.{View}
 use Rattle.fab_base.specs.declared.stamps.Stamp.{Stamp}
 use Rattle.fab_disk.specs.MemDisk.{IsSound, content_of}
 use Rattle.fab_disk.specs.declared.mem_disk.MemDisk.{MemDisk}
-use Rattle.brick_store.specs.Calls.{opening_calls}
-use Rattle.brick_store.specs.Images.{IsListed}
-use Rattle.brick_store.specs.Openings.{opens_appendable}
+use Rattle.brick_store.specs.Openings.{calls_on_opening}
 use Rattle.node.specs.Calls.{packet_calls}
 use Rattle.node.specs.Running.{Running, state_of, shape_at}
 use Rattle.fab_base.specs.Layouts.{Layout}
+use Rattle.frame_store.specs.Layouts.{formed}
 use Rattle.protocol.specs.Coordinators.{Coordinator}
 use Rattle.protocol.specs.Nodes as machine
 use Rattle.protocol.specs.declared.tellings.Answered.{Answered}
 use Rattle.protocol.specs.declared.tellings.Report.{Report}
 use Rattle.protocol.specs.declared.tellings.Told.{Told}
 use Rattle.protocol.specs.declared.tellings.Told.TheVariants as told
-use Rattle.protocol.specs.Worlds.{World, Operation, is_up, number_of, first_world, happens, run}
+use Rattle.protocol.specs.Worlds.{World, Operation, is_up, number_of, first_brick, first_world, has_old_stores, happens, run}
 use Rattle.protocol.specs.Happenings.{is_marked, writes}
 use Rattle.protocol.specs.Settings.{Setting}
 use Rattle.protocol.specs.Worlds.{Event}
 use Rattle.world.specs.Runs.{brick_of, with_events, world_at}
 use Rattle.world.specs.CallNumbers.{AreCalls, HasCallRoom, calls_in}
 use Rattle.world.specs.Faults.{HoldsOne, IsEventsOf, IsStartOf, IsLeft, IsLeftOpening, IsReached, IsReachedOpening, Finds, plan_of, found_of}
-use Rattle.world.specs.Disks.{ShowsDisk, first_listed, IsUnwritten, KeepsDisks, LeavesContents, ListsPacket, ListsOpening}
+use Rattle.world.specs.Disks.{ShowsDisk, IsFreshList, IsUnwritten, KeepsDisks, LeavesContents, ListsPacket, ListsOpening}
 use Rattle.lines.specs.declared.forms.Fault.{Fault}
 use Rattle.lines.specs.declared.forms.Line.{Line}
-use Rattle.lines.specs.declared.forms.Line.TheVariants.{Calm, Deliver}
+use Rattle.lines.specs.declared.forms.Line.TheVariants.{Suspect, Trust, Spare, Calm, Deliver}
 use Rattle.messages.specs.declared.packets.Packet.{Packet}
 use Rattle.coord_phase.specs.Messages.{packets_from}
 use Rattle.node.specs.Outcomes.{Outcome as Sent}
@@ -164,10 +163,11 @@ pub record ShowsBricks (layout : Layout) (bricks : List Brick) (nodes after : �
   pub count : length bricks ≡ layout.bricks
   pub each : (i : ℕ) (brick : Brick) → slice_get bricks i ≡ Some brick → ShowsBrick layout i brick (nodes i) (after i) (up i) (clocks i)
 
--- A brick as the first world has it: up, its clock at 0, and the list of its disk as long as the first opening left it.
+-- A brick as the first world has it: its clock at 0, and up, and the list of its disk as long as the first opening left it; or its store is of the old format,
+-- and was not opened yet.
 pub record IsFreshBrick (layout : Layout) (i : ℕ) (brick : Brick) : Type 0 where
-  pub shows : ShowsBrick layout i brick (machine.first_node layout) (machine.first_node layout) true 0
-  pub listed : IsListed (shape_at layout (brick_of i)) first_listed (content_of (disk_in brick.power))
+  pub shows : ShowsBrick layout i brick (first_brick layout) (first_brick layout) (not (has_old_stores layout)) 0
+  pub listed : IsFreshList (has_old_stores layout) (shape_at layout (brick_of i)) (content_of (disk_in brick.power))
 
 -- the power of a brick shows one of the machine's
 pub record IsNodeOf (layout : Layout) (i : ℕ) (power : Power) : Type 0 where
@@ -260,7 +260,7 @@ pub record WasCutShort (layout : Layout) (me : BrickId) (state after : machine.N
   pub may : machine.may_open (finds.openings + 1) state ≡ true
   pub reached : IsReachedOpening layout me disk (plan_of fault)
   pub off : ShowsPower layout me state after false power
-  pub left : IsLeftOpening layout me state after disk finds (opening_calls (opens_appendable (shape_at layout me) reached.frames reached.closed)) fault
+  pub left : IsLeftOpening layout me state after disk finds (calls_on_opening (formed reached.form (shape_at layout me)) reached.frames reached.closed) fault
       (disk_in power)
 
 -- or memory was refused
@@ -309,8 +309,8 @@ pub record IsFirst (layout : Layout) (state : Simulation) : Type 0 where
   pub shows : Shows layout state (first_world layout)
   pub course : state.trail.course ≡ record { steps = []; events = [] }
 
--- how many messages a step of a brick sends at most, on a message or as an operation, a proposal or a synchronisation begins: one to each member of a view, and
--- one to each brick of a layout
+-- how many messages a step of a brick sends at most, on a message or as an operation, a proposal, a synchronisation or a scrub begins: one to each member of a
+-- view, and one to each brick of a layout
 abbrev pub most_sent : ℕ
 most_sent = 96
 
@@ -450,10 +450,17 @@ pub record StaysAs (layout : Layout) (old new : Simulation) : Type 0 where
 abbrev pub DeliversAlone : Layout → Simulation → Simulation → ℕ → Type 0
 DeliversAlone layout old new message = (outcome : Outcome) × GoesOn layout old new (Deliver message None) outcome
 
--- the line has no operation run alone
+-- the line asks something of bricks: it speaks of no suspicions
+abbrev pub AsksBricks : Line → Type 0
+AsksBricks (Suspect b c) = ⊥
+AsksBricks (Trust b c) = ⊥
+AsksBricks (Spare b g) = ⊥
+AsksBricks line = Unit {0}
+
+-- so it does, and has no operation run alone
 abbrev pub IsOther : Line → Type 0
 IsOther (Calm n bricks) = ⊥
-IsOther line = Unit {0}
+IsOther line = AsksBricks line
 
 -- no memory was left for an operation to run alone to its end
 abbrev pub StopsShort : Layout → Simulation → Simulation → Line → Type 0

@@ -9,7 +9,7 @@ use Rattle.fab_base.specs.declared.asks.Op.TheVariants.{ReadBlock, WriteBlock, R
 use Rattle.fab_base.specs.declared.answers.Answer.{Answer}
 use Rattle.fab_base.specs.declared.answers.Answer.TheVariants.{Data, Done, Aborted}
 use Rattle.fab_base.specs.declared.answers.Refusal.{Refusal}
-use Rattle.fab_base.specs.Stamps.{ballot_text}
+use Rattle.fab_base.specs.Stamps.{ballot_text, stamp_text}
 use Rattle.fab_base.specs.Texts.{newline, cause_text, refusal_text}
 use Rattle.reg_model.specs.declared.marks.Mark.{Mark}
 use Rattle.reg_model.specs.declared.marks.Mark.TheVariants.{Begin, End}
@@ -19,12 +19,15 @@ use Rattle.protocol.specs.declared.tellings.ViewAnswer.{ViewAnswer}
 use Rattle.protocol.specs.declared.tellings.ViewAnswer.TheVariants.{Decided, Outbid, NotSynced, Moved, BadMembers}
 use Rattle.protocol.specs.declared.tellings.SyncAnswer.{SyncAnswer}
 use Rattle.protocol.specs.declared.tellings.SyncAnswer.TheVariants as sync
+use Rattle.protocol.specs.declared.tellings.ScrubAnswer.{ScrubAnswer}
+use Rattle.protocol.specs.declared.tellings.ScrubAnswer.TheVariants as scrub
 use Rattle.protocol.specs.declared.tellings.Report.{Report}
 use Rattle.protocol.specs.declared.tellings.Report.TheVariants as report
-use Rattle.protocol.specs.Worlds.{World, Event, Invokes, Proposes, Syncs, Delivers, Sets, Ticks, Stops, Starts, is_brick, is_up, may_start, packet_of, happens}
+use Rattle.protocol.specs.Worlds.{World, Event, Invokes, Proposes, Syncs, Scrubs, Delivers, Sets, Ticks, Stops, Starts, is_brick, is_up, may_start, packet_of, happens}
 use Rattle.lines.specs.declared.forms.Line.{Line}
-use Rattle.lines.specs.declared.forms.Line.TheVariants.{Calm}
-use Rattle.world.specs.Runs.{Step, refusal_at, proposal_refusal_at, sync_refusal_at}
+use Rattle.lines.specs.declared.forms.Line.TheVariants.{Suspect, Trust, Spare, Calm}
+use Rattle.world.specs.Suspected.{has_both}
+use Rattle.world.specs.Runs.{Step, refusal_at, proposal_refusal_at, sync_refusal_at, scrub_refusal_at}
 use Rattle.world.specs.declared.simulations.Outcome.{Outcome}
 use Rattle.world.specs.declared.simulations.Outcome.TheVariants.{Marks, Refused, Idle}
 
@@ -81,10 +84,18 @@ sync_answer_text (sync.Synced view) = codes "synced " ++ (decimal view.0 ++ newl
 sync_answer_text (sync.Stopped stripe cause) = codes "stopped " ++ (decimal stripe.0 ++ (codes " " ++ cause_text cause))
 sync_answer_text (sync.Spent stripe) = codes "spent " ++ (decimal stripe.0 ++ newline)
 
+-- how a scrub ended
+abbrev pub scrub_answer_text : ScrubAnswer → List ℕ
+scrub_answer_text scrub.Clean = codes "clean" ++ newline
+scrub_answer_text (scrub.Repaired stamp lagging) = codes "repaired " ++ (stamp_text stamp ++ members_text lagging)
+scrub_answer_text (scrub.Aborted cause) = codes "aborted " ++ cause_text cause
+
 -- what a brick reports, on a line of its own
 abbrev pub report_text : Report → List ℕ
 report_text (report.View group call answer) = codes "view " ++ (decimal group.0 ++ (codes " " ++ view_answer_text answer))
 report_text (report.Sync group answer) = codes "sync " ++ (decimal group.0 ++ (codes " " ++ sync_answer_text answer))
+report_text (report.Scrub call members answer) =
+    codes "scrub " ++ (decimal call.group.0 ++ (codes " " ++ (decimal call.stripe.0 ++ (codes " " ++ scrub_answer_text answer))))
 
 -- what bricks report, in order
 abbrev pub reports_text : List (BrickId × Report) → List ℕ
@@ -108,7 +119,7 @@ new_marks old new = drop (length old.marks) new.marks
 abbrev pub new_reports : World → World → List (BrickId × Report)
 new_reports old new = drop (length old.choices.reports) new.choices.reports
 
--- an operation, a proposal or a synchronisation was refused, or begun
+-- an operation, a proposal, a synchronisation or a scrub was refused, or begun
 abbrev pub refused_or_begun : Option Refusal → Outcome
 refused_or_begun None = Marks
 refused_or_begun (Some refusal) = Refused refusal
@@ -122,6 +133,7 @@ abbrev pub outcome_of : Setting → World → Event → Outcome
 outcome_of setting w (Invokes brick ask) = refused_or_begun (refusal_at setting w brick ask)
 outcome_of setting w (Proposes brick group members) = refused_or_begun (proposal_refusal_at setting w brick group)
 outcome_of setting w (Syncs brick group) = refused_or_begun (sync_refusal_at setting w brick group)
+outcome_of setting w (Scrubs brick group stripe members) = refused_or_begun (scrub_refusal_at setting w brick group stripe members)
 outcome_of setting w (Delivers number) = marks_if (is_deliverable setting w (packet_of w.packets number))
 outcome_of setting w (Sets brick time) = marks_if (is_brick setting.layout brick)
 outcome_of setting w (Ticks brick) = marks_if (is_up setting.layout w brick)
@@ -143,14 +155,22 @@ abbrev pub text_of : Setting → World → List Event → List ℕ
 text_of setting w [] = []
 text_of setting w (event ∷ events) = event_text setting w event ++ text_of setting (happens setting w event) events
 
--- what a line prints that is no event: where an operation was to run alone, that there was nothing to do
-abbrev pub empty_text : Line → List ℕ
-empty_text (Calm n bricks) = idle_text
-empty_text line = []
+-- what a line prints for which the disk must have both bricks
+abbrev pub suspicion_text : Bool → List ℕ
+suspicion_text has = if has then [] else idle_text
+
+-- what a line prints that is no event, on a disk of so many bricks: that there was nothing to do, where an operation was to run alone, where a brick was to
+-- replace what it suspects, and where there is no brick that suspects or none that is suspected
+abbrev pub empty_text : ℕ → Line → List ℕ
+empty_text bricks (Suspect b c) = suspicion_text (has_both bricks b c)
+empty_text bricks (Trust b c) = suspicion_text (has_both bricks b c)
+empty_text bricks (Spare b g) = idle_text
+empty_text bricks (Calm n others) = idle_text
+empty_text bricks line = []
 
 -- what a line prints that is these events
 abbrev pub line_text : Setting → World → Line → List Event → List ℕ
-line_text setting w line [] = empty_text line
+line_text setting w line [] = empty_text setting.layout.bricks line
 line_text setting w line (event ∷ events) = text_of setting w (event ∷ events)
 
 -- what a step prints

@@ -1,21 +1,24 @@
 //! The bricks of a world: each is a disk in memory, and the brick that runs over it while it is up.
 
-ghost use Rattle.std.specs.Prelude.{◌≡◌, ◌≢◌, ◌+◌, ◌^◌, ◌<◌, ◌≤◌, true, false, List, Some, Err, IfOk, IfSome, OnErr, vec_len, length, map};
+ghost use Rattle.std.specs.Prelude.{◌≡◌, ◌≢◌, ◌+◌, ◌^◌, ◌<◌, ◌≤◌, true, false, List, [], Some, Err, IfOk, IfSome, OnErr, vec_len, length, map};
 ghost use Rattle.protocol.specs.Nodes as machine;
 ghost use Rattle.protocol.specs.Nodes.{ticked};
-ghost use Rattle.protocol.specs.Worlds.{first_world};
+ghost use Rattle.protocol.specs.Worlds.{first_world, has_old_stores};
 ghost use Rattle.stripe_code.specs.Codes.{coding};
 ghost use Rattle.coord_phase.specs.Messages.{packets_from};
 ghost use Rattle.fab_disk.specs.MemDisk.{content_of, may_be_left, IsSound};
+ghost use Rattle.frame_store.specs.Images.{OpensAs};
+ghost use Rattle.frame_store.specs.Layouts.{formed};
+ghost use Rattle.frame_store.specs.declared.shapes.Form.TheVariants.{Old};
 ghost use Rattle.brick_store.specs.Images.{IsListed};
 ghost use Rattle.node.specs.Running.{shape_at, state_of};
 ghost use Rattle.world.specs.Faults.{LeftBy, plan_of};
 ghost use Rattle.world.specs.Disks.{ShowsDisk, AreFreshDisks};
 ghost use Rattle.world.specs.Shown.{Rests, Runs, IsFreshBrick, ShowsBricks, Takes, TurnsOn, FindsUp, IsUp, AreBricksOf, AreNodesOf, most_sent, reads_begun, disk_in, disks_of, running_at, unopened};
-ghost use Rattle.world.specs.BrickSteps.{ChangesBrick, RunsOn, DoesBegin, DoesPropose, DoesSync, DoesHandle, DoesStart, Stops};
+ghost use Rattle.world.specs.BrickSteps.{ChangesBrick, RunsOn, DoesBegin, DoesPropose, DoesSync, DoesScrub, DoesHandle, DoesStart, Stops};
 
 use brick_store::OpenFault;
-use fab_base::{Ask, BrickId, GroupId, IoFault, NoMem};
+use fab_base::{Ask, BrickId, GroupId, IoFault, NoMem, StripeNo};
 use fab_disk::{Armed, MemDisk, Plan};
 use layout::Layout;
 use lines::Fault;
@@ -175,7 +178,7 @@ fn open_over(
 /// A disk with a store that was made for a brick, and not opened yet.
 fn fresh_disk(alloc: Global, layout: &Layout, me: BrickId) -> Result<MemDisk, NoMem>
     ensures kept { IfOk result (λ disk. ShowsDisk layout.now me (unopened layout.now) disk × IsSound disk) }
-    ensures listed { IfOk result (λ disk. IsListed (shape_at layout.now me) 0 (content_of disk)) }
+    ensures empty { IfOk result (λ disk. OpensAs (shape_at layout.now me) [] true (content_of disk)) }
 {
     let mut disk = MemDisk::new(alloc, Vec::new(alloc));
     match brick_store::format(alloc, &mut disk, me, layout.block(), layout.records()) {
@@ -185,8 +188,45 @@ fn fresh_disk(alloc: Global, layout: &Layout, me: BrickId) -> Result<MemDisk, No
     }
 }
 
-/// A brick that is up, its store fresh and its clock at 0.
+/// The same, of the old format.
+fn old_disk(alloc: Global, layout: &Layout, me: BrickId) -> Result<MemDisk, NoMem>
+    ensures kept { IfOk result (λ disk. ShowsDisk layout.now me (unopened layout.now) disk × IsSound disk) }
+    ensures empty { IfOk result (λ disk. OpensAs (formed Old (shape_at layout.now me)) [] true (content_of disk)) }
+{
+    let mut disk = MemDisk::new(alloc, Vec::new(alloc));
+    match brick_store::format_one(alloc, &mut disk, me, layout.block(), layout.records()) {
+        Ok(()) => Ok(disk),
+        Err(IoFault::NoMemory) => Err(NoMem::NoMemory),
+        Err(IoFault::Failed) => unreachable!(),
+    }
+}
+
+/// A brick that is down, its store of the old format and not opened yet, and its clock at 0.
+fn old_brick(alloc: Global, layout: &Layout, me: BrickId) -> Result<Brick, NoMem>
+    requires { has_old_stores layout.now ≡ true }
+    ensures { IfOk result (IsFreshBrick layout.now me.0) }
+{
+    let disk = old_disk(alloc, layout, me)?;
+    Ok(Brick {
+        power: Power::Down(disk),
+        clock: 0,
+    })
+}
+
+/// A brick of the first world.
 fn fresh_brick(alloc: Global, layout: &Layout, me: BrickId) -> Result<Brick, NoMem>
+    ensures { IfOk result (IsFreshBrick layout.now me.0) }
+{
+    if layout.store() == 1 {
+        old_brick(alloc, layout, me)
+    } else {
+        new_brick(alloc, layout, me)
+    }
+}
+
+/// A brick that is up, its store fresh and its clock at 0.
+fn new_brick(alloc: Global, layout: &Layout, me: BrickId) -> Result<Brick, NoMem>
+    requires { has_old_stores layout.now ≡ false }
     ensures { IfOk result (IsFreshBrick layout.now me.0) }
 {
     let disk = fresh_disk(alloc, layout, me)?;
@@ -204,7 +244,7 @@ fn with_clock(power: Power, started: Result<bool, NoMem>) -> Result<Brick, NoMem
     }
 }
 
-/// All bricks of a layout, their stores fresh, their clocks at 0.
+/// All bricks of a layout, as the first world has them.
 pub fn fresh_bricks(alloc: Global, layout: &Layout) -> Result<Vec<Brick>, NoMem>
     ensures shows { IfOk result (λ bricks. ShowsBricks layout.now bricks.items (first_world layout.now).nodes (first_world layout.now).after
         (first_world layout.now).up (first_world layout.now).clocks) }
@@ -293,6 +333,28 @@ pub fn ask_to_sync(
     let brick = &mut bricks[number.0 as usize];
     match &mut brick.power {
         Power::Up(node) => node.sync(brick.clock, group),
+        Power::Down(_) => unreachable!(),
+    }
+}
+
+/// A brick that is up is asked to scrub a stripe, so that these members keep one version. After a refusal of any kind no brick has changed.
+pub fn ask_to_scrub(
+    bricks: &mut Vec<Brick>,
+    number: BrickId,
+    group: GroupId,
+    stripe: StripeNo,
+    members: &[BrickId],
+) -> Result<Outs, NodeFault>
+    requires { IsUp bricks.old.items number }
+    ensures asks { ChangesBrick bricks.old.items bricks.new.items number (RunsOn (DoesScrub group stripe members.now result)) }
+    ensures few { IfOk result (λ outs. length outs.messages ≤ most_sent) }
+    ensures reads { IfOk result (λ outs. reads_begun outs.told ≤ 1) }
+    ensures not_halted { result ≢ Err NodeFault.Halted }
+    ensures not_disk { result ≢ Err NodeFault.Disk }
+{
+    let brick = &mut bricks[number.0 as usize];
+    match &mut brick.power {
+        Power::Up(node) => node.scrub(brick.clock, group, stripe, members),
         Power::Down(_) => unreachable!(),
     }
 }

@@ -17,7 +17,7 @@ use protocol::{Answered, Report, Told};
 use reg_model::Mark;
 use std::alloc::Global;
 
-/// The most packets that a step of a brick sends on a message, or as an operation, a proposal or a synchronisation begins: one to each member of a view, and
+/// The most packets that a step of a brick sends on a message, or as an operation, a proposal, a synchronisation or a scrub begins: one to each member of a view, and
 /// one to each brick of a layout.
 const MOST_PACKETS: usize = 96;
 
@@ -50,14 +50,14 @@ pub struct OperationRecord {
     pub mark: u64,
 }
 
-/// What happened. Operations are by number, from 1: those that clients ask for, which have marks, and the reads of synchronisations, which have none. The number
-/// of an operation is by its brick and call, a brick that starts again counting its calls from 1; and of one that has marks by these.
+/// What happened. Operations are by number, from 1: those that clients ask for, which have marks, and the reads of synchronisations and the scrubs, which have none.
+/// The number of an operation is by its brick and call, a brick that starts again counting its calls from 1; and of one that has marks by these.
 #[derive(Drop)]
 pub struct History {
     pub sent: Sendings,
     pub delivered: Deliveries,
     pub marks: Vec<Mark>,
-    /// What bricks reported of their proposals and synchronisations, in order.
+    /// What bricks reported of their proposals, synchronisations and scrubs, in order.
     pub reports: Vec<(BrickId, Report)>,
     pub operations: Vec<OperationRecord>,
     /// The number of each operation that has marks, in the order of their Begins.
@@ -184,6 +184,7 @@ impl History {
     ghost use Rattle.world.specs.Noted.{IsSameHistory, NotesBegin, NotesRead, NotesCrash, ChangesCall, NotesTold, NotesEnds, NotesStep, NotesProposal, calls_aside};
 
     /// Nothing yet.
+    #[tactic(auto, using(crate::proofs::CallNumbers::none_called))]
     pub fn new(alloc: Global) -> History
         ensures { (layout : Layout) → Tells result (first_world layout) }
     {
@@ -211,7 +212,7 @@ impl History {
         Ok(())
     }
 
-    /// Makes room for what one step of a brick adds, where that opens a call: an operation, a proposal, or a read of a synchronisation.
+    /// Makes room for what one step of a brick adds, where that opens a call: an operation, a proposal, a scrub, or a read of a synchronisation.
     pub fn expect_call(&mut self, alloc: Global, brick: BrickId) -> Result<(), NoMem>
         ensures room { OnOk result (HasStepRoom self.new) }
         ensures call { OnOk result (HasCallRoom self.new.calls brick.0) }
@@ -356,7 +357,7 @@ impl History {
         }
     }
 
-    /// Notes that a brick begins a read of a synchronisation under its next call: an operation without marks.
+    /// Notes that a brick begins a scrub, or a read of a synchronisation, under its next call: an operation without marks.
     fn open_read(&mut self, brick: BrickId, call: Call)
         requires { HasReadRoom self.old brick }
         ensures { NotesRead self.old self.new brick call }

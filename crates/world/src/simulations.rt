@@ -2,12 +2,12 @@
 
 ghost use Rattle.std.specs.Prelude.{◌≡◌, Some, IfNone, IfSome, IfOk, map};
 ghost use Rattle.protocol.specs.Nodes as machine;
-ghost use Rattle.protocol.specs.Nodes.{refusal_of, proposal_refusal, sync_refusal};
-ghost use Rattle.world.specs.Runs.{ask_of, block_no, group_no, member_no, op_of};
+ghost use Rattle.protocol.specs.Nodes.{refusal_of, proposal_refusal, sync_refusal, scrub_refusal};
+ghost use Rattle.world.specs.Runs.{ask_of, block_no, group_no, stripe_no, member_no, op_of};
 
 use crate::bricks::{
-    Brick, ask_brick, ask_to_propose, ask_to_sync, boot_of, find_up, fresh_bricks, hand_over,
-    start_brick, stop_brick, tick_brick,
+    Brick, ask_brick, ask_to_propose, ask_to_scrub, ask_to_sync, boot_of, find_up, fresh_bricks,
+    hand_over, start_brick, stop_brick, tick_brick,
 };
 use crate::histories::{History, packet_at};
 use crate::trails::{Shelf, Trail};
@@ -40,6 +40,8 @@ pub enum Outcome {
 fn place_of(layout: &Layout, group: u64, stripe: u64) -> Option<(GroupId, StripeNo)>
     ensures none { IfNone result ((node : machine.Node) (op : _)
         → refusal_of layout.now node (ask_of group stripe op) ≡ Some Refusal.NoStripe) }
+    ensures unscrubbed { IfNone result ((node : machine.Node) (members : _)
+        → scrub_refusal layout.now node (group_no group) (stripe_no stripe) members ≡ Some Refusal.NoStripe) }
     ensures some { IfSome result (λ place. (place.0.0 ≡ group) × (place.1.0 ≡ stripe)) }
 {
     if group >= layout.group_count() as u64 {
@@ -66,8 +68,8 @@ fn group_of(layout: &Layout, group: u64) -> Option<GroupId>
     }
 }
 
-/// A member of a number, as a brick is asked to propose it.
-fn member_no(number: u64) -> BrickId
+/// A member of a number, as a brick is asked for it.
+pub fn member_no(number: u64) -> BrickId
     ensures { result ≡ member_no number }
 {
     if number < 65536 {
@@ -77,7 +79,7 @@ fn member_no(number: u64) -> BrickId
     }
 }
 
-/// The members of these numbers, as a brick is asked to propose them.
+/// The members of these numbers, as a brick is asked for them.
 fn members_of(alloc: Global, numbers: &[u64]) -> Result<Vec<BrickId>, NoMem>
     ensures { IfOk result (λ members. members.items ≡ map member_no numbers.now) }
 {
@@ -111,11 +113,11 @@ fn op_of(alloc: Global, access: &Access) -> Result<Op, NoMem>
 
 impl Simulation {
     ghost use Rattle.std.specs.Prelude.{None, map, IfOk, OnOk, OnErr};
-    ghost use Rattle.protocol.specs.Worlds.Event.{Invokes, Proposes, Syncs, Sets, Ticks, Stops};
+    ghost use Rattle.protocol.specs.Worlds.Event.{Invokes, Proposes, Syncs, Scrubs, Sets, Ticks, Stops};
     ghost use Rattle.lines.specs.declared.forms.Line.TheVariants.{Deliver, Start, Calm};
-    ghost use Rattle.world.specs.Runs.{brick_of, ask_of, group_no, member_no, op_of};
+    ghost use Rattle.world.specs.Runs.{brick_of, ask_of, group_no, stripe_no, member_no, op_of};
     ghost use Rattle.world.specs.Disks.{AreFreshDisks};
-    ghost use Rattle.world.specs.Shown.{FindsUp, IsFirst, Stands, IsUp, IsOther, MayRun, RunsAloneTo, BeginsAloneTo, GoesOn, DeliversAlone, StopsShort, RunsLine, RefusesLine, TakesEvent, StaysAs, disks_of};
+    ghost use Rattle.world.specs.Shown.{FindsUp, IsFirst, Stands, IsUp, AsksBricks, IsOther, MayRun, RunsAloneTo, BeginsAloneTo, GoesOn, DeliversAlone, StopsShort, RunsLine, RefusesLine, TakesEvent, StaysAs, disks_of};
 
     /// All bricks up, their stores fresh, their clocks at 0, and nothing sent.
     pub fn new(alloc: Global, layout: &Layout) -> Result<Simulation, NoMem>
@@ -129,10 +131,11 @@ impl Simulation {
         })
     }
 
-    /// Runs a line. After a refusal for want of memory the state shows what it showed, or what the first deliveries of an operation that runs alone
-    /// leave.
+    /// Runs a line that speaks of no suspicions. After a refusal for want of memory the state shows what it showed, or what the first deliveries of an
+    /// operation that runs alone leave.
     pub fn run(&mut self, alloc: Global, layout: &Layout, line: &Line) -> Result<Outcome, NoMem>
-        requires { Stands layout.now self.old }
+        requires stands { Stands layout.now self.old }
+        requires line { AsksBricks line.now }
         ensures ok { IfOk result (GoesOn layout.now self.old self.new line.now) }
         ensures err { OnErr result (RefusesLine layout.now self.old self.new line.now) }
     {
@@ -144,7 +147,7 @@ impl Simulation {
         }
     }
 
-    /// Runs a line that has no operation run alone.
+    /// Runs a line that asks something of bricks, and has no operation run alone.
     fn take(&mut self, alloc: Global, layout: &Layout, line: &Line) -> Result<Outcome, NoMem>
         requires stands { Stands layout.now self.old }
         requires line { IsOther line.now }
@@ -183,6 +186,15 @@ impl Simulation {
                 members,
             } => self.propose(alloc, layout, *brick, *group, members.as_slice()),
             Line::Sync { brick, group } => self.sync(alloc, layout, *brick, *group),
+            Line::Scrub {
+                brick,
+                group,
+                stripe,
+                members,
+            } => self.scrub(alloc, layout, *brick, *group, *stripe, members.as_slice()),
+            Line::Suspect { .. } => unreachable!(),
+            Line::Trust { .. } => unreachable!(),
+            Line::Spare { .. } => unreachable!(),
             Line::Calm { .. } => unreachable!(),
         }
     }
@@ -346,6 +358,59 @@ impl Simulation {
         }
     }
 
+    /// Asks a brick to scrub a stripe, so that these members keep one version.
+    fn scrub(
+        &mut self,
+        alloc: Global,
+        layout: &Layout,
+        brick: u64,
+        group: u64,
+        stripe: u64,
+        members: &[u64],
+    ) -> Result<Outcome, NoMem>
+        requires { Stands layout.now self.old }
+        ensures ok { IfOk result (TakesEvent layout.now self.old self.new (Scrubs (brick_of brick) (group_no group) (stripe_no stripe) (map member_no members.now))) }
+        ensures err { OnErr result (StaysAs layout.now self.old self.new) }
+    {
+        let brick = match self.find_up(layout, brick) {
+            Some(brick) => brick,
+            None => return Ok(Outcome::Refused(Refusal::Down)),
+        };
+        let (group, stripe) = match place_of(layout, group, stripe) {
+            Some(place) => place,
+            None => return Ok(Outcome::Refused(Refusal::NoStripe)),
+        };
+        let members = members_of(alloc, members)?;
+        self.begin_scrub(alloc, layout, brick, group, stripe, &members)
+    }
+
+    /// A brick begins a scrub, or refuses it.
+    fn begin_scrub(
+        &mut self,
+        alloc: Global,
+        _layout: &Layout,
+        brick: BrickId,
+        group: GroupId,
+        stripe: StripeNo,
+        members: &[BrickId],
+    ) -> Result<Outcome, NoMem>
+        requires up { IsUp self.old.bricks.items brick }
+        requires stands { Stands _layout.now self.old }
+        ensures ok { IfOk result (TakesEvent _layout.now self.old self.new (Scrubs brick group stripe members.now)) }
+        ensures err { OnErr result (StaysAs _layout.now self.old self.new) }
+    {
+        self.history.expect_call(alloc, brick)?;
+        match ask_to_scrub(&mut self.bricks, brick, group, stripe, members) {
+            Ok(outs) => {
+                self.history.step(brick, outs);
+                Ok(Outcome::Marks)
+            }
+            Err(NodeFault::Refused(refusal)) => Ok(Outcome::Refused(refusal)),
+            Err(NodeFault::NoMemory) => Err(NoMem::NoMemory),
+            Err(NodeFault::Halted | NodeFault::Disk) => unreachable!(),
+        }
+    }
+
     /// Delivers the message of a number, and this is to befall a call of its receiver's disk in the midst of that.
     fn deliver(
         &mut self,
@@ -397,7 +462,7 @@ impl Simulation {
         Outcome::Marks
     }
 
-    /// A brick's clock ticks: it sends again what its open operations, its proposal and its synchronisation wait for.
+    /// A brick's clock ticks: it sends again what its open operations, its proposal, its synchronisation and its scrub wait for.
     fn tick(&mut self, layout: &Layout, brick: u64) -> Result<Outcome, NoMem>
         requires { Stands layout.now self.old }
         ensures ok { IfOk result (TakesEvent layout.now self.old self.new (Ticks (brick_of brick))) }
@@ -412,7 +477,7 @@ impl Simulation {
         Ok(Outcome::Marks)
     }
 
-    /// A brick stops: its open operations, its proposal and its synchronisation are gone, and what it keeps of stripes, views and ballots stays.
+    /// A brick stops: its open operations, its proposal, its synchronisation and its scrub are gone, and what it keeps of stripes, views and ballots stays.
     fn crash(&mut self, alloc: Global, layout: &Layout, brick: u64) -> Result<Outcome, NoMem>
         requires { Stands layout.now self.old }
         ensures ok { IfOk result (TakesEvent layout.now self.old self.new (Stops (brick_of brick) None)) }

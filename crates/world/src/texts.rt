@@ -1,10 +1,10 @@
 //! The text of marks, a line each.
 
 ghost use Rattle.std.specs.Prelude.{◌≡◌, IfOk, string_bytes};
-ghost use Rattle.world.specs.Texts.{mark_text, marks_text, answer_text, ask_text, members_text, view_answer_text, sync_answer_text, report_text, reports_text, idle_text};
+ghost use Rattle.world.specs.Texts.{mark_text, marks_text, answer_text, ask_text, members_text, view_answer_text, sync_answer_text, scrub_answer_text, report_text, reports_text, idle_text};
 
 use fab_base::{Answer, Ask, BrickId, NoMem, Op};
-use protocol::{Report, SyncAnswer, ViewAnswer};
+use protocol::{Report, ScrubAnswer, SyncAnswer, ViewAnswer};
 use reg_model::Mark;
 use std::alloc::Global;
 
@@ -137,6 +137,23 @@ fn sync_answer_text(alloc: Global, answer: &SyncAnswer) -> Result<String, NoMem>
     })
 }
 
+/// How a scrub ended.
+fn scrub_answer_text(alloc: Global, answer: &ScrubAnswer) -> Result<String, NoMem>
+    ensures { IfOk result (λ text. string_bytes text ≡ scrub_answer_text answer.now) }
+{
+    Ok(match answer {
+        ScrubAnswer::Clean => format!(in alloc; "clean\n")?,
+        ScrubAnswer::Repaired { stamp, lagging } => {
+            let lagging = members_text(alloc, lagging.as_slice())?;
+            format!(in alloc; "repaired {stamp}{lagging}")?
+        }
+        ScrubAnswer::Aborted { cause } => {
+            let cause = cause.text(alloc)?;
+            format!(in alloc; "aborted {cause}")?
+        }
+    })
+}
+
 /// What a brick reported, on a line of its own.
 fn report_text(alloc: Global, report: &Report) -> Result<String, NoMem>
     ensures { IfOk result (λ text. string_bytes text ≡ report_text report.now) }
@@ -155,6 +172,15 @@ fn report_text(alloc: Global, report: &Report) -> Result<String, NoMem>
             let group = group.0;
             let answer = sync_answer_text(alloc, answer)?;
             format!(in alloc; "sync {group} {answer}")?
+        }
+        Report::Scrub {
+            call,
+            members: _,
+            answer,
+        } => {
+            let (group, stripe) = (call.group.0, call.stripe.0);
+            let answer = scrub_answer_text(alloc, answer)?;
+            format!(in alloc; "scrub {group} {stripe} {answer}")?
         }
     })
 }

@@ -1,20 +1,22 @@
 //! The world: a run of steps over the disk of a layout.
 
-ghost use Rattle.std.specs.Prelude.{◌≡◌, IfOk};
-ghost use Rattle.world.specs.Texts.{outcome_text};
+ghost use Rattle.std.specs.Prelude.{◌≡◌, IfOk, map};
+ghost use Rattle.world.specs.Suspected.{group_asked};
+ghost use Rattle.world.specs.Texts.{marks_if, outcome_text};
 
 use crate::bricks::Power;
-use crate::simulations::{Outcome, Simulation};
+use crate::simulations::{Outcome, Simulation, member_no};
 use crate::stripe_entries::StripeEntries;
 use crate::texts::{idle_text, marks_text, reports_text};
 use crate::trails::Trail;
 use crate::walks;
-use fab_base::{BrickId, Bytes, GroupId, NoMem, Refusal, StripeNo, View};
+use fab_base::{BrickId, Bytes, GroupId, Members, NoMem, Refusal, StripeNo, View};
 use layout::Layout;
-use lines::{Line, parse};
+use lines::{BrickList, Line, parse};
 use messages::Packet;
 use protocol::Report;
 use reg_model::{Happening, Mark};
+use spares::Spares;
 use std::alloc::Global;
 use std::marker::Model;
 
@@ -25,6 +27,7 @@ pub struct World {
     alloc: Global,
     layout: Layout,
     simulation: Simulation,
+    spares: Spares,
 }
 
 impl Model for World {
@@ -51,6 +54,7 @@ impl Drop for World {
             alloc: _,
             layout: _,
             simulation: _,
+            spares: _,
         } = self;
     }
 }
@@ -95,30 +99,67 @@ fn print(
     }
 }
 
+/// The group of a number, as a brick is asked for it: every number past 2^32 is as far past the last group as that is.
+fn group_asked(number: u64) -> GroupId
+    ensures { result.0 ≡ group_asked number }
+{
+    if number < 4_294_967_296 {
+        GroupId(number as u32)
+    } else {
+        GroupId(u32::MAX)
+    }
+}
+
+/// The numbers of bricks.
+fn numbers_of(alloc: Global, bricks: &[BrickId]) -> Result<BrickList, NoMem>
+    ensures { IfOk result (λ numbers. numbers ≡ map (λ brick. brick.0) bricks.now) }
+{
+    let mut numbers = Vec::with_capacity(alloc, bricks.len())?;
+    for brick in bricks {
+        numbers.push(u64::from(brick.0))?;
+    }
+    Ok(BrickList::from_vec(numbers))
+}
+
+/// What a line comes to that is no event.
+fn done_if(done: bool) -> Outcome
+    ensures { result ≡ marks_if done }
+{
+    if done { Outcome::Marks } else { Outcome::Idle }
+}
+
 impl World {
-    ghost use Rattle.std.specs.Prelude.{◌≡◌, ◌<◌, ◌≤◌, ℕ, [], None, IfOk, IfSome, IfNone, OnOk, OnErr, IsErrOf, length};
+    ghost use Rattle.std.specs.Prelude.{◌≡◌, ◌<◌, ◌≤◌, ℕ, [], None, IfOk, IfSome, IfNone, OnOk, OnErr, IsErrOf, length, map};
     ghost use Rattle.std.specs.Option.{option_map};
+    ghost use Rattle.lines.specs.declared.forms.Line.{Line};
+    ghost use Rattle.lines.specs.declared.forms.Line.TheVariants.{Suspect, Trust, Spare};
     ghost use Rattle.replica.specs.Parts.{log_seen};
     ghost use Rattle.lines.specs.Grammar.{line_of};
     ghost use Rattle.stripe_code.specs.Codes.{coding};
     ghost use Rattle.protocol.specs.Happenings.{happenings_of};
     ghost use Rattle.world.specs.Runs.{world_of};
     ghost use Rattle.world.specs.Disks.{ShowsDisks, HasFreshDisks};
-    ghost use Rattle.world.specs.Steps.{Ran, RunsTo, HasRun, LeavesSome, Stands, log_at, learnt_at, proposer_at};
+    ghost use Rattle.world.specs.Shown.{AsksBricks};
+    ghost use Rattle.spares.specs.Suspicions.{suspects};
+    ghost use Rattle.spares.specs.Replacements.{list_for};
+    ghost use Rattle.world.specs.Suspected.{proposer_at, spare_list, suspicions_of};
+    ghost use Rattle.world.specs.Steps.{Ran, RunsTo, HasRun, LeavesSome, LeavesAside, LoneScrubsEnd, Grows, Stands, log_at, learnt_at};
     ghost use Rattle.world.specs.Walks.{AreEntriesOf};
 
-    /// All bricks up, their stores fresh, their clocks at 0, and nothing sent.
+    /// Stores fresh, clocks at 0, and nothing sent. All bricks are up, or, where their stores are of the old format, down.
     pub fn new(alloc: Global, layout: Layout) -> Result<World, NoMem>
         ensures first { IfOk result (λ world. world ≡ record { layout = layout; steps = []; disks = world.disks }) }
         ensures disks { IfOk result ShowsDisks }
-        // Each store was opened once: its list of frames is as long as that leaves it.
+        // Each store was opened once: its list of frames is as long as that leaves it. That of an old store is empty.
         ensures fresh { IfOk result HasFreshDisks }
     {
         let simulation = Simulation::new(alloc, &layout)?;
+        let spares = Spares::new(alloc, &layout)?;
         Ok(World {
             alloc,
             layout,
             simulation,
+            spares,
         })
     }
 
@@ -131,6 +172,10 @@ impl World {
     /// alone, the deliveries before that stay.
     pub fn step(&mut self, content: &[u8]) -> Result<Bytes, StepFault>
         ensures ok { IfOk result (λ text. Ran self.old self.new content.now text) }
+        // `suspect` and `trust` change nothing of the machine, and no `spare` ends in a list that may not keep its group.
+        ensures aside { IfOk result (λ _. (line : Line) → line_of content.now ≡ Some line → LeavesAside self.old self.new line) }
+        // A scrub that has run alone since it began has ended, clean or repaired, or has a message left that goes next.
+        ensures scrubs { IfOk result (λ _. LoneScrubsEnd self.new) }
         ensures bad { IsErrOf result StepFault.BadLine → (line_of content.now ≡ None) × (self.new ≡ self.old) }
         ensures memory { Stands self.old self.new content.now result }
         // Whatever it answers, each disk keeps what the machine's brick keeps.
@@ -138,6 +183,8 @@ impl World {
     {
         let marks = self.simulation.history.marks.len();
         let reports = self.simulation.history.reports.len();
+        // It tells that the layout is within its limits.
+        let _ = self.layout.bricks();
         let line = match parse(self.alloc, content)? {
             Some(line) => line,
             None => return Err(StepFault::BadLine),
@@ -171,8 +218,94 @@ impl World {
     /// Runs a line.
     fn run(&mut self, line: &Line) -> Result<Outcome, NoMem>
         ensures ok { IfOk result (λ outcome. RunsTo self.old self.new line.now outcome) }
-        ensures grow { OnOk result ((length (world_of self.old).marks ≤ length (world_of self.new).marks)
-            × (length (world_of self.old).choices.reports ≤ length (world_of self.new).choices.reports)) }
+        ensures grow { OnOk result (Grows self.old self.new) }
+        ensures err { OnErr result (LeavesSome self.old self.new line.now) }
+        ensures disks { ShowsDisks self.new }
+    {
+        match line {
+            Line::Suspect { by, brick } => Ok(self.suspect(line, *by, *brick)),
+            Line::Trust { by, brick } => Ok(self.trust(line, *by, *brick)),
+            Line::Spare { brick, group } => self.spare(line, *brick, *group),
+            _ => self.ask(line),
+        }
+    }
+
+    /// One brick suspects another from now on.
+    fn suspect(&mut self, line: &Line, by: u64, brick: u64) -> Outcome
+        requires { line.now ≡ Suspect by brick }
+        ensures ok { RunsTo self.old self.new line.now result }
+        ensures grow { Grows self.old self.new }
+        ensures disks { ShowsDisks self.new }
+    {
+        // It tells that the layout is within its limits.
+        let _ = self.layout.bricks();
+        let both = self.spares.suspect(member_no(by), member_no(brick));
+        self.simulation.trail = Trail::ended(&self.simulation.trail, line);
+        done_if(both)
+    }
+
+    /// One brick no longer suspects another.
+    fn trust(&mut self, line: &Line, by: u64, brick: u64) -> Outcome
+        requires { line.now ≡ Trust by brick }
+        ensures ok { RunsTo self.old self.new line.now result }
+        ensures grow { Grows self.old self.new }
+        ensures disks { ShowsDisks self.new }
+    {
+        // It tells that the layout is within its limits.
+        let _ = self.layout.bricks();
+        let both = self.spares.trust(member_no(by), member_no(brick));
+        self.simulation.trail = Trail::ended(&self.simulation.trail, line);
+        done_if(both)
+    }
+
+    /// Has a brick propose the list in which those that it suspects are replaced, if a seat changes.
+    fn spare(&mut self, line: &Line, brick: u64, group: u64) -> Result<Outcome, NoMem>
+        requires { line.now ≡ Spare brick group }
+        ensures ok { IfOk result (λ outcome. RunsTo self.old self.new line.now outcome) }
+        ensures grow { OnOk result (Grows self.old self.new) }
+        ensures err { OnErr result (LeavesSome self.old self.new line.now) }
+        ensures disks { ShowsDisks self.new }
+    {
+        let Some(members) = self.spare_list(brick, group)? else {
+            self.simulation.trail = Trail::ended(&self.simulation.trail, line);
+            return Ok(Outcome::Idle);
+        };
+        let asked = Line::Propose {
+            brick,
+            group,
+            members,
+        };
+        match self.simulation.run(self.alloc, &self.layout, &asked) {
+            Ok(outcome) => {
+                self.simulation.trail = Trail::ended(&self.simulation.trail, line);
+                Ok(outcome)
+            }
+            Err(refused) => Err(refused),
+        }
+    }
+
+    /// The list that a brick is to propose, if a seat changes. One that refuses is to propose none, and refuses that.
+    fn spare_list(&self, brick: u64, group: u64) -> Result<Option<BrickList>, NoMem>
+        ensures { IfOk result (λ list. list ≡ option_map (λ members. map (λ member. member.0) members) (spare_list self.now brick group)) }
+    {
+        // It tells that the layout is within its limits.
+        let _ = self.layout.bricks();
+        let by = member_no(brick);
+        let view = match self.proposer(by, group_asked(group)) {
+            Ok(view) => view,
+            Err(_) => return Ok(Some(BrickList::from_vec(Vec::new(self.alloc)))),
+        };
+        match self.replaced(by, &view) {
+            None => Ok(None),
+            Some(members) => Ok(Some(numbers_of(self.alloc, members.as_slice())?)),
+        }
+    }
+
+    /// Runs a line that speaks of no suspicions.
+    fn ask(&mut self, line: &Line) -> Result<Outcome, NoMem>
+        requires { AsksBricks line.now }
+        ensures ok { IfOk result (λ outcome. RunsTo self.old self.new line.now outcome) }
+        ensures grow { OnOk result (Grows self.old self.new) }
         ensures err { OnErr result (LeavesSome self.old self.new line.now) }
         ensures disks { ShowsDisks self.new }
     {
@@ -205,7 +338,7 @@ impl World {
         self.simulation.history.marks.as_slice()
     }
 
-    /// What bricks reported of their proposals and synchronisations, in order, each with its brick.
+    /// What bricks reported of their proposals, synchronisations and scrubs, in order, each with its brick.
     pub fn reports(&self) -> &[(BrickId, Report)]
         ensures { result.now ≡ (world_of self.now).choices.reports }
     {
@@ -281,6 +414,20 @@ impl World {
             return Err(Refusal::Busy);
         }
         Ok(view)
+    }
+
+    /// Whether one brick suspects another.
+    pub fn suspects(&self, by: BrickId, brick: BrickId) -> bool
+        ensures { result ≡ suspects (suspicions_of self.now) by brick }
+    {
+        self.spares.suspects(by, brick)
+    }
+
+    /// The members of a view, each that a brick suspects replaced by a spare while one is left. None exactly where no seat changes.
+    pub fn replaced(&self, brick: BrickId, view: &View) -> Option<Members>
+        ensures { result ≡ list_for (suspicions_of self.now) brick view.now.members }
+    {
+        self.spares.list(brick, view)
     }
 
     /// The entries of all stripes' operations, for `happenings_among`.

@@ -8,7 +8,7 @@ pub returns-in-Ok-made-clause-makes : goal.returns-in-Ok-made-clause-makes
 returns-in-Ok-made-clause-makes g c = (
   refl,
   (
-    c.format-made.new.disk,
+    c.make_on-made.new.disk,
     record {
       asked = c.keep_disk.ensures.asked ∙ c.in-Ok.ensures.asked;
       later = rw (c.keep_disk.ensures.faults) c.in-Ok.ensures.kept.later;
@@ -16,13 +16,13 @@ returns-in-Ok-made-clause-makes g c = (
     },
     λ tells.
         let stands = c.in-Ok-made.ensures.change.whole refl tells in
-        fresh _ _ _ _ _ _ _ c.block.ensures c.records.ensures.value stands.has (leaves _ _ _ stands),
+        fresh _ _ _ _ _ _ _ _ c.block.ensures c.records.ensures.value c.store-is_old.ensures stands.has (leaves _ _ _ stands) (c.in-Ok-made.ensures.form tells),
   ),
 )
 
 pub returns-in-Err-NoMemory-made-clause-makes : goal.returns-in-Err-NoMemory-made-clause-makes
 returns-in-Err-NoMemory-made-clause-makes g c = inr (
-  c.format-made.new.disk,
+  c.make_on-made.new.disk,
   record {
     asked = c.keep_disk.ensures.asked ∙ c.in-Ok.ensures.asked;
     later = rw (c.keep_disk.ensures.faults) c.in-Ok.ensures.kept.later;

@@ -5,7 +5,7 @@ use Rattle.frame_store.specs.declared.shapes.Shape.{Shape}
 use Rattle.frame_store.specs.Listed.{size_of}
 use Rattle.frame_store.specs.Stores.{HasRoom}
 use Rattle.brick_state.specs.Indexes.{state_of}
-use Rattle.brick_store.proofs.Stepping.{call_refused, room_less}
+use Rattle.brick_store.proofs.Stepping.{call_refused, room_less, ahead_new, reserved_new}
 use Rattle.brick_store.proofs.StateChanges.{unbegun, reserve_failed}
 use Rattle.brick_store.proofs.ListAnswers.{reserved_made}
 use Rattle.brick_store.proofs.commits.rewrite.Goals as goal
@@ -71,6 +71,7 @@ returns-clause-room g c =
     let bytes = mid.shape.block + c.args.body + 7 in
     let before : HasRoom d.has_room mid (6 + 7) (bytes + (size_of live + 34)) (c.args.body + 6) =
     room_less d.has_room g.met.D.Disk.room_for_less mid _ _ _ _ _ _ (omega arith) (omega (arith, size, ap (λ (s : Shape). s.block) reserved.same.shape))
-    (omega arith) reserved.room in
+    (omega arith) (ahead_new d.has_room mid c.deref.result.now c.args.body (reserved_new c.args.frames.now mid c.requires.store.may.slotted reserved.same)
+    reserved.room) in
     room_less d.has_room g.met.D.Disk.room_for_less new _ _ _ _ _ _ (omega arith) (omega (arith, ap (λ (s : Shape). s.block) call.ok.shape)) (omega arith)
     (call.left 6 bytes (c.args.body + 6) before)

@@ -1,5 +1,5 @@
 -- A list that can be appended to needs nothing but room in memory and a sync.
-use Rattle.std.proofs.Common.{rules, ◌≡◌, ◌+◌, ◌≤◌, ◌∙◌, ℕ, Bool, List, true, false, if◌then◌else◌, Ok, sym, ap, subst, arith}
+use Rattle.std.proofs.Common.{rules, ◌≡◌, ◌+◌, ◌≤◌, ◌∙◌, ℕ, Bool, List, [], true, false, if◌then◌else◌, Ok, sym, ap, subst, arith}
 use Rattle.std.specs.Prelude.{IsOk}
 use Rattle.std.proofs.lemmas.Result.{err_from_is_err_and}
 use Rattle.frame_store.specs.declared.faults.FrameFault.{FrameFault}
@@ -19,7 +19,7 @@ use Rattle.brick_store.proofs.OpeningLaws.{ready_by}
 use Rattle.brick_store.proofs.Cutting.{disk_meant}
 use Rattle.brick_store.proofs.CutOpenings.{run_clock, sync_cut}
 use Rattle.frame_store.specs.declared.shapes.Shape.{Shape}
-use Rattle.brick_store.proofs.Stepping.{refused, room_less}
+use Rattle.brick_store.proofs.Stepping.{refused, room_less, ahead_new, reserved_new}
 use Rattle.brick_store.proofs.fresh_lists.make_appendable.Goals as goal
 
 -- one call is no more than what the opening makes first
@@ -35,8 +35,9 @@ returns-then-is_appendable-clause-room g c =
     let new = c.sync.new.self in
     let made = c.in_ok-reserve.ensures in
     let call = c.in_ok-sync.ensures in
-    let block : new.shape.block ≡ old.shape.block = ap (λ (s : Shape). s.block) (call.same.shape ∙ made.same.shape) in
-    room_less d.has_room g.met.D.Disk.room_for_less new _ _ _ _ _ _ (omega arith) (omega (arith, block)) (omega arith) (call.left 12 _ _ made.room)
+    let block : new.shape.block ≡ mid.shape.block = ap (λ (s : Shape). s.block) call.same.shape in
+    room_less d.has_room g.met.D.Disk.room_for_less new _ _ _ _ _ _ (omega arith) (omega (arith, block)) (omega arith) (call.left 12 _ _
+    (ahead_new d.has_room mid [] c.args.body (reserved_new old mid c.requires.held.slotted made.same) made.room))
 
 pub returns-then-is_appendable-clause-listed : goal.returns-then-is_appendable-clause-listed
 returns-then-is_appendable-clause-listed g c =

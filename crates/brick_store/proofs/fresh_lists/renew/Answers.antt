@@ -5,6 +5,7 @@ use Rattle.std.proofs.lemmas.Result.{err_from_is_err_and}
 use Rattle.frame_store.specs.declared.faults.FrameFault.{FrameFault}
 use Rattle.frame_store.specs.declared.frames.Frame.{Frame}
 use Rattle.frame_store.specs.declared.shapes.Shape.{Shape}
+use Rattle.frame_store.specs.Layouts.{is_old}
 use Rattle.frame_store.specs.Listed.{size_of}
 use Rattle.frame_store.specs.Stores.{HasRoom}
 use Rattle.frame_store.specs.Ends.{end_of}
@@ -21,7 +22,7 @@ use Rattle.fab_disk.proofs.Plans.{run_as, run_after, run_both}
 use Rattle.frame_store.specs.declared.faults.FrameFault.TheVariants as frames
 use Rattle.brick_store.specs.declared.faults.StoreFault.{StoreFault}
 use Rattle.brick_store.proofs.Counting.{disk_failed}
-use Rattle.brick_store.proofs.Stepping.{memory_refused, refused, room_less}
+use Rattle.brick_store.proofs.Stepping.{memory_refused, refused, room_less, ahead_new, reserved_new}
 use Rattle.brick_store.proofs.Cutting.{disk_meant}
 use Rattle.brick_store.proofs.OpeningLaws.{ready_by}
 use Rattle.brick_store.proofs.CutOpenings.{run_clock, sync_cut, rewrite_cut}
@@ -74,7 +75,7 @@ returns-in_err-rewrite-clause-readies g c =
     let leads = live_lead (limits_of old.shape) c.in_ok-live.live.items st c.requires.held.kept c.in_ok-live.ensures.read in
     let size = ap size_of c.deref.ensures.value in
     let never = call.room (room_less d.has_room g.met.D.Disk.room_for_less held _ _ _ _ _ _ (omega arith) (omega (arith, size)) (omega (arith, size))
-    (synced.left 12 _ _ made.room)) in
+    (synced.left 12 _ _ (ahead_new d.has_room c.reserve.new.self c.deref.result.now c.args.body (reserved_new c.args.frames.now c.reserve.new.self c.requires.held.slotted made.same) made.room))) in
     let runs : held.halted ≡ false = synced.answer.halts ∙ made.answer.halts ∙ c.requires.held.runs in
     let stands = λ (told : d.tells) (closed : old.closed ≡ true). stands_of d held None synced.read runs (synced.same.closed ∙ made.same.closed ∙ closed) told (synced.certain_now told) in
     let is : f ≡ frames.Disk = disk_failed f held.halted runs call.answer.only_then never in
@@ -131,6 +132,7 @@ returns-clause-may g c =
     let runs : new.halted ≡ false = here.answer.halts ∙ c.in_ok-sync.ensures.answer.halts ∙ c.in_ok-reserve.ensures.answer.halts ∙ c.requires.held.runs in
     record {
       runs = runs;
+      slotted = subst (λ (s : Shape). is_old s ≡ false) (sym shape) c.requires.held.slotted;
       leads = subst (λ (s : Shape). Leads (limits_of s) new.frames empty st) (sym shape) listed;
       settled = λ told. record { only = (here.change.whole refl told).only; shows = here.read told runs; closed = here.ok.closed };
     }
@@ -154,7 +156,7 @@ returns-clause-room g c =
       size,
       block mid.shape c.reserve.new.self.shape synced.same.shape,
       block c.reserve.new.self.shape c.args.frames.now.shape made.same.shape,
-    )) (omega arith) (synced.left 12 _ _ made.room) in
+    )) (omega arith) (synced.left 12 _ _ (ahead_new d.has_room c.reserve.new.self c.deref.result.now c.args.body (reserved_new c.args.frames.now c.reserve.new.self c.requires.held.slotted made.same) made.room)) in
     let after = call.left 5 bytes (c.args.body + 6) before in
     room_less d.has_room g.met.D.Disk.room_for_less new _ _ _ _ _ _ (omega arith) (omega (arith, block new.shape mid.shape call.ok.shape))
     (omega arith) after

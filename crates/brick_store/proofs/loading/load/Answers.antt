@@ -17,7 +17,7 @@ pub returns-clause-no_slot : goal.returns-clause-no_slot
 returns-clause-no_slot g c = λ told no.
     let d = g.D.Disk in
     c.read_blocks.ensures.no_slot no (inside_from d.tells d.seen c.args.frames.now (state_of c.args.folded.now.index) c.args.folded.now.whole
-    c.requires.fold (c.requires.read told c.requires.runs))
+    c.requires.fold c.requires.new (c.requires.read told c.requires.runs))
 
 pub returns-clause-loaded : goal.returns-clause-loaded
 returns-clause-loaded g c =

@@ -1,7 +1,6 @@
 -- One frame more, and one record less that is left.
-use Rattle.std.proofs.Common.{◌≡◌, ℕ, suc, ◌+◌, ◌<◌, Some, Option, List, [], ◌∷◌, ◌++◌, length, map, drop, get_or, refl, sym, ap, subst, ◌∙◌, append_assoc, arith}
+use Rattle.std.proofs.Common.{◌≡◌, ◌+◌, Some, Option, List, [], ◌∷◌, ◌++◌, map, drop, refl, sym, ap, subst, ◌∙◌, append_assoc, arith}
 use Rattle.std.specs.List.{AllByRecursion}
-use Rattle.std.proofs.Math.Seq.{drop-cons}
 use Rattle.std.proofs.lemmas.List.{map-append}
 use Rattle.frame_store.specs.declared.frames.Frame.{Frame}
 use Rattle.frame_store.specs.Listed.{size_of}
@@ -10,16 +9,12 @@ use Rattle.brick_state.specs.declared.records.Record.{Record}
 use Rattle.brick_store.specs.Images.{record_of}
 use Rattle.brick_store.specs.Sizes.{most, most_of}
 use Rattle.brick_store.specs.Steps.{RecordHasMembers}
+use Rattle.brick_store.proofs.Framing.{left_is}
 use Rattle.brick_store.proofs.rewrites.frames_of.Goals as goal
 
 most_cons : (r : Record) (rs : List Record) → most_of (r ∷ rs) ≡ most r + most_of rs
 unfolding most_of
 most_cons r rs = refl
-
-left_is : (rs : List Record) (k : ℕ) (r : Record) → k < length rs → r ≡ get_or rs k r → drop k rs ≡ r ∷ drop (k + 1) rs
-left_is rs k r within is =
-    let next : k + 1 ≡ suc k = omega arith in
-    subst (λ (n : ℕ). drop k rs ≡ r ∷ drop n rs) (sym next) (drop-cons rs k r within ∙ ap (λ x. x ∷ drop (suc k) rs) (sym is))
 
 pub frame_of-requires : goal.frame_of-requires
 frame_of-requires c =

@@ -45,8 +45,8 @@ returns-in-Ok-clause-starts g c =
     c.args.frames.now c.load.new.frames c.start.new.frames.disk _ _ here.same (record { untouched = here.untouched; plan = here.plan; cause = here.cause })
     here.certain read.fold.whole_is read.fold.found c.in-Ok.ensures.starts
 
-pub returns-in-Err-clause-starts : goal.returns-in-Err-clause-starts
-returns-in-Err-clause-starts g c =
+pub returns-clause-starts : goal.returns-clause-starts
+returns-clause-starts g c =
     let d = g.D.Disk in
     let here = c.load.ensures in
     let read = c.in_ok-blocks.ensures.loaded in
@@ -69,7 +69,7 @@ returns-in-Ok-clause-standing g c =
     let shape : mid.shape ≡ old.shape = c.load.ensures.same.shape in
     let zero_is : c.from_vec-zero.result ≡ replicate old.shape.block 0 = grind (arith, common_steps) in
     standing_from d new c.start.new.index c.in_ok-blocks.blocks c.from_vec-zero.result old.shape old.frames (d.seen old.disk) (indexes.limits_of index) (state_of index) c.args.folded.whole
-    (c.start.ensures.shape ∙ shape) c.requires.shape c.in_ok-blocks.ensures.loaded zero_is c.start.ensures.limits here.made
+    (c.start.ensures.shape ∙ shape) c.requires.shape c.requires.new c.in_ok-blocks.ensures.loaded zero_is c.start.ensures.limits here.made
     (subst (λ (s : Shape). Leads (limits_of s) new.frames empty (state_of c.start.new.index)) shape here.leads) here.settled
     (λ told. subst (λ (x : List ℕ). KeepsSlots old.shape None x (d.seen new.disk)) c.load.ensures.untouched.content
     (subst (λ (s : Shape). KeepsSlots s None (d.seen mid.disk) (d.seen new.disk)) shape (here.slots told)))

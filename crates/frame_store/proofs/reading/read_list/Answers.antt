@@ -3,10 +3,10 @@ use Rattle.std.proofs.lemmas.Bool.{cases_lt}
 use Rattle.std.proofs.lemmas.Result.{err_from_is_err_and}
 use Rattle.frame_store.specs.declared.frames.Frame.{Frame}
 use Rattle.frame_store.specs.declared.faults.OpenFault.TheVariants.{NoMemory}
-use Rattle.frame_store.specs.Listed.{spelled, size_of}
+use Rattle.frame_store.specs.Listed.{spelled, size_of, AreShort}
 use Rattle.frame_store.specs.Images.{part}
 use Rattle.frame_store.specs.Reading.{IsPiece, IsListOf}
-use Rattle.frame_store.proofs.Listing.{size_of-append}
+use Rattle.frame_store.proofs.Listing.{size_of-append, are_short-append}
 use Rattle.frame_store.proofs.Pieces.{read_on, list_read}
 use Rattle.frame_store.proofs.Stills.{still_then, still_none}
 use Rattle.frame_store.proofs.reading.read_list.Goals.{then-closed-via-then-closed, then-closed-via-else-closed+then-end-limit}
@@ -16,7 +16,8 @@ pub loop-piece-init : goal.loop-piece-init
 loop-piece-init g c =
     let none = c.new-listing.ensures in
     record {
-      makes = subst (λ (l : List Frame). g.T.TakesFrames.makes c.args.taker.now l c.args.taker.now) (sym none) c.requires.none;
+      makes = λ first old made. subst (λ (l : List Frame). g.T.TakesFrames.makes first old l c.args.taker.now) (sym none) made;
+      short = λ told. subst AreShort (sym none) tt;
       place = omega (arith, ap size_of none);
       below = c.requires.below;
       some = omega (arith, c.in_ok-piece.ensures.len);
@@ -41,6 +42,10 @@ pub returns-then-closed-clause-still : goal.returns-then-closed-clause-still
 returns-then-closed-clause-still g c = still_then g.D.Disk g.met.D.Disk.counts_now c.args.disk.now c.loop-piece.disk c.next_piece.new.disk _ _ (λ is. absurd cc)
     c.loop-piece.invariant.still c.in_ok-listed.ensures.still
 
+pub returns-then-closed-clause-makes : goal.returns-then-closed-clause-makes
+returns-then-closed-clause-makes g c = λ first old made.
+    c.in_ok-listed.ensures.makes first old (c.loop-piece.invariant.makes first old made)
+
 pub returns-then-closed-clause-counted : goal.returns-then-closed-clause-counted
 returns-then-closed-clause-counted g c =
     let front = c.in_ok-listed.ensures.front in (
@@ -62,7 +67,7 @@ returns-then-closed-clause-read g c = λ told.
     ] in
     subst (λ (fs : List Frame). IsListOf (part c.args.from (c.args.limit - c.args.from) image) fs (at + taken.used - c.args.from) taken.closed) (sym front.1)
     (list_read image c.args.from c.args.limit at taken.len taken.used c.loop-piece.listing.frames front.0 (omega (arith, l.place)) l.below
-    (c.requires.within told) c.requires.short (omega (arith, c.in_ok-listed.ensures.count)) l.place (l.read told) piece.front taken.closed piece.ended
+    (c.requires.within told) (l.short told) (omega (arith, c.in_ok-listed.ensures.count)) l.place (l.read told) piece.front taken.closed piece.ended
     piece.not_ended ends)
 
 pub loop-piece-preserved : goal.loop-piece-preserved
@@ -75,7 +80,10 @@ loop-piece-preserved g c =
     let front = list.front in
     let next = c.in_ok-piece-2.ensures in
     record {
-      makes = list.makes c.args.taker.now l.makes;
+      makes = λ first old made. list.makes first old (l.makes first old made);
+      short = λ told.
+          let piece = subst (λ (x : List ℕ). IsPiece (part at taken.len x) front.0 taken.used taken.closed) l.still.untouched.content (front.4 told) in
+          subst AreShort (sym front.1) (are_short-append c.loop-piece.listing.frames front.0 (l.short told) piece.front.short);
       place = omega (arith, size_of-append c.loop-piece.listing.frames front.0, ap size_of front.1, front.2, l.place);
       below = omega (arith, front.3, list.count, l.below);
       some = ⊎_elim (λ none. let zero : taken.used ≡ 0 = omega (arith, none) in
@@ -87,7 +95,7 @@ loop-piece-preserved g c =
       read = λ told.
           let piece = subst (λ (x : List ℕ). IsPiece (part at taken.len x) front.0 taken.used taken.closed) l.still.untouched.content (front.4 told) in
           read_on image c.args.from c.args.limit at taken.len taken.used c.loop-piece.listing.frames front.0 (omega (arith, l.place)) l.below
-          (c.requires.within told) c.requires.short (omega (arith, list.count)) l.place (l.read told) piece.front
+          (c.requires.within told) (l.short told) (omega (arith, list.count)) l.place (l.read told) piece.front
           ∙ ap (λ (fs : List Frame). spelled fs ++ part (at + taken.used) (c.args.limit - (at + taken.used)) image) (sym front.1);
     }
 

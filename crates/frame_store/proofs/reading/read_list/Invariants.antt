@@ -1,12 +1,13 @@
-use Rattle.std.proofs.Common.{◌≡◌, ◌+◌, ◌-◌, ◌≤◌, ◌++◌, length}
+use Rattle.std.proofs.Common.{◌≡◌, ◌+◌, ◌-◌, ◌≤◌, ◌++◌, [], Bool, length}
 use Rattle.fab_disk.specs.Changing.{Still}
-use Rattle.frame_store.specs.Listed.{spelled, size_of}
+use Rattle.frame_store.specs.Listed.{spelled, size_of, AreShort}
 use Rattle.frame_store.specs.Images.{part}
 use Rattle.frame_store.proofs.reading.read_list.Given as goal
 
 abbrev pub invariant-loop-piece : goal.invariant-loop-piece
 invariant-loop-piece g l = record {
-  makes : g.T.TakesFrames.makes l.initial.taker l.listing.frames l.taker;
+  makes : (first : _) (old : Bool) → g.T.TakesFrames.makes first old [] l.initial.taker → g.T.TakesFrames.makes first old l.listing.frames l.taker;
+  short : g.D.Disk.tells → AreShort l.listing.frames;
   place : l.from + size_of l.listing.frames ≡ l.at;
   below : l.at ≤ l.limit;
   some : 1 ≤ length l.piece.items;

@@ -1,8 +1,8 @@
-use Rattle.std.proofs.Common.{◌≡◌, ◌++◌, ◌∷◌, [], List, ℕ, length, sym, ◌∙◌, ap, subst, rules, arith, append_assoc, length-append}
+use Rattle.std.proofs.Common.{◌≡◌, ◌^◌, ◌<◌, ◌++◌, ◌∷◌, [], List, ℕ, length, sym, ◌∙◌, ap, subst, rules, arith, append_assoc, length-append}
 use Rattle.std.proofs.lemmas.List.{append-nil}
 use Rattle.frame_store.specs.declared.frames.Frame.{Frame}
 use Rattle.frame_store.specs.Listed.{frame_of, frame_rest, spelled}
-use Rattle.frame_store.proofs.Listing.{spelled-append, size_of-append}
+use Rattle.frame_store.proofs.Listing.{spelled-append, size_of-append, are_short-append}
 use Rattle.frame_store.proofs.reading.take_frames.Goals as goal
 
 -- one frame more
@@ -13,10 +13,11 @@ loop-kind-preserved g c =
     let before = c.loop-kind.invariant.front in
     let frames = before.0 in
     let split : c.loop-kind.rest.now ≡ 165 ∷ (frame_rest f ++ after) = search rules in
+    let short : length f.body < 2 ^ 32 = search rules in
     let one : spelled (f ∷ []) ++ after ≡ c.loop-kind.rest.now = ap (λ (l : List ℕ). 165 ∷ (l ++ after)) (append-nil (frame_rest f)) ∙ sym split in
     record {
-      makes = λ first made. subst (λ (l : List Frame). g.T.TakesFrames.makes first l c.take.new.self) (sym c.with-listing.ensures)
-          (c.in_ok-take.ensures first c.loop-kind.listing.frames (c.loop-kind.invariant.makes first made));
+      makes = λ first old made. subst (λ (l : List Frame). g.T.TakesFrames.makes first old l c.take.new.self) (sym c.with-listing.ensures)
+          (c.in_ok-take.ensures first old c.loop-kind.listing.frames (c.loop-kind.invariant.makes first old made));
       front = (
         frames ++ f ∷ [],
         c.with-listing.ensures ∙ ap (λ (l : List Frame). l ++ f ∷ []) before.1 ∙ append_assoc c.args.listing.frames frames (f ∷ []),
@@ -29,5 +30,6 @@ loop-kind-preserved g c =
           length-append (frame_rest f) after,
           before.3,
         ),
+        are_short-append frames (f ∷ []) before.4 (short, tt),
       );
     }

@@ -1,4 +1,4 @@
-use Rattle.std.proofs.Common.{rules, inl, inr, ◌≡◌, ◌+◌, ◌∷◌, [], ℕ, List, length, Err, arith, refl, sym, subst}
+use Rattle.std.proofs.Common.{rules, inl, inr, ◌≡◌, ◌+◌, ◌∷◌, [], ℕ, List, length, Err, arith, refl}
 use Rattle.fab_disk.specs.Disk.{written, Torn}
 use Rattle.frame_store.specs.declared.faults.FrameFault.TheVariants.{Disk}
 use Rattle.fab_disk.proofs.Writes.{written_torn}
@@ -6,7 +6,7 @@ use Rattle.frame_store.specs.Ends.{end_of}
 use Rattle.frame_store.specs.Steps.{IsStaged, IsBothGated, IsShutFirst, IsRewritten, both_written}
 use Rattle.frame_store.proofs.Ends.{begun}
 use Rattle.frame_store.proofs.Gates.{then_on, cut_on}
-use Rattle.frame_store.proofs.Runs.{torn_same}
+use Rattle.frame_store.proofs.Runs.{torn_is}
 use Rattle.frame_store.proofs.Stopping.{staged_none}
 use Rattle.frame_store.proofs.steps.rewrite_gated.Goals as goal
 
@@ -39,23 +39,14 @@ returns-clause-change g c =
     (λ x. written c.args.gate (165 ∷ []) (both_written (c.args.gate + 1) c.args.rest.now c.args.at c.args.list.now x)) P W c.args.disk.now
     c.write_synced.new.disk c.write_both_gated.new.disk (end_of c.write_both_gated.result) refl
     (begun c.write_both_gated.result c.write_both_gated.ensures.only) refl
-    (λ image is. inl (subst C (sym is) (torn_same c.args.gate (length c.args.shut.now) content))) (λ image is. inl is) (inl shut_torn)
+    (λ image is. inl (torn_is c.args.gate (length c.args.shut.now) content image is)) (λ image is. inl is) (inl shut_torn)
     (staged_none (c.args.gate + 1) n c.args.at k shut) (λ image is. inr is) (λ image is. inr is)
     c.in_ok-write_synced.ensures.change c.write_both_gated.ensures.change
 
 pub returns-in_err-write_synced-clause-change : goal.returns-in_err-write_synced-clause-change
 returns-in_err-write_synced-clause-change g c =
-    let content = g.D.Disk.seen c.args.disk.now in
-    let C : List ℕ → Type 0 = Torn c.args.gate (length c.args.shut.now) content in
-    let P : List ℕ → Type 0 = IsShutFirst c.args.gate c.args.shut.now c.args.rest.now c.args.at c.args.list.now content in
-    let W : List ℕ → Type 0 = IsRewritten c.args.gate c.args.shut.now c.args.rest.now c.args.at c.args.list.now content in
-    let shut = written c.args.gate c.args.shut.now content in
-    let shut_torn : C shut = written_torn c.args.gate c.args.shut.now content in
-    let R : List ℕ → Type 0 = λ image. image ≡ written c.args.gate (165 ∷ [])
-    (both_written (c.args.gate + 1) c.args.rest.now c.args.at c.args.list.now shut) in
     let failed : c.write_synced.result ≡ Err Disk = search rules in
     let is : c.from_residual.result ≡ Err Disk = search rules in
-    cut_on g.D.Disk 2 7 (λ image. image ≡ content) C shut P W R c.args.disk.now c.write_synced.new.disk c.write_synced.result c.from_residual.result failed is
-    (omega arith) refl
-    (λ image is. inl (subst C (sym is) (torn_same c.args.gate (length c.args.shut.now) content))) (λ image is. inl is) (inl shut_torn)
+    cut_on g.D.Disk 2 7 _ _ _ _ _ _ _ _ c.write_synced.result c.from_residual.result failed is (omega arith) refl
+    (λ image is. inl (torn_is _ _ _ image is)) (λ image is. inl is) (inl (written_torn c.args.gate c.args.shut.now (g.D.Disk.seen c.args.disk.now)))
     c.write_synced.ensures.change

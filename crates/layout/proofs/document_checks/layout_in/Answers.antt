@@ -12,7 +12,7 @@ new-requires c =
     let said : Layout =
     layout_with c.in_ok-block.field-0 c.in_ok-bricks.field-0 c.in_ok-records.records c.in_ok-port.field-0 c.in_ok-store.field-0
     c.in_ok-spares.spares.items c.in_ok-groups.groups.items c.in_ok-volumes.volumes.items in
-    layout_is c.args.reader (table_view c.args.table.now) said (grind (arith, common_steps))
+    layout_is (table_view c.args.table.now) said (grind (arith, common_steps))
 
 pub returns-in_err-block : goal.returns-in_err-block
 returns-in_err-block c = search rules

@@ -1,5 +1,5 @@
 -- A list that stands is within the limits.
-use Rattle.std.proofs.Common.{◌≡◌, ℕ, Bool, true, List, Option, Some, length, sym, ◌∙◌, ap, subst, arith}
+use Rattle.std.proofs.Common.{◌≡◌, ℕ, Bool, true, List, Option, Some, sym, ◌∙◌, ap, subst, arith}
 use Rattle.std.specs.Prelude.{◌&&◌}
 use Rattle.std.proofs.lemmas.Bool.{and_parts}
 use Rattle.fab_base.specs.declared.member_lists.View.{View}
@@ -26,10 +26,9 @@ lists_kept m bricks known ballots view synced is stand =
 pub returns-in-Some-clause-limits : goal.returns-in-Some-clause-limits
 returns-in-Some-clause-limits g c = λ layout found lists.
     let kept = group_at c.args.store.now.state c.args.number.0 in
-    let m = c.args.group.now.m in
-    let both = lists_kept m layout.bricks kept.known kept.ballots c.in-Some.view c.in-Some.field-0-1 (sym c.known_view.ensures.value ∙ c.in-Some.is)
+    let both = lists_kept c.args.group.now.m layout.bricks kept.known kept.ballots c.in-Some.view c.in-Some.field-0-1 (sym c.known_view.ensures.value ∙ c.in-Some.is)
     (lists c.args.number.0 c.args.group.now found) in
-    have_quorums m layout.bricks c.in-Some.view.members c.policy.ensures.limits.some_block c.policy.ensures.limits.few_blocks both.0
+    have_quorums c.args.group.now.m layout.bricks c.in-Some.view.members c.policy.ensures.limits.some_block c.policy.ensures.limits.few_blocks both.0
 
 pub returns-in-Some-clause-prior : goal.returns-in-Some-clause-prior
 returns-in-Some-clause-prior g c = λ layout found lists.

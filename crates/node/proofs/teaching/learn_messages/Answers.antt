@@ -1,5 +1,5 @@
 -- One brick more is taught.
-use Rattle.std.proofs.Common.{◌≡◌, ◌-◌, ◌+◌, [], ◌∷◌, ◌++◌, List, sym, ◌∙◌, ap, arith}
+use Rattle.std.proofs.Common.{◌-◌, ◌+◌, [], ◌∷◌, ◌++◌, List, sym, ◌∙◌, ap, arith}
 use Rattle.std.proofs.lemmas.List.{append_assoc, map-append}
 use Rattle.fab_base.specs.declared.identities.BrickId.{BrickId}
 use Rattle.messages.specs.declared.packets.Message.{Message}

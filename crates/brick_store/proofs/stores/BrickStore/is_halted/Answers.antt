@@ -5,8 +5,8 @@ use Rattle.frame_store.specs.Images.{OpensAs}
 use Rattle.brick_state.specs.Indexes.{state_of}
 use Rattle.brick_store.specs.Blocks.{cached}
 use Rattle.brick_store.specs.Bricks.{Brick, IsOrdered}
-use Rattle.brick_store.specs.Images.{StandsFor, IsListed, limits_of}
-use Rattle.brick_store.proofs.KeptLogs.{kept_ordered, standing_stands}
+use Rattle.brick_store.specs.Images.{StandsFor, IsListed, IsSlotted, limits_of}
+use Rattle.brick_store.proofs.KeptLogs.{kept_ordered, standing_slotted, standing_stands}
 use Rattle.brick_store.proofs.stores.BrickStore.is_halted.Goals as goal
 
 pub returns-clause-stands : goal.returns-clause-stands
@@ -31,7 +31,15 @@ returns-clause-listed g c =
     (λ told runs.
     let on_disk = c.self.invariant.on_disk told runs in
     record {
+      form = x.frames.shape.form;
       frames = x.frames.frames;
       opens = subst (λ (b : Bool). OpensAs x.frames.shape x.frames.frames b (d.seen x.frames.disk)) on_disk.closed on_disk.shows.opens;
       bytes = refl;
     })
+
+pub returns-clause-slotted : goal.returns-clause-slotted
+returns-clause-slotted g c =
+    let d = g.D.Disk in
+    let x = c.self.inside in
+    subst (λ (b : Brick g.row.D.Denot). d.tells → b.halted ≡ false → IsSlotted b.shape (d.seen b.disk)) c.self.view_is
+    (standing_slotted d x.blocks x.zero x.frames x.index c.self.invariant)

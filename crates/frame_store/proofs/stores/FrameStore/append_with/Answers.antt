@@ -1,6 +1,6 @@
 use Rattle.std.proofs.lemmas.Grind.{common_steps}
 use Rattle.std.proofs.Common.{◌≡◌, ◌++◌, ◌∷◌, [], ◌+◌, max, length, ℕ, List, true, Some, refl, sym, ap, subst, rules, arith, ◌∙◌}
-use Rattle.fab_disk.specs.Changing.{Whole, Still}
+use Rattle.fab_disk.specs.Changing.{End, Whole, Still}
 use Rattle.frame_store.specs.declared.frames.Frame.{Frame}
 use Rattle.frame_store.specs.Ends.{ListChange}
 use Rattle.frame_store.specs.Listed.{frame_of, line_of}
@@ -9,30 +9,36 @@ use Rattle.frame_store.specs.Stores.{Held}
 use Rattle.frame_store.proofs.Changes.{laid_opens}
 use Rattle.frame_store.proofs.Ends.{of_refused}
 use Rattle.frame_store.proofs.Exits.{still_change}
-use Rattle.frame_store.proofs.Writes.{put}
+use Rattle.frame_store.proofs.Writes.{PutRun, Written, put}
+use Rattle.frame_store.proofs.stores.FrameStore.append_with.Given.{Over}
+use Rattle.frame_store.proofs.stores.FrameStore.append_with.Goals.{After-write_both_gated}
 use Rattle.frame_store.proofs.stores.FrameStore.append_with.Goals as goal
 
-pub returns-in-Ok-clause-change : goal.returns-in-Ok-clause-change
-returns-in-Ok-clause-change g c =
+-- what the frame and its block make of the list, however it ended
+made : (g : Over) (c : After-write_both_gated g) (end : End)
+    → PutRun g.D.Disk (c.half_at.result + c.self.inside.used) c.deref.result.now c.slot_at-at.result c.args.block.now c.stage.new.disk c.write_both_gated.new.disk end
+    → Written g.D.Disk 5 c.self.inside.half c.self.inside.generation c.self.inside.other_shut (c.self.inside.used + length c.deref.result.now)
+    (max c.self.inside.size (c.half_at.result + c.self.inside.used + 1 + length c.deref.result.now)) c.self.inside.shape
+    (c.self.inside.list.frames ++ c.args.frame ∷ []) (c.args.self.now.frames ++ c.args.frame ∷ []) (Some (c.args.slot, c.args.block.now)) c.args.self.now
+    c.write_both_gated.new.disk end
+made g c end run =
     let x = c.self.inside in
     let line_is = c.deref.ensures.value ∙ c.in_ok-stage.ensures.line
     ∙ ap (λ (body : List ℕ). line_of (frame_of c.args.frame.kind body)) c.as_slice-body.ensures.value in
-    let made = put g.D.Disk g.met.D.Disk.only_now g.met.D.Disk.counts_now x.half x.generation x.other_shut x.used _ c.args.self.now c.stage.new.disk
-    c.write_both_gated.new.disk Whole c.self.view_is c.self.invariant.0 c.self.invariant.1 c.if-self.false c.stage.ensures.still (c.half_at.result + x.used)
+    put g.D.Disk g.met.D.Disk.only_now g.met.D.Disk.counts_now x.half x.generation x.other_shut x.used _ c.args.self.now c.stage.new.disk
+    c.write_both_gated.new.disk end c.self.view_is c.self.invariant.0 c.self.invariant.1 c.if-self.false c.requires.new c.stage.ensures.still (c.half_at.result + x.used)
     c.args.frame c.deref.result.now (ap (λ (n : ℕ). n + x.used) c.half_at.ensures) c.requires.fits line_is c.args.slot c.args.block.now
-    c.slot_at-at.result c.requires.slot c.requires.block c.slot_at-at.ensures c.in-Ok.ensures.change in
-    made.change
+    c.slot_at-at.result c.requires.slot c.requires.block c.slot_at-at.ensures run
+
+pub returns-in-Ok-clause-change : goal.returns-in-Ok-clause-change
+returns-in-Ok-clause-change g c =
+    (made g (goal.at.returns-in-Ok-clause-change g c).After-write_both_gated Whole c.in-Ok.ensures.change).change
 
 -- the new list is laid, and counted
 pub invariant_of-self-in-Ok : goal.invariant_of-self-in-Ok
 invariant_of-self-in-Ok g c =
     let x = c.self.inside in
-    let line_is = c.deref.ensures.value ∙ c.in_ok-stage.ensures.line
-    ∙ ap (λ (body : List ℕ). line_of (frame_of c.args.frame.kind body)) c.as_slice-body.ensures.value in
-    let made = put g.D.Disk g.met.D.Disk.only_now g.met.D.Disk.counts_now x.half x.generation x.other_shut x.used _ c.args.self.now c.stage.new.disk
-    c.write_both_gated.new.disk Whole c.self.view_is c.self.invariant.0 c.self.invariant.1 c.if-self.false c.stage.ensures.still (c.half_at.result + x.used)
-    c.args.frame c.deref.result.now (ap (λ (n : ℕ). n + x.used) c.half_at.ensures) c.requires.fits line_is c.args.slot c.args.block.now
-    c.slot_at-at.result c.requires.slot c.requires.block c.slot_at-at.ensures c.in-Ok.ensures.change in
+    let made = made g (goal.at.invariant_of-self-in-Ok g c).After-write_both_gated Whole c.in-Ok.ensures.change in
     let bytes : c.len-bytes.result ≡ length c.deref.result.now = omega arith in
     let items : c.with-self-inside.result.frames ≡ x.list.frames ++ c.args.frame ∷ [] = c.with-self-inside.ensures
     ∙ ap (λ (body : List ℕ). x.list.frames ++ frame_of c.args.frame.kind body ∷ []) c.as_slice-body.ensures.value in
@@ -69,14 +75,7 @@ returns-in_err-stage-clause-change g c =
 
 pub returns-clause-change : goal.returns-clause-change
 returns-clause-change g c =
-    let x = c.self.inside in
-    let line_is = c.deref.ensures.value ∙ c.in_ok-stage.ensures.line
-    ∙ ap (λ (body : List ℕ). line_of (frame_of c.args.frame.kind body)) c.as_slice-body.ensures.value in
-    let made = put g.D.Disk g.met.D.Disk.only_now g.met.D.Disk.counts_now x.half x.generation x.other_shut x.used _ c.args.self.now c.stage.new.disk
-    c.write_both_gated.new.disk _ c.self.view_is c.self.invariant.0 c.self.invariant.1 c.if-self.false c.stage.ensures.still (c.half_at.result + x.used)
-    c.args.frame c.deref.result.now (ap (λ (n : ℕ). n + x.used) c.half_at.ensures) c.requires.fits line_is c.args.slot c.args.block.now
-    c.slot_at-at.result c.requires.slot c.requires.block c.slot_at-at.ensures c.in-Err.ensures.change in
-    made.change
+    (made g (goal.at.returns-clause-change g c).After-write_both_gated _ c.in-Err.ensures.change).change
 
 pub write_both_gated-requires-clause-reach : goal.write_both_gated-requires-clause-reach
 write_both_gated-requires-clause-reach g c = grind (arith, common_steps)

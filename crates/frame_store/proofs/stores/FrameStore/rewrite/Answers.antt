@@ -1,5 +1,5 @@
-use Rattle.std.proofs.Common.{rules, ◌≡◌, ◌+◌, ◌-◌, max, length, ℕ, List, true, false, None, refl, sym, ap, subst, arith, ◌∙◌}
-use Rattle.fab_disk.specs.Changing.{Whole, Still}
+use Rattle.std.proofs.Common.{rules, ◌≡◌, ◌≤◌, ◌+◌, ◌-◌, max, length, ℕ, List, true, false, None, refl, sym, ap, subst, arith, ◌∙◌}
+use Rattle.fab_disk.specs.Changing.{End, Whole, Still}
 use Rattle.frame_store.specs.declared.frames.Frame.{Frame}
 use Rattle.frame_store.specs.declared.shapes.Half.{Half}
 use Rattle.frame_store.specs.Ends.{ListChange}
@@ -11,22 +11,57 @@ use Rattle.frame_store.specs.Steps.{next_of}
 use Rattle.frame_store.specs.Stores.{Held, HasRoom}
 use Rattle.frame_store.proofs.Changes.{laid_opens}
 use Rattle.frame_store.proofs.Ends.{of_refused}
-use Rattle.frame_store.proofs.Exits.{end_small, list_within, closing_short, still_change}
-use Rattle.frame_store.proofs.Writes.{rewritten}
+use Rattle.frame_store.proofs.Exits.{end_small, list_within, still_change}
+use Rattle.frame_store.proofs.Writes.{RewriteRun, Written, rewritten}
 use Rattle.frame_store.proofs.Headers.{renewed}
-use Rattle.frame_store.proofs.Rewriting.{length-closed_list}
+use Rattle.frame_store.proofs.Shutting.{length-closed_list, closing_short}
+use Rattle.frame_store.proofs.stores.FrameStore.rewrite.Given.{Over}
+use Rattle.frame_store.proofs.stores.FrameStore.rewrite.Goals.{After-deref-2, After-rewrite_gated}
 use Rattle.frame_store.proofs.stores.FrameStore.rewrite.Goals as goal
+
+-- the line that was staged, which ends within the store
+line_is : (g : Over) (c : After-deref-2 g) → c.deref-2.result.now ≡ closed_list c.args.frames.items
+line_is g c = c.deref-2.ensures.value ∙ c.in_ok-stage_list.ensures.line ∙ ap closed_list c.deref.ensures.value
+
+within : (g : Over) (c : After-deref-2 g) → c.half_at-at.result + length c.deref-2.result.now ≤ store_end c.self.inside.shape
+within g c =
+    list_within _ c.args.self.now c.other-other.result c.args.frames.items c.deref-2.result.now c.half_at-at.result c.self.view_is
+    c.requires.new c.requires.fits (line_is g c) c.half_at-at.ensures
+
+-- what is written is no longer than what room was made for
+short : (g : Over) (c : After-deref-2 g)
+    → length c.closing-shut.result.now + (length c.header_rest-rest.result + length c.deref-2.result.now + 1) ≤ size_of c.args.frames.items + 34
+short g c =
+    omega (
+      arith,
+      ap length c.closing-shut.ensures,
+      closing_short c.self.inside.other_shut,
+      ap length c.header_rest-rest.ensures,
+      ap length (line_is g c),
+      length-closed_list c.args.frames.items,
+    )
+
+-- what the new list makes of the store, however it ended
+made : (g : Over) (c : After-rewrite_gated g) (end : End)
+    → RewriteRun g.D.Disk c.header_at-gate.result c.closing-shut.result.now c.header_rest-rest.result c.half_at-at.result c.deref-2.result.now
+    c.stage_list.new.disk c.rewrite_gated.new.disk end
+    → Written g.D.Disk 7 (other c.self.inside.half) (next_of c.self.inside.generation) false (length c.deref-2.result.now - 1)
+    (max c.self.inside.size (c.half_at-at.result + length c.deref-2.result.now)) c.self.inside.shape c.args.frames.items c.args.frames.items None
+    c.args.self.now c.rewrite_gated.new.disk end
+made g c end run =
+    let x = c.self.inside in
+    rewritten g.D.Disk g.met.D.Disk.only_now g.met.D.Disk.counts_now x.half x.generation x.other_shut x.used _ c.args.self.now
+    c.stage_list.new.disk c.rewrite_gated.new.disk end c.self.view_is c.self.invariant.0 c.self.invariant.1 c.if-self.false c.requires.new c.stage_list.ensures.still
+    c.args.frames.items c.header_at-gate.result c.half_at-at.result c.closing-shut.result.now c.header_rest-rest.result c.deref-2.result.now
+    c.requires.fits (omega arith) (c.header_at-gate.ensures ∙ ap header_at c.other-other.ensures)
+    (c.half_at-at.ensures ∙ ap (half_at x.shape) c.other-other.ensures) c.closing-shut.ensures c.header_rest-rest.ensures
+    (c.deref-2.ensures.value ∙ c.in_ok-stage_list.ensures.line ∙ ap closed_list c.deref.ensures.value) run
 
 -- the new list is laid in the other half, and counted
 pub invariant_of-self-in-Ok : goal.invariant_of-self-in-Ok
 invariant_of-self-in-Ok g c =
     let x = c.self.inside in
-    let made = rewritten g.D.Disk g.met.D.Disk.only_now g.met.D.Disk.counts_now x.half x.generation x.other_shut x.used _ c.args.self.now
-    c.stage_list.new.disk c.rewrite_gated.new.disk Whole c.self.view_is c.self.invariant.0 c.self.invariant.1 c.if-self.false c.stage_list.ensures.still
-    c.args.frames.items c.header_at-gate.result c.half_at-at.result c.closing-shut.result.now c.header_rest-rest.result c.deref-2.result.now
-    c.requires.fits (omega arith) (c.header_at-gate.ensures ∙ ap header_at c.other-other.ensures)
-    (c.half_at-at.ensures ∙ ap (half_at x.shape) c.other-other.ensures) c.closing-shut.ensures c.header_rest-rest.ensures
-    (c.deref-2.ensures.value ∙ c.in_ok-stage_list.ensures.line ∙ ap closed_list c.deref.ensures.value) c.in-Ok.ensures.change in
+    let made = made g (goal.at.invariant_of-self-in-Ok g c).After-rewrite_gated Whole c.in-Ok.ensures.change in
     let line = c.deref-2.result.now in
     let new = g.D.Disk.seen c.rewrite_gated.new.disk in
     let bytes : c.len-bytes.result ≡ length line = omega arith in
@@ -44,14 +79,7 @@ invariant_of-self-in-Ok g c =
 
 pub returns-in-Ok-clause-change : goal.returns-in-Ok-clause-change
 returns-in-Ok-clause-change g c =
-    let x = c.self.inside in
-    let made = rewritten g.D.Disk g.met.D.Disk.only_now g.met.D.Disk.counts_now x.half x.generation x.other_shut x.used _ c.args.self.now
-    c.stage_list.new.disk c.rewrite_gated.new.disk Whole c.self.view_is c.self.invariant.0 c.self.invariant.1 c.if-self.false c.stage_list.ensures.still
-    c.args.frames.items c.header_at-gate.result c.half_at-at.result c.closing-shut.result.now c.header_rest-rest.result c.deref-2.result.now
-    c.requires.fits (omega arith) (c.header_at-gate.ensures ∙ ap header_at c.other-other.ensures)
-    (c.half_at-at.ensures ∙ ap (half_at x.shape) c.other-other.ensures) c.closing-shut.ensures c.header_rest-rest.ensures
-    (c.deref-2.ensures.value ∙ c.in_ok-stage_list.ensures.line ∙ ap closed_list c.deref.ensures.value) c.in-Ok.ensures.change in
-    made.change
+    (made g (goal.at.returns-in-Ok-clause-change g c).After-rewrite_gated Whole c.in-Ok.ensures.change).change
 
 pub returns-in-Ok-clause-read : goal.returns-in-Ok-clause-read
 returns-in-Ok-clause-read g c = λ told runs.
@@ -77,60 +105,35 @@ returns-in-Ok-clause-renewed g c = λ told.
 -- the list fits in its half, and so below the store's end
 pub rewrite_gated-requires-clause-reach : goal.rewrite_gated-requires-clause-reach
 rewrite_gated-requires-clause-reach g c =
-    omega (
-      arith,
-      end_small c.self.inside.shape c.self.invariant.0.limits,
-      list_within _ c.args.self.now c.other-other.result c.args.frames.items c.deref-2.result.now c.half_at-at.result c.self.view_is
-          c.requires.fits (c.deref-2.ensures.value ∙ c.in_ok-stage_list.ensures.line ∙ ap closed_list c.deref.ensures.value) c.half_at-at.ensures,
-    )
+    omega (arith, end_small c.self.inside.shape c.self.invariant.0.limits, within g (goal.at.rewrite_gated-requires-clause-reach g c).After-deref-2)
 
 pub overflow_add-at : goal.overflow_add-at
 overflow_add-at g c =
     let bytes : c.len-bytes.result ≡ length c.deref-2.result.now = omega arith in
-    omega (
-      arith,
-      bytes,
-      end_small c.self.inside.shape c.self.invariant.0.limits,
-      list_within _ c.args.self.now c.other-other.result c.args.frames.items c.deref-2.result.now c.half_at-at.result c.self.view_is
-          c.requires.fits (c.deref-2.ensures.value ∙ c.in_ok-stage_list.ensures.line ∙ ap closed_list c.deref.ensures.value) c.half_at-at.ensures,
-    )
+    omega (arith, bytes, end_small c.self.inside.shape c.self.invariant.0.limits, within g (goal.at.overflow_add-at g c).After-deref-2)
 
 pub rewrite_gated-requires-clause-room : goal.rewrite_gated-requires-clause-room
 rewrite_gated-requires-clause-room g c =
-    let fs = c.args.frames.items in
-    let line_is = c.deref-2.ensures.value ∙ c.in_ok-stage_list.ensures.line ∙ ap closed_list c.deref.ensures.value in
-    let within = list_within _ c.args.self.now c.other-other.result fs c.deref-2.result.now c.half_at-at.result c.self.view_is c.requires.fits
-    line_is c.half_at-at.ensures in
-    let listed : size_of c.deref.result.now ≡ size_of fs = ap size_of c.deref.ensures.value in
-    g.met.D.Disk.room_for_less c.stage_list.new.disk 7 (size_of c.deref.result.now + 34) c.end-end.result
+    let d = (goal.at.rewrite_gated-requires-clause-room g c).After-deref-2 in
+    let listed : size_of c.deref.result.now ≡ size_of c.args.frames.items = ap size_of c.deref.ensures.value in
+    g.met.D.Disk.room_for_less c.stage_list.new.disk 7 (0 + (size_of c.deref.result.now + 34)) c.end-end.result
     7 (length c.closing-shut.result.now + (length c.header_rest-rest.result + length c.deref-2.result.now + 1))
-    (c.half_at-at.result + length c.deref-2.result.now) (omega arith)
-    (omega (
-      arith,
-      ap length c.closing-shut.ensures,
-      closing_short c.self.inside.other_shut,
-      ap length c.header_rest-rest.ensures,
-      ap length line_is,
-      length-closed_list fs,
-      listed,
-    )) (omega (arith, c.end-end.ensures, within)) c.in_ok-stage_list.ensures.made
+    (c.half_at-at.result + length c.deref-2.result.now) (omega arith) (omega (arith, short g d, listed)) (omega (arith, c.end-end.ensures, within g d))
+    c.in_ok-stage_list.ensures.made
 
 -- what room there was beyond the call is left
 pub returns-in-Ok-clause-left : goal.returns-in-Ok-clause-left
 returns-in-Ok-clause-left g c = λ calls bytes written had.
+    let d = (goal.at.returns-in-Ok-clause-left g c).After-deref-2 in
     let fs = c.args.frames.items in
     let end = store_end c.self.inside.shape in
     let before = subst (λ (s : Held g.row.D.Denot). HasRoom g.D.Disk.has_room s (calls + 7) (bytes + (size_of fs + 34)) written)
     (sym c.self.view_is) had in
-    let line_is = c.deref-2.ensures.value ∙ c.in_ok-stage_list.ensures.line ∙ ap closed_list c.deref.ensures.value in
-    let within = list_within _ c.args.self.now c.other-other.result fs c.deref-2.result.now c.half_at-at.result c.self.view_is c.requires.fits
-    line_is c.half_at-at.ensures in
-    let shut = closing_short c.self.inside.other_shut in
     let kept = c.stage_list.ensures.room (calls + 7) (bytes + (size_of fs + 34)) end before.disk in
     let less = g.met.D.Disk.room_for_less c.stage_list.new.disk (calls + 7) (bytes + (size_of fs + 34)) end
     (calls + 7) (bytes + (length c.closing-shut.result.now + (length c.header_rest-rest.result + length c.deref-2.result.now + 1))) end (omega arith)
-    (omega (arith, ap length c.closing-shut.ensures, shut, ap length c.header_rest-rest.ensures, ap length line_is, length-closed_list fs)) (omega arith) kept in
-    record { disk = c.in-Ok.ensures.left calls bytes end within less; line = omega (arith, before.line, c.stage_list.ensures.wide) }
+    (omega (arith, short g d)) (omega arith) kept in
+    record { disk = c.in-Ok.ensures.left calls bytes end (within g d) less; line = omega (arith, before.line, c.stage_list.ensures.wide) }
 
 pub returns-in_err-stage_list-clause-change : goal.returns-in_err-stage_list-clause-change
 returns-in_err-stage_list-clause-change g c =
@@ -142,11 +145,4 @@ returns-in_err-stage_list-clause-change g c =
 
 pub returns-clause-change : goal.returns-clause-change
 returns-clause-change g c =
-    let x = c.self.inside in
-    let made = rewritten g.D.Disk g.met.D.Disk.only_now g.met.D.Disk.counts_now x.half x.generation x.other_shut x.used _ c.args.self.now
-    c.stage_list.new.disk c.rewrite_gated.new.disk _ c.self.view_is c.self.invariant.0 c.self.invariant.1 c.if-self.false c.stage_list.ensures.still
-    c.args.frames.items c.header_at-gate.result c.half_at-at.result c.closing-shut.result.now c.header_rest-rest.result c.deref-2.result.now
-    c.requires.fits (omega arith) (c.header_at-gate.ensures ∙ ap header_at c.other-other.ensures)
-    (c.half_at-at.ensures ∙ ap (half_at x.shape) c.other-other.ensures) c.closing-shut.ensures c.header_rest-rest.ensures
-    (c.deref-2.ensures.value ∙ c.in_ok-stage_list.ensures.line ∙ ap closed_list c.deref.ensures.value) c.in-Err.ensures.change in
-    made.change
+    (made g (goal.at.returns-clause-change g c).After-rewrite_gated _ c.in-Err.ensures.change).change

@@ -1,13 +1,7 @@
 -- Once there is a document, the checks of its table do not say that there is none.
 use Rattle.toml.specs.View.{table_view}
-use Rattle.layout.specs.declared.faults.Reader.TheVariants.{Program}
 use Rattle.layout.proofs.Refusals.{never_toml}
-use Rattle.layout.proofs.Readers.{ok_is_audited}
 use Rattle.layout.proofs.layouts.Layout.read.Goals as goal
 
 pub returns-clause-toml : goal.returns-clause-toml
-returns-clause-toml c = λ is. absurd (never_toml Program (table_view c.in_ok-table.table) c.layout_in.result c.layout_in.ensures.err is)
-
-pub returns-clause-audited : goal.returns-clause-audited
-returns-clause-audited c =
-    ok_is_audited c.args.text.now (table_view c.in_ok-table.table) c.layout_in.result c.in_ok-table.ensures.ok c.layout_in.ensures.ok
+returns-clause-toml c = λ is. absurd (never_toml (table_view c.in_ok-table.table) c.layout_in.result c.layout_in.ensures.err is)

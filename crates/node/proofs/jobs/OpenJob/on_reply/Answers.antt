@@ -1,8 +1,7 @@
 -- The read goes on, or what was prepared comes after it.
-use Rattle.std.proofs.Common.{◌≡◌, ◌≤◌, ℕ, Bool, true, false, not, List, [], ◌∷◌, ◌++◌, length, Option, Some, None, is_some, option_to_list, refl, sym, ◌∙◌, ap, subst, arith}
+use Rattle.std.proofs.Common.{◌≡◌, ℕ, Bool, true, false, not, List, [], ◌∷◌, ◌++◌, length, Option, Some, None, is_some, option_to_list, refl, sym, ◌∙◌, ap, subst, arith}
 use Rattle.fab_base.specs.declared.answers.Answer.{Answer}
 use Rattle.fab_base.specs.declared.answers.Cause.{Cause}
-use Rattle.fab_base.specs.declared.identities.BrickId.{BrickId}
 use Rattle.fab_base.specs.declared.stamps.Stamp.{Stamp}
 use Rattle.fab_base.specs.Layouts.{Group}
 use Rattle.messages.specs.declared.calls.Call.{Call}
@@ -15,21 +14,19 @@ use Rattle.protocol.specs.Coordinators as machine
 use Rattle.protocol.specs.Coordinators.{Coordinator}
 use Rattle.protocol.specs.declared.tellings.Told.TheVariants.{Closed}
 use Rattle.protocol.specs.Jobs.{abort_cause}
-use Rattle.protocol.specs.Nodes.{Node, carried_read, fresh_stamp}
+use Rattle.protocol.specs.Nodes.{carried_read, fresh_stamp}
 use Rattle.coord_phase.specs.Decisions.{decided_on}
 use Rattle.coord_phase.specs.Messages.{packets_from}
-use Rattle.node.specs.declared.jobs.Followed.{Followed}
 use Rattle.node.specs.declared.jobs.OpenJob.{OpenJob}
 use Rattle.node.specs.declared.jobs.Prepared.{Prepared}
-use Rattle.node.specs.declared.operations.Operation.{Operation}
 use Rattle.node.specs.Decisions.{CarriesOut, KeepsCall, or_waits}
-use Rattle.node.specs.Jobs.{FollowsFrom, GoesOn, IsJobOf, cause_in, ended_by, job_of, reading_of, with_reading}
+use Rattle.node.specs.Jobs.{GoesOn, IsJobOf, cause_in, ended_by, job_of, reading_of, with_reading}
 use Rattle.node.specs.Operations.{coordinator_of, shown_of}
 use Rattle.node.specs.Outcomes.{Outcome}
 use Rattle.node.specs.Reads.{IsPrepared, MayFollow}
 use Rattle.node.proofs.Reading.{ended_goes, ends_in, ends_so, goes_so, told_once, unanswered}
 use Rattle.node.proofs.jobs.OpenJob.on_reply.Goals as goal
-use Rattle.node.proofs.jobs.OpenJob.on_reply.Goals.{In_ok-outs}
+use Rattle.node.proofs.jobs.OpenJob.on_reply.Goals.{After-is_none, In_ok-outs}
 
 -- nothing is answered
 none_answered : (o : Option Answered) (b : Bool) → is_some o ≡ not b → b ≡ true → option_to_list o ≡ []
@@ -41,12 +38,16 @@ one_answered : (o : Option Answered) (b : Bool) → is_some o ≡ not b → b �
 one_answered None b is none = absurd cc
 one_answered (Some x) b is none = (x, refl)
 
--- what the reply lets the read decide is what the machine's decides
-decided_so : (c : In_ok-outs) (call : Call) (reply : Reply) → c.args.message.now ≡ message.Reply call reply
-    → decided_on c.fresh_stamp-fresh.result (shown_of c.args.self.now.read) c.args.from c.args.message.now
-    ≡ machine.on_reply c.args.layout.now.block (block_code c.args.layout.now.block)
+-- what the machine's read decides on a reply
+abbrev decided_by : In_ok-outs → Call → Reply → machine.Next
+decided_by c call reply =
+    machine.on_reply c.args.layout.now.block (block_code c.args.layout.now.block)
     (fresh_stamp c.args.at.me (coordinator_of c.args.self.now.read).stamp.view c.args.at.now c.args.at.stamps.boot c.args.at.stamps.known)
     (coordinator_of c.args.self.now.read) c.args.from call reply
+
+-- is what it lets this one decide
+decided_so : (c : In_ok-outs) (call : Call) (reply : Reply) → c.args.message.now ≡ message.Reply call reply
+    → decided_on c.fresh_stamp-fresh.result (shown_of c.args.self.now.read) c.args.from c.args.message.now ≡ decided_by c call reply
 decided_so c call reply is =
     let op = c.args.self.now.read in
     let k = coordinator_of op in
@@ -58,14 +59,27 @@ decided_so c call reply is =
     ∙ ap (λ (b : ℕ). machine.on_reply b (block_code b) (fresh_stamp c.args.at.me k.stamp.view c.args.at.now c.args.at.stamps.boot c.args.at.stamps.known) k from call reply)
     c.requires.of.is_operation
 
+-- and carried out
+carried_so : (c : In_ok-outs) (call : Call) (reply : Reply) → c.args.message.now ≡ message.Reply call reply
+    → CarriesOut c.args.layout.now c.args.self.now.read c.on_reply.new.self c.args.at.stamps.known c.on_reply.new.stamps.known
+    (or_waits (coordinator_of c.args.self.now.read) (decided_by c call reply)) c.in_ok-outs.outs
+carried_so c call reply is =
+    subst (λ (n : machine.Next). CarriesOut c.args.layout.now c.args.self.now.read c.on_reply.new.self c.args.at.stamps.known c.on_reply.new.stamps.known
+    (or_waits (coordinator_of c.args.self.now.read) n) c.in_ok-outs.outs)
+    (decided_so c call reply is) (c.in_ok-outs.ensures.step c.args.layout.now c.requires.of.is_operation)
+
+-- it has answered, where it is over
+one_so : (c : After-is_none) → c.is_none.result ≡ false → (x : Answered) × (c.in_ok-outs.outs.answers ≡ x ∷ [])
+one_so c some =
+    let one = one_answered c.outs.inside.answer c.is_none.result c.is_none.ensures some in
+    (one.0, sym (ap (λ (o : Outcome). o.answers) c.outs.view_is) ∙ one.1)
+
 pub returns-then-is_none-clause-turn : goal.returns-then-is_none-clause-turn
 returns-then-is_none-clause-turn c =
     let d = (goal.at.returns-then-is_none-clause-turn c).In_ok-outs in
     let layout = c.args.layout.now in
     let before = c.args.self.now in
-    let at = c.args.at in
     let outs = c.in_ok-outs.outs in
-    let k = coordinator_of before.read in
     let after : OpenJob = record { job = before.job; view = before.view; read = c.on_reply.new.self } in
     let none : outs.answers ≡ [] =
     sym (ap (λ (o : Outcome). o.answers) c.outs.view_is) ∙ none_answered c.outs.inside.answer c.is_none.result c.is_none.ensures c.if-is_none.true in
@@ -73,11 +87,7 @@ returns-then-is_none-clause-turn c =
     record {
       group = refl;
       step = λ node call reply is makes free.
-          let next = machine.on_reply layout.block (block_code layout.block)
-          (fresh_stamp at.me k.stamp.view at.now at.stamps.boot at.stamps.known) k c.args.from call reply in
-          goes_so layout at before node makes free next after c.on_reply.new.stamps.known outs refl refl
-          (subst (λ (n : machine.Next). CarriesOut layout before.read after.read at.stamps.known c.on_reply.new.stamps.known (or_waits k n) outs)
-          (decided_so d call reply is) carried) none;
+          goes_so layout c.args.at before node makes free (decided_by d call reply) after c.on_reply.new.stamps.known outs refl refl (carried_so d call reply is) none;
       left = record {
         group = refl;
         seq = subst (λ (answers : List Answered). KeepsCall answers before.read after.read) none carried.keeps;
@@ -91,63 +101,54 @@ returns-then-is_none-clause-turn c =
 pub end-next-requires-clause-one : goal.end-next-requires-clause-one
 end-next-requires-clause-one c =
     let k = coordinator_of c.args.self.now.read in
-    let carried = c.in_ok-outs.ensures.step c.args.layout.now c.requires.of.is_operation in
     let once = told_once k (decided_on c.fresh_stamp-fresh.result (shown_of c.args.self.now.read) c.args.from c.args.message.now) k.call.seq in
-    let same = ap length carried.told in
+    let same = ap length (c.in_ok-outs.ensures.step c.args.layout.now c.requires.of.is_operation).told in
     omega (arith, once, same)
 
 pub returns-clause-turn : goal.returns-clause-turn
 returns-clause-turn c =
     let d = (goal.at.returns-clause-turn c).In_ok-outs in
     let layout = c.args.layout.now in
-    let before = c.args.self.now in
+    let job = c.args.self.now in
     let at = c.args.at in
-    let group = before.job.group in
-    let outs = c.in_ok-outs.outs in
-    let k = coordinator_of before.read in
-    let seq = k.call.seq in
+    let answers = c.in_ok-outs.outs.answers in
+    let k = coordinator_of job.read in
     let p = c.in-Some.prepared in
-    let is_prepared : IsPrepared layout before at p =
-    subst (λ (o : Option Prepared). MayFollow layout before at c.args.from c.args.message.now o) c.in-Some.is c.in_ok-prepared.ensures in
-    let some = one_answered c.outs.inside.answer c.is_none.result c.is_none.ensures c.if-is_none.false in
-    let one : outs.answers ≡ some.0 ∷ [] = sym (ap (λ (o : Outcome). o.answers) c.outs.view_is) ∙ some.1 in
+    let is_prepared : IsPrepared layout job at p =
+    subst (λ (o : Option Prepared). MayFollow layout job at c.args.from c.args.message.now o) c.in-Some.is c.in_ok-prepared.ensures in
+    let one = one_so (goal.at.returns-clause-turn c).After-is_none c.if-is_none.false in
     let told = c.end-next.result.0 in
-    let last = c.end-next.result.1 in
-    let f = ended_by (cause_in outs.answers) p.answered p.aborted in
+    let f = ended_by (cause_in answers) p.answered p.aborted in
     record {
       group = refl;
       step = λ node call reply is makes free.
-          let decided = machine.on_reply layout.block (block_code layout.block)
-          (fresh_stamp at.me k.stamp.view at.now at.stamps.boot at.stamps.known) k c.args.from call reply in
-          let carried = subst (λ (n : machine.Next). CarriesOut layout before.read c.on_reply.new.self at.stamps.known c.on_reply.new.stamps.known (or_waits k n) outs)
-          (decided_so d call reply is) (c.in_ok-outs.ensures.step layout c.requires.of.is_operation) in
-          let end = ends_in k decided seq some.0 outs.answers carried.answers one in
+          let carried = carried_so d call reply is in
+          let end = ends_in k (decided_by d call reply) k.call.seq one.0 answers carried.answers one.1 in
           let answer : Answer = end.0 in
           let seen : Option Stamp = end.1 in
           let stored : Option Stamp = end.2 in
-          let next_is : decided ≡ machine.Ends answer seen stored = end.3 in
-          let cause_is : cause_in outs.answers ≡ abort_cause answer = end.4 in
-          let done = subst (λ (n : machine.Next). CarriesOut layout before.read c.on_reply.new.self at.stamps.known c.on_reply.new.stamps.known (or_waits k n) outs)
+          let next_is : decided_by d call reply ≡ machine.Ends answer seen stored = end.3 in
+          let cause_is : cause_in answers ≡ abort_cause answer = end.4 in
+          let done = subst (λ (n : machine.Next). CarriesOut layout job.read c.on_reply.new.self at.stamps.known c.on_reply.new.stamps.known (or_waits k n) c.in_ok-outs.outs)
           next_is carried in
-          ap (carried_read (coding layout) at.me at.now (with_reading (Some (reading_of before)) node) at.stamps.known (job_of before) k) next_is
-          ∙ ends_so layout at before node makes free answer seen stored told (packets_from at.me outs.messages) f last c.requires.of.job_is.stripes
-          (subst (λ (o : Option Cause). GoesOn layout before.job before.view at o f) cause_is (ended_goes layout before at p (cause_in outs.answers) is_prepared))
+          ap (carried_read (coding layout) at.me at.now (with_reading (Some (reading_of job)) node) at.stamps.known (job_of job) k) next_is
+          ∙ ends_so layout at job node makes free answer seen stored told (packets_from at.me c.in_ok-outs.outs.messages) f c.end-next.result.1
+          c.requires.of.job_is.stripes
+          (subst (λ (o : Option Cause). GoesOn layout job.job job.view at o f) cause_is (ended_goes layout job at p (cause_in answers) is_prepared))
           (done.packets at.me)
           (c.end-next.ensures.told
           ∙ (λ i. done.told i ++ (Closed ((c.call-seq.ensures i).seq) (cause_is i) ∷ [])))
-          (c.end-next.ensures.step at.me group node);
-      left = (c.end-next.ensures.from layout at.seq group is_prepared.read_answered is_prepared.read_aborted, c.end-next.ensures.begun);
+          (c.end-next.ensures.step at.me job.job.group node);
+      left = (c.end-next.ensures.from layout at.seq job.job.group is_prepared.read_answered is_prepared.read_aborted, c.end-next.ensures.begun);
     }
 
 pub unreachable-requires : goal.unreachable-requires
 unreachable-requires c =
     let k = coordinator_of c.args.self.now.read in
     let next = decided_on c.fresh_stamp-fresh.result (shown_of c.args.self.now.read) c.args.from c.args.message.now in
-    let outs = c.in_ok-outs.outs in
-    let carried = c.in_ok-outs.ensures.step c.args.layout.now c.requires.of.is_operation in
     let never = subst (λ (o : Option Prepared). MayFollow c.args.layout.now c.args.self.now c.args.at c.args.from c.args.message.now o) c.in_default.is
     c.in_ok-prepared.ensures in
-    let some = one_answered c.outs.inside.answer c.is_none.result c.is_none.ensures c.if-is_none.false in
+    let some = one_so (goal.at.unreachable-requires c).After-is_none c.if-is_none.false in
     let both : [] ≡ some.0 ∷ [] =
-    sym (carried.answers ∙ unanswered k next k.call.seq (never c.fresh_stamp-fresh.result)) ∙ sym (ap (λ (o : Outcome). o.answers) c.outs.view_is) ∙ some.1 in
+    sym ((c.in_ok-outs.ensures.step c.args.layout.now c.requires.of.is_operation).answers ∙ unanswered k next k.call.seq (never c.fresh_stamp-fresh.result)) ∙ some.1 in
     cc

@@ -1,5 +1,5 @@
 -- The read sends its phase again.
-use Rattle.std.proofs.Common.{◌≡◌, ◌∙◌, ap}
+use Rattle.std.proofs.Common.{◌∙◌, ap}
 use Rattle.std.proofs.lemmas.Result.{IfOk-weaker}
 use Rattle.coord_phase.specs.Messages.{packets_from}
 use Rattle.node.proofs.Resending.{again_is}

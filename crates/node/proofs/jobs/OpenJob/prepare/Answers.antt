@@ -1,5 +1,4 @@
 -- What may come after the read by each way in which it may end is there.
-use Rattle.std.proofs.Common.{Some, arith}
 use Rattle.fab_base.specs.declared.answers.Cause.TheVariants.{Gone}
 use Rattle.node.proofs.Following.{goes_whatever}
 use Rattle.node.proofs.jobs.OpenJob.prepare.Goals as goal

@@ -1,54 +1,49 @@
 -- What is under way does what the brick does.
-use Rattle.std.proofs.Common.{List, ℕ, sym, ◌∙◌, ap, subst}
+use Rattle.std.proofs.Common.{List, ℕ, refl, sym, ◌∙◌, ap, subst}
 use Rattle.protocol.specs.Nodes.{heard}
 use Rattle.stripe_code.specs.Codes.{coding}
 use Rattle.protocol.specs.Nodes.{Node, NodeStep, replied_at, with_round}
 use Rattle.node.specs.States.{StepsAs, parts_in}
-use Rattle.node.specs.Tasks.{tasks_in}
-use Rattle.node.specs.Running.{Running, running, state_of, shape_at, ImageShows}
+use Rattle.node.specs.Running.{Running, running, state_of, ImageShows}
 use Rattle.node.proofs.Hearing.{heard_untaught}
-use Rattle.node.proofs.Views.{seen_so, still_shows}
+use Rattle.node.proofs.KeptBricks.{stays_brick}
+use Rattle.node.proofs.Views.{still_shows}
 use Rattle.node.proofs.States.{on_err}
 use Rattle.node.proofs.Steps.{steps_so, stays_so}
+use Rattle.node.proofs.nodes.Node.count.Given.{Over}
 use Rattle.node.proofs.nodes.Node.count.Goals as goal
+use Rattle.node.proofs.nodes.Node.count.Goals.{After-on_reply}
 
-pub invariant_of-self : goal.invariant_of-self
-invariant_of-self g c =
-    let is = c.self.invariant in
-    let same = c.on_reply.ensures.same in
-    record {
-      shape_is = is.shape_is ∙ ap (shape_at c.self.inside.layout) (sym same.me);
-      boot = same.boot ∙ is.boot;
-      lists = is.lists;
-      tasks_are = same.of is.tasks_are;
-    }
-
-pub invariant_of-self-2 : goal.invariant_of-self-2
-invariant_of-self-2 g c =
-    let is = c.self.invariant in
-    let same = c.on_reply.ensures.same in
-    record {
-      shape_is = is.shape_is ∙ ap (shape_at c.self.inside.layout) (sym same.me);
-      boot = same.boot ∙ is.boot;
-      lists = is.lists;
-      tasks_are = same.of is.tasks_are;
-    }
-
-pub returns-in_err-on_reply-clause-err : goal.returns-in_err-on_reply-clause-err
-returns-in_err-on_reply-clause-err g c =
-    let x = c.self.inside in
-    on_err _
-    (stays_so x.layout x.tasks c.on_reply.new.self x.store c.self.invariant.boot c.in_err-on_reply.ensures.same.boot
-    (c.in_err-on_reply.ensures.err (parts_in x.layout x.store.state))
-    ∙ ap (λ (n : Running g.row.D.Denot). state_of n) c.self.view_is)
-
-pub returns-in_err-on_reply-clause-shown : goal.returns-in_err-on_reply-clause-shown
-returns-in_err-on_reply-clause-shown g c =
+-- what showed the brick shows it still
+shown_still : (g : Over) (c : After-on_reply g) (image : List ℕ) → ImageShows c.args.self.now.layout c.args.self.now.me (state_of c.args.self.now) image
+    → ImageShows c.args.self.now.layout c.args.self.now.me (state_of (running c.self.inside.layout c.on_reply.new.self c.self.inside.store)) image
+shown_still g c =
     let x = c.self.inside in
     subst
     (λ (n : Running g.row.D.Denot). (image : List ℕ) → ImageShows n.layout n.me (state_of n) image
     → ImageShows n.layout n.me (state_of (running x.layout c.on_reply.new.self x.store)) image)
     c.self.view_is (still_shows x.layout x.tasks c.on_reply.new.self x.store x.tasks.work.calls.me)
+
+pub invariant_of-self : goal.invariant_of-self
+invariant_of-self g c =
+    let x = c.self.inside in
+    stays_brick x.layout x.tasks c.on_reply.new.self x.store x.store c.self.invariant c.on_reply.ensures.same refl refl
+
+pub invariant_of-self-2 : goal.invariant_of-self-2
+invariant_of-self-2 g c =
+    let now = c.self.inside in
+    stays_brick now.layout now.tasks c.on_reply.new.self now.store now.store c.self.invariant c.on_reply.ensures.same refl refl
+
+pub returns-in_err-on_reply-clause-err : goal.returns-in_err-on_reply-clause-err
+returns-in_err-on_reply-clause-err g c =
+    let was = c.self.inside in
+    on_err _
+    (stays_so was.layout was.tasks c.on_reply.new.self was.store c.self.invariant.boot c.in_err-on_reply.ensures.same.boot
+    (c.in_err-on_reply.ensures.err (parts_in was.layout was.store.state))
+    ∙ ap (λ (n : Running g.row.D.Denot). state_of n) c.self.view_is)
+
+pub returns-in_err-on_reply-clause-shown : goal.returns-in_err-on_reply-clause-shown
+returns-in_err-on_reply-clause-shown g c = shown_still g (goal.at.returns-in_err-on_reply-clause-shown g c).After-on_reply
 
 pub returns-clause-step : goal.returns-clause-step
 returns-clause-step g c =
@@ -69,9 +64,4 @@ returns-clause-step g c =
     c.in_ok-on_reply.ensures.same.boot (c.in_ok-on_reply.ensures.step (parts_in x.layout x.store.state))))
 
 pub returns-clause-shown : goal.returns-clause-shown
-returns-clause-shown g c =
-    let x = c.self.inside in
-    subst
-    (λ (n : Running g.row.D.Denot). (image : List ℕ) → ImageShows n.layout n.me (state_of n) image
-    → ImageShows n.layout n.me (state_of (running x.layout c.on_reply.new.self x.store)) image)
-    c.self.view_is (still_shows x.layout x.tasks c.on_reply.new.self x.store x.tasks.work.calls.me)
+returns-clause-shown g c = shown_still g (goal.at.returns-clause-shown g c).After-on_reply

@@ -18,25 +18,29 @@ use Rattle.node.specs.Running.{running, state_of, shape_at, ImageShows}
 use Rattle.node.proofs.Requests.{live_seen}
 use Rattle.node.proofs.Shown.{shown_so}
 use Rattle.node.proofs.Starts.{restarts_so, opens_so, refused_so}
+use Rattle.node.proofs.nodes.Node.start.Given.{Over}
 use Rattle.node.proofs.nodes.Node.start.Goals as goal
+use Rattle.node.proofs.nodes.Node.start.Goals.{After-open_store}
+
+-- the store that is opened is the brick's
+shape_so : (g : Over) (c : After-open_store g) → shape_of c.args.me.0 c.block.result c.records.result ≡ shape_at c.args.layout c.args.me
+shape_so g c = λ i. shape_of c.args.me.0 (c.block.ensures i) (c.records.ensures.value i)
 
 pub returns-in-Err : goal.returns-in-Err
 returns-in-Err g c =
     let d = g.D.Disk in
     let disk = c.args.disk in
-    let layout = c.args.layout in
-    let me = c.args.me in
+    let shape = shape_at c.args.layout c.args.me in
     let here = c.in-Err.ensures in
     let fault = c.in-Err.refused.0 in
-    let same : shape_of me.0 c.block.result c.records.result ≡ shape_at layout me = λ i. shape_of me.0 (c.block.ensures i)
-    (c.records.ensures.value i) in
-    let none : fault ≡ faults.NotAStore → d.tells → IsNoStore (shape_at layout me) (d.seen disk) = λ is told.
+    let same = shape_so g (goal.at.returns-in-Err g c).After-open_store in
+    let none : fault ≡ faults.NotAStore → d.tells → IsNoStore shape (d.seen disk) = λ is told.
     subst (λ (s : Shape). IsNoStore s (d.seen disk)) same (here.not_a_store is told) in
-    let opens = refused_so d layout me disk c.in-Err.refused.1 fault
+    let opens = refused_so d c.args.layout c.args.me disk c.in-Err.refused.1 fault
     (subst (λ (s : Shape). Opens d s disk c.in-Err.refused.1 (stores.stopped_by fault)) same here.opens) none in
     let not_a_store : fault ≡ faults.NotAStore → d.tells
-    → (IsNoStore (shape_at layout me) (d.seen disk) × IsUntouched d.seen d.may_leave d.moment d.left_since disk c.in-Err.refused.1)
-    ⊎ ((st : StateOf Version) × IsFound (shape_at layout me) st (d.seen disk) × (ListsStand layout st → ⊥)) = λ is told. inl (none is told, here.opens.not_begun (ap stores.stopped_by is)) in
+    → (IsNoStore shape (d.seen disk) × IsUntouched d.seen d.may_leave d.moment d.left_since disk c.in-Err.refused.1)
+    ⊎ ((st : StateOf Version) × IsFound shape st (d.seen disk) × (ListsStand c.args.layout st → ⊥)) = λ is told. inl (none is told, here.opens.not_begun (ap stores.stopped_by is)) in
     let worn = subst (λ (s : Shape). fault ≡ faults.Worn → d.tells → IsWornOut s (d.seen disk)) same here.worn in
     search (rules, opens, not_a_store, worn)
 
@@ -46,8 +50,7 @@ returns-then-not-do_lists_stand g c =
     let disk = c.args.disk in
     let layout = c.args.layout in
     let me = c.args.me in
-    let same : shape_of me.0 c.block.result c.records.result ≡ shape_at layout me = λ i. shape_of me.0 (c.block.ensures i)
-    (c.records.ensures.value i) in
+    let same = shape_so g (goal.at.returns-then-not-do_lists_stand g c).After-open_store in
     let opens = opens_so d layout me disk c.into_disk.result Whole
     (subst (λ (last : g.row.D.Denot). Opens d (shape_at layout me) disk last Whole) (sym c.into_disk.ensures.disk)
     (subst (λ (s : Shape). Opens d s disk c.in-Ok.store.disk Whole) same c.in-Ok.ensures.opens)) in
@@ -63,15 +66,12 @@ returns-then-not-do_lists_stand g c =
 
 pub invariant_of-result : goal.invariant_of-result
 invariant_of-result g c =
-    let layout = c.args.layout in
-    let me = c.args.me in
-    let same : shape_of me.0 c.block.result c.records.result ≡ shape_at layout me = λ i. shape_of me.0 (c.block.ensures i)
-    (c.records.ensures.value i) in
+    let same = shape_so g (goal.at.invariant_of-result g c).After-open_store in
     record {
-      shape_is = c.in-Ok.ensures.shape ∙ same ∙ ap (λ (brick : BrickId). shape_at layout brick) (sym c.new-tasks.ensures.me);
+      shape_is = c.in-Ok.ensures.shape ∙ same ∙ ap (λ (brick : BrickId). shape_at c.args.layout brick) (sym c.new-tasks.ensures.me);
       boot = c.new-tasks.ensures.boot ∙ c.boot.ensures;
       lists = c.if-not-do_lists_stand.ensures.stand refl;
-      tasks_are = c.new-tasks.ensures.of layout;
+      tasks_are = c.new-tasks.ensures.of c.args.layout;
     }
 
 pub returns : goal.returns
@@ -80,8 +80,7 @@ returns g c =
     let disk = c.args.disk in
     let layout = c.args.layout in
     let me = c.args.me in
-    let same : shape_of me.0 c.block.result c.records.result ≡ shape_at layout me = λ i. shape_of me.0 (c.block.ensures i)
-    (c.records.ensures.value i) in
+    let same = shape_so g (goal.at.returns g c).After-open_store in
     let store = c.in-Ok.store in
     let tasks = c.new-tasks.result in
     let found : d.tells → IsCounted (shape_at layout me) (d.seen disk) store.state = λ told.

@@ -21,15 +21,13 @@ use Rattle.node.proofs.open_calls.OpenCalls.begin.Goals as goal
 pub returns-in_err-keep_open-in-Ok-clause-err : goal.returns-in_err-keep_open-in-Ok-clause-err
 unfolding state_with
 returns-in_err-keep_open-in-Ok-clause-err c =
-    let m = c.args.self.now.operations in
-    let n = c.keep_open.new.values in
+    let now = c.keep_open.new.values in
     let entries = c.in_err-keep_open-in-Ok.ensures.err in
     let same : (parts : OtherParts) → record (state_with parts c.args.self.now) {
-      busy = btree_map_len n;
-      calls = λ k. option_map coordinator_of
-          (get nat_cmp n k);
+      busy = btree_map_len now;
+      calls = λ k. option_map coordinator_of (get nat_cmp now k);
     } ≡ state_with parts c.args.self.now =
-    λ parts. same_states _ _ refl refl refl refl (ap length entries) refl (λ g e. refl) (λ g. refl) (λ g. refl) (λ g e s. refl) (λ k. ap (option_map coordinator_of) (same_calls m n entries k)) refl refl in
+    λ parts. same_states _ _ refl refl refl refl (ap length entries) refl (λ g e. refl) (λ g. refl) (λ g. refl) (λ g e s. refl) (λ k. ap (option_map coordinator_of) (same_calls c.args.self.now.operations now entries k)) refl refl refl in
     on_err _ same
 
 pub returns-in_err-keep_open-in-Ok-clause-same : goal.returns-in_err-keep_open-in-Ok-clause-same
@@ -64,15 +62,15 @@ returns-in_ok-keep_open-in-Ok-clause-begun c = λ parts.
       state_is = same_states _ _ refl refl (ap (λ (t : Stamp). t.time) stamp) refl
           c.in_ok-keep_open-in-Ok.ensures.opened.count refl (λ g e. refl) (λ g. refl) (λ g. refl) (λ g e s. refl)
           (λ k. shown_after coordinator_of m n seq (Some operation) c.in_ok-keep_open-in-Ok.ensures.opened.calls k
-          ∙ ap (λ (o : Coordinator). put (λ j. option_map coordinator_of (get nat_cmp m j)) seq (Some o) k) same) refl refl;
+          ∙ ap (λ (o : Coordinator). put (λ j. option_map coordinator_of (get nat_cmp m j)) seq (Some o) k) same) refl refl refl;
     }
 
 pub returns-in_ok-keep_open-in-Ok-clause-same : goal.returns-in_ok-keep_open-in-Ok-clause-same
 returns-in_ok-keep_open-in-Ok-clause-same c =
     let layout = c.args.layout.now in
-    let operation : Operation = c.in-Ok.operation in
-    let seq = c.args.self.now.seq + 1 in
-    let at : IsAt layout seq operation =
+    let begun : Operation = c.in-Ok.operation in
+    let last = c.args.self.now.seq + 1 in
+    let at : IsAt layout last begun =
     record {
       seq = ap (λ (op : phased.Operation). op.state.call.seq) c.in-Ok.ensures.operation;
       is_operation = ap (λ (op : phased.Operation). op.block) c.in-Ok.ensures.operation;
@@ -81,9 +79,9 @@ returns-in_ok-keep_open-in-Ok-clause-same c =
       me = refl;
       boot = refl;
       of = λ of.
-          each_after (λ k (op : Operation). IsAt layout k op) c.args.self.now.operations c.keep_open.new.values seq
-          (Some operation) c.in_ok-keep_open-in-Ok.ensures.opened.calls of
-          (λ op is. let same : operation ≡ op = cc in subst (λ (o : Operation). IsAt layout seq o) same at);
+          each_after (λ k (op : Operation). IsAt layout k op) c.args.self.now.operations c.keep_open.new.values last
+          (Some begun) c.in_ok-keep_open-in-Ok.ensures.opened.calls of
+          (λ op is. let same : begun ≡ op = cc in subst (λ (o : Operation). IsAt layout last o) same at);
     }
 
 pub returns-in-Err : goal.returns-in-Err

@@ -1,5 +1,5 @@
 -- The operation is open no more.
-use Rattle.std.proofs.Common.{◌≡◌, [], ◌∷◌, ℕ, List, None, refl, ap, subst, arith}
+use Rattle.std.proofs.Common.{List, None, refl, ap, subst, arith}
 use Rattle.protocol.specs.declared.tellings.Answered.{Answered}
 use Rattle.node.specs.Operations.{coordinator_of}
 use Rattle.node.specs.Outcomes.{Outcome}
@@ -17,4 +17,4 @@ returns-clause-state c = λ parts.
     let closed = subst (λ (answers : List Answered). AreCallsAfter answers seq m n) (ap (λ (outs : Outcome). outs.answers) c.answering-outs.ensures)
     c.close_answered.ensures.calls in
     same_states _ _ refl refl refl refl (omega (arith, closed.count)) refl (λ g e. refl) (λ g. refl) (λ g. refl) (λ g e s. refl)
-    (λ k. shown_after coordinator_of m n seq None closed.calls k) refl refl
+    (λ k. shown_after coordinator_of m n seq None closed.calls k) refl refl refl

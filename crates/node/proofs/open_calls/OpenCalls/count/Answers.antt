@@ -1,15 +1,14 @@
 -- The operation has counted the message, or is as it was.
-use Rattle.std.proofs.Common.{◌≡◌, ℕ, nat_eq, Option, Some, None, Result, Ok, Err, refl, sym, ◌∙◌, ap, subst, rules}
+use Rattle.std.proofs.Common.{◌≡◌, ℕ, nat_eq, Option, Some, Result, Ok, Err, refl, sym, ◌∙◌, ap, subst, rules}
 use Rattle.std.specs.Option.{option_map}
 use Rattle.std.specs.Ordering.{nat_cmp}
-use Rattle.std.specs.BTreeMap.{get, btree_map_len}
+use Rattle.std.specs.BTreeMap.{get}
 use Rattle.std.specs.Result.{OnOk, OnErr}
-use Rattle.coord_phase.specs.Operations.{counts, heard}
 use Rattle.protocol.specs.Coordinators.{Coordinator}
 use Rattle.node.specs.declared.operations.Operation.{Operation}
-use Rattle.node.specs.Moves.{HasCounted, WaitsOn}
-use Rattle.node.specs.Operations.{shown_of, coordinator_of}
-use Rattle.node.specs.States.{OtherParts, state_with}
+use Rattle.node.specs.Moves.{WaitsOn}
+use Rattle.node.specs.Operations.{coordinator_of}
+use Rattle.node.specs.States.{state_with}
 use Rattle.node.proofs.Replied.{put_held}
 use Rattle.node.proofs.States.{same_states}
 use Rattle.node.proofs.Tables.{shown_after}
@@ -60,5 +59,5 @@ returns-clause-err c =
     ap (option_map coordinator_of) (sym c.in-Some.ensures.value) ∙ ap (λ (k : Coordinator). Some k) (sym same) in
     same_states _ _ refl refl refl refl written.2 refl (λ g e. refl) (λ g. refl) (λ g. refl) (λ g e s. refl)
     (λ k. shown_after coordinator_of m now c.args.seq (Some after) (written.3 (search rules)).0 k
-    ∙ sym (put_held f c.args.seq (Some (coordinator_of after)) k (nat_eq k c.args.seq) held refl)) refl refl)
+    ∙ sym (put_held f c.args.seq (Some (coordinator_of after)) k (nat_eq k c.args.seq) held refl)) refl refl refl)
     c.count.ensures.same

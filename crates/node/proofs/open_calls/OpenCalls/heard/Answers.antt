@@ -1,5 +1,4 @@
 -- The time is known.
-use Rattle.std.proofs.Common.{◌≡◌, ℕ, sym}
 use Rattle.protocol.specs.Nodes.{Node}
 use Rattle.node.specs.States.{state_with}
 use Rattle.node.proofs.open_calls.OpenCalls.heard.Goals as goal

@@ -1,5 +1,5 @@
 -- The time is known.
-use Rattle.std.proofs.Common.{◌≡◌, refl}
+use Rattle.std.proofs.Common.{refl}
 use Rattle.node.specs.States.{state_with}
 use Rattle.node.proofs.open_calls.OpenCalls.knows.Goals as goal
 

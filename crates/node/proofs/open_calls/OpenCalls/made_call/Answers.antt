@@ -1,5 +1,5 @@
 -- The number of the last call is one more, or as it was.
-use Rattle.std.proofs.Common.{◌≡◌, ◌+◌, Bool, true, false, if◌then◌else◌, sym, ap}
+use Rattle.std.proofs.Common.{◌+◌, Bool, if◌then◌else◌, sym, ap}
 use Rattle.protocol.specs.Nodes.{Node}
 use Rattle.node.specs.States.{state_with}
 use Rattle.node.proofs.open_calls.OpenCalls.made_call.Goals as goal

@@ -1,5 +1,5 @@
 -- The call and the time are the last ones.
-use Rattle.std.proofs.Common.{◌≡◌, refl}
+use Rattle.std.proofs.Common.{refl}
 use Rattle.node.specs.States.{state_with}
 use Rattle.node.proofs.open_calls.OpenCalls.made_read.Goals as goal
 

@@ -15,4 +15,4 @@ unfolding state_with
 returns-clause-state c =
     λ parts. same_states _ _ (ap (λ (s : StampSource). s.boot) c.new-stamps.ensures) refl (ap (λ (s : StampSource). s.known) c.new-stamps.ensures) refl
     c.new-operations.ensures.len refl (λ g e. refl) (λ g. refl) (λ g. refl) (λ g e s. refl)
-    (λ k. ap (λ es. option_map coordinator_of (lookup (is_at (nat_cmp k)) es)) c.new-operations.ensures.empty) refl refl
+    (λ k. ap (λ es. option_map coordinator_of (lookup (is_at (nat_cmp k)) es)) c.new-operations.ensures.empty) refl refl refl

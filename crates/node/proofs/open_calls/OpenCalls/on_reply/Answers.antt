@@ -1,17 +1,16 @@
 -- Which of the machine's cases a reply is.
-use Rattle.std.proofs.Common.{◌≡◌, ℕ, nat_eq, List, length, Option, Some, refl, sym, ◌∙◌, ap, subst, arith, rules}
+use Rattle.std.proofs.Common.{◌≡◌, ℕ, cond, nat_eq, List, Option, Some, refl, sym, ◌∙◌, ap, subst, rules}
 use Rattle.std.specs.Option.{option_map}
 use Rattle.std.specs.Ordering.{nat_cmp}
-use Rattle.std.specs.BTreeMap.{BTreeMap, get, btree_map_len}
+use Rattle.std.specs.BTreeMap.{get, is_at, btree_map_len}
 use Rattle.fab_base.specs.declared.stamps.Stamp.{Stamp}
 use Rattle.messages.specs.declared.packets.Message.{Message}
 use Rattle.messages.specs.declared.packets.Message.TheVariants as message
 use Rattle.protocol.specs.Coordinators as machine
 use Rattle.protocol.specs.Coordinators.{Coordinator}
-use Rattle.protocol.specs.Nodes.{Node, put, with_known, known_after, fresh_stamp}
+use Rattle.protocol.specs.Nodes.{Node, put, known_after, fresh_stamp}
 use Rattle.stripe_code.specs.Codes.{block_code}
 use Rattle.coord_phase.specs.Decisions.{decided_on}
-use Rattle.coord_phase.specs.Messages.{packets_from}
 use Rattle.protocol.specs.declared.tellings.Answered.{Answered}
 use Rattle.node.specs.declared.operations.Operation.{Operation}
 use Rattle.node.specs.Operations.{shown_of, coordinator_of}
@@ -22,14 +21,14 @@ use Rattle.node.proofs.States.{steps_as, same_states, on_err}
 use Rattle.node.proofs.Tables.{shown_after, each_after}
 use Rattle.node.proofs.Replied.{put_held, replied_is, busy_after, does_node, does_send, does_tell, does_answer, does_report, calls_left, at_if_open}
 use Rattle.node.proofs.open_calls.OpenCalls.on_reply.Goals as goal
+use Rattle.node.proofs.open_calls.OpenCalls.on_reply.Goals.{After-close_answered}
 
 pub returns-in_err-outs-clause-err : goal.returns-in_err-outs-clause-err
 unfolding state_with
 returns-in_err-outs-clause-err c =
-    let m = c.args.self.now.operations in
     let after = c.on_reply.new.self in
     let written = c.get_mut.follows.holds after in
-    let f = λ (q : ℕ). option_map coordinator_of (get nat_cmp m q) in
+    let f = λ (q : ℕ). option_map coordinator_of (get nat_cmp c.args.self.now.operations q) in
     let held : f c.args.call.seq ≡ Some (coordinator_of after) =
     ap (option_map coordinator_of) (sym c.in-Some.ensures.value) ∙ ap (λ (k : Coordinator). Some k) (sym c.in_err-outs.ensures.same) in
     let now = c.get_mut.follows.lender after in
@@ -38,8 +37,8 @@ returns-in_err-outs-clause-err c =
       calls = λ k. option_map coordinator_of (get nat_cmp now k);
     } ≡ state_with parts c.args.self.now =
     λ parts. same_states _ _ refl refl refl refl written.2 refl (λ g e. refl) (λ g. refl) (λ g. refl) (λ g e s. refl)
-    (λ k. shown_after coordinator_of m now c.args.call.seq (Some after) (written.3 (search rules)).0 k
-    ∙ sym (put_held f c.args.call.seq (Some (coordinator_of after)) k (nat_eq k c.args.call.seq) held refl)) refl refl in
+    (λ k. shown_after coordinator_of c.args.self.now.operations now c.args.call.seq (Some after) (written.3 (search rules)).0 k
+    ∙ sym (put_held f c.args.call.seq (Some (coordinator_of after)) k (nat_eq k c.args.call.seq) held refl)) refl refl refl in
     on_err _ same
 
 pub returns-in_err-outs-clause-same : goal.returns-in_err-outs-clause-same
@@ -60,6 +59,17 @@ returns-in_err-outs-clause-same c = λ layout. record {
       (written.3 (search rules)).0 of
       (λ operation is. let same : after ≡ operation = cc in subst (λ (o : Operation). IsAt layout seq o) same at);
 }
+
+-- the operations that are open then
+left_so : (c : After-close_answered)
+    → ((q : ℕ) → get nat_cmp c.close_answered.new.values q
+    ≡ cond (is_at (nat_cmp c.args.call.seq) q) (left_open c.in_ok-outs.outs.answers c.on_reply.new.self) (get nat_cmp c.args.self.now.operations q))
+    × (btree_map_len c.close_answered.new.values ≡ busy_after c.in_ok-outs.outs.answers (btree_map_len c.args.self.now.operations))
+left_so c =
+    let now = c.on_reply.new.self in
+    let held = c.get_mut.follows.holds now in
+    calls_left c.in_ok-outs.outs.answers c.args.self.now.operations (c.get_mut.follows.lender now) c.close_answered.new.values c.args.call.seq now
+    (held.3 (search rules)).0 held.2 c.close_answered.ensures.calls
 
 pub returns : goal.returns
 unfolding state_with
@@ -92,12 +102,10 @@ returns c =
           let carried : CarriesOut layout op after c.after_reply-stamps.result.known c.on_reply.new.stamps.known (or_waits k next) outs =
           subst (λ (n : machine.Next). CarriesOut layout op after c.after_reply-stamps.result.known c.on_reply.new.stamps.known (or_waits k n) outs)
           decided (c.in_ok-outs.ensures.step layout at.is_operation) in
-          let written = c.get_mut.follows.holds after in
-          let left = calls_left outs.answers m (c.get_mut.follows.lender after) left_calls call.seq after (written.3 (search rules)).0 written.2
-          c.close_answered.ensures.calls in
+          let left = left_so (goal.at.returns c).After-close_answered in
           let f = λ (q : ℕ). option_map coordinator_of (get nat_cmp m q) in
           steps_as me _ _ _ outs
-          (replied_is layout me c.args.now from before call reply k (ap (option_map coordinator_of) held) at.seq refl)
+          (replied_is layout me c.args.now from before call reply k (ap (option_map coordinator_of) held) at.seq refl refl)
           (record {
             packets = carried.packets me ∙ sym (does_send layout me before known k next);
             told = carried.told ∙ sym (does_tell layout me before known k next);
@@ -113,7 +121,7 @@ returns c =
                 refl (λ g e. refl) (λ g. refl) (λ g. refl) (λ g e s. refl)
                 (λ q. shown_after coordinator_of m left_calls call.seq (left_open outs.answers after) left.0 q
                 ∙ ap (λ (o : Option Coordinator). put f call.seq o q) (sym carried.left)
-                ∙ ap (λ (s : ℕ). put f s (left_by (or_waits k next)) q) (sym at.seq)) refl refl
+                ∙ ap (λ (s : ℕ). put f s (left_by (or_waits k next)) q) (sym at.seq)) refl refl refl
                 ∙ sym (does_node layout me before known k next);
           });
       few = c.in_ok-outs.ensures.few;
@@ -123,16 +131,13 @@ returns c =
         boot = c.on_reply.ensures.boot ∙ c.after_reply-stamps.ensures.boot;
         of = λ of.
             let seq = c.args.call.seq in
-            let m = c.args.self.now.operations in
-            let op : Operation = c.in-Some.open.now in
-            let after : Operation = c.on_reply.new.self in
-            let outs : Outcome = c.in_ok-outs.outs in
-            let written = c.get_mut.follows.holds after in
-            let left = calls_left outs.answers m (c.get_mut.follows.lender after) c.close_answered.new.values seq after (written.3 (search rules)).0 written.2
-            c.close_answered.ensures.calls in
-            let at : IsAt layout seq op = of seq op (sym c.in-Some.ensures.value) in
+            let was : Operation = c.in-Some.open.now in
+            let now : Operation = c.on_reply.new.self in
+            let answers = c.in_ok-outs.outs.answers in
+            let at : IsAt layout seq was = of seq was (sym c.in-Some.ensures.value) in
             let carried = c.in_ok-outs.ensures.step layout at.is_operation in
-            each_after (λ k (operation : Operation). IsAt layout k operation) m c.close_answered.new.values seq (left_open outs.answers after) left.0 of
-            (λ operation is. at_if_open layout seq op after operation outs.answers at carried.keeps carried.block is);
+            each_after (λ k (operation : Operation). IsAt layout k operation) c.args.self.now.operations c.close_answered.new.values seq (left_open answers now)
+            (left_so (goal.at.returns c).After-close_answered).0 of
+            (λ operation is. at_if_open layout seq was now operation answers at carried.keeps carried.block is);
       };
     }

@@ -1,11 +1,6 @@
 -- The operation is as it was before it counted.
-use Rattle.std.proofs.Common.{◌≡◌, ◌-◌, ◌+◌, ◌++◌, ◌∷◌, [], ℕ, Bool, cond, List, length, take, nat_eq, Option, Some, None, is_some, true, refl, sym, ◌∙◌, ap, subst, rules, arith}
-use Rattle.std.specs.Option.{option_map}
-use Rattle.std.specs.Ordering.{nat_cmp}
-use Rattle.std.specs.BTreeMap.{get, btree_map_len, is_at}
-use Rattle.std.proofs.lemmas.Bool.Decides.{nat_tests}
+use Rattle.std.proofs.Common.{◌≡◌, Some, refl, sym, ◌∙◌, ap, rules}
 use Rattle.stamp_store.specs.declared.stamp_sources.StampSource.{StampSource}
-use Rattle.protocol.specs.Coordinators.{Coordinator}
 use Rattle.coord_phase.specs.Operations as phased
 use Rattle.coord_phase.specs.Operations.{without_last}
 use Rattle.node.specs.declared.operations.Operation.{Operation}
@@ -34,4 +29,4 @@ returns-in-Some-clause-state c = λ from message before has parts.
     same_states _ _ (ap (λ (stamps : StampSource). stamps.boot) has.stamps) has.seq_is (ap (λ (stamps : StampSource). stamps.known) has.stamps) refl
     (written.2 ∙ has.count) refl (λ g e. refl) (λ g. refl) (λ g. refl) (λ g e s. refl)
     (λ k. shown_after coordinator_of mid last seq (Some after) (written.3 (search rules)).0 k
-    ∙ twice_put m mid seq has.was has.now has.open_before has.others (coordinator_of after) was k) refl refl
+    ∙ twice_put m mid seq has.was has.now has.open_before has.others (coordinator_of after) was k) refl refl refl

@@ -1,5 +1,5 @@
 -- What is still to be done is the machine's.
-use Rattle.std.proofs.Common.{◌≡◌, ◌-◌, [], ◌∷◌, ℕ, None, refl, sym, ◌∙◌, ap, subst}
+use Rattle.std.proofs.Common.{◌-◌, [], ◌∷◌, ℕ, None, refl, sym, ◌∙◌, ap, subst}
 use Rattle.protocol.specs.Nodes.{with_call}
 use Rattle.node.specs.declared.open_work.Turn.{Turn}
 use Rattle.node.specs.Moves.{IsTurn}

@@ -1,5 +1,5 @@
 -- The time is known from then on, and the round.
-use Rattle.std.proofs.Common.{◌≡◌, ℕ, Option, sym, ◌∙◌, ap, subst}
+use Rattle.std.proofs.Common.{ℕ, Option, sym, ◌∙◌, ap, subst}
 use Rattle.protocol.specs.Proposals.{Proposal, round_heard}
 use Rattle.protocol.specs.Nodes.{known_after, with_known}
 use Rattle.node.specs.declared.proposals.OpenProposal.{OpenProposal}

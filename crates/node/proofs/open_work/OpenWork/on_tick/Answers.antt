@@ -1,9 +1,8 @@
 -- The operations send again, and then the proposal.
-use Rattle.std.proofs.Common.{◌≡◌, ◌++◌, List, sym, ◌∙◌, ap}
+use Rattle.std.proofs.Common.{◌++◌, List, sym, ◌∙◌, ap}
 use Rattle.std.proofs.lemmas.List.{append-nil, map-append}
 use Rattle.fab_base.specs.declared.identities.BrickId.{BrickId}
 use Rattle.messages.specs.declared.packets.Message.{Message}
-use Rattle.messages.specs.declared.packets.Packet.{Packet}
 use Rattle.protocol.specs.Nodes.{ballot_resent, ticked}
 use Rattle.node.specs.Proposals.{proposal_in}
 use Rattle.coord_phase.specs.Messages.{packets_from}

@@ -1,5 +1,5 @@
 -- What was counted is taken back.
-use Rattle.std.proofs.Common.{◌≡◌, ℕ, refl, subst}
+use Rattle.std.proofs.Common.{ℕ, refl, subst}
 use Rattle.messages.specs.declared.packets.Message.TheVariants as message
 use Rattle.node.specs.declared.open_work.Turn.{Turn}
 use Rattle.node.specs.Moves.{HasCounted, IsTurn}

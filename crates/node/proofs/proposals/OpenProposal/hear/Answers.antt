@@ -1,7 +1,6 @@
 -- The proposal does with the message what the machine's does.
-use Rattle.std.proofs.Common.{◌≡◌, ◌≤◌, [], ◌∷◌, length, Some, None, refl, sym, ◌∙◌, ap, subst, arith}
+use Rattle.std.proofs.Common.{◌≡◌, [], length, Some, None, refl, sym, ◌∙◌, ap, subst, arith}
 use Rattle.view_synod.specs.declared.answers.ViewNext.{ViewNext}
-use Rattle.view_synod.specs.declared.answers.ViewNext.TheVariants as next
 use Rattle.view_synod.specs.Proposers.{GoesOn, voting_in}
 use Rattle.node.specs.Outcomes.{Outcome}
 use Rattle.node.specs.Proposals.{HearsSo}

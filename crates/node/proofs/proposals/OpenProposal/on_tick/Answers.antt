@@ -1,14 +1,7 @@
 -- The proposal sends its phase again.
-use Rattle.std.proofs.Common.{◌≡◌, ◌≤◌, ◌*◌, List, length, vec_len, Option, Some, None, sym, ◌∙◌, ap, subst, arith}
+use Rattle.std.proofs.Common.{◌≡◌, ◌≤◌, ◌*◌, length, vec_len, ◌∙◌, ap, subst, arith}
 use Rattle.std.proofs.lemmas.Result.{IfOk-weaker}
-use Rattle.fab_base.specs.declared.identities.BrickId.{BrickId}
-use Rattle.fab_base.specs.declared.identities.GroupId.{GroupId}
-use Rattle.fab_base.specs.declared.member_lists.View.{View}
-use Rattle.messages.specs.declared.packets.Message.{Message}
-use Rattle.protocol.specs.Nodes as machine
-use Rattle.protocol.specs.Nodes.{ballot_resent}
 use Rattle.view_synod.specs.declared.answers.ViewNext.{ViewNext}
-use Rattle.view_synod.specs.declared.answers.ViewNext.TheVariants as next
 use Rattle.view_synod.specs.Proposers.{SendsAgain}
 use Rattle.coord_phase.specs.Messages.{packets_from}
 use Rattle.node.specs.Teaching.{teaching}

@@ -1,5 +1,5 @@
 -- The proposal begins as the machine's.
-use Rattle.std.proofs.Common.{◌≡◌, ◌≤◌, length, refl, ap, subst, arith}
+use Rattle.std.proofs.Common.{length, refl, ap, subst, arith}
 use Rattle.fab_base.specs.declared.member_lists.View.{View}
 use Rattle.view_synod.specs.declared.answers.ViewNext.{ViewNext}
 use Rattle.protocol.specs.Proposals.{next_ballot}

@@ -1,36 +1,44 @@
 -- The read of the synchronisation goes on, or ends.
-use Rattle.std.proofs.Common.{◌≡◌, ◌≤◌, ℕ, true, nat_eq, Option, Some, None, refl, sym, ◌∙◌, ap, subst, arith}
-use Rattle.std.specs.Option.{option_map, is_some}
+use Rattle.std.proofs.Common.{◌≡◌, ℕ, Option, Some, refl, sym, ◌∙◌, ap, subst, arith}
 use Rattle.std.specs.Ordering.{nat_cmp}
-use Rattle.std.specs.BTreeMap.{BTreeMap, get}
+use Rattle.std.specs.BTreeMap.{get}
 use Rattle.fab_base.specs.declared.identities.BrickId.{BrickId}
 use Rattle.fab_base.specs.declared.identities.GroupId.{GroupId}
-use Rattle.messages.specs.declared.packets.Message.TheVariants as message
 use Rattle.stripe_code.specs.Codes.{coding}
 use Rattle.protocol.specs.Nodes.{Node, NodeStep, known_after, replied_at, with_known, with_round}
-use Rattle.node.specs.declared.jobs.Followed.{Followed}
 use Rattle.node.specs.declared.jobs.OpenJob.{OpenJob}
 use Rattle.node.specs.declared.jobs.ReadTurn.{ReadTurn}
 use Rattle.node.specs.declared.open_work.OpenWork.{OpenWork}
-use Rattle.node.specs.declared.operations.Operation.{Operation}
-use Rattle.node.specs.declared.tasks.Tasks.{Tasks}
 use Rattle.node.specs.Jobs.{FollowsFrom, followed_step, reading_of, then_told, with_reading}
-use Rattle.node.specs.Operations.{coordinator_of}
 use Rattle.node.specs.Reads.{IsReadTurn, IsSameRead, LeftSo, turn_step}
+use Rattle.node.specs.Scrubs.{scrubbing_in, with_scrubbing}
 use Rattle.node.specs.States.{KeptParts, StepsAs, parts_with, state_in, state_with}
-use Rattle.node.specs.Tasks.{AreSameTasks, IsJobAt, IsJobIn, read_seq, tasks_in}
+use Rattle.node.specs.Tasks.{IsJobAt, IsJobIn, IsScrubIn, read_seq, tasks_in}
 use Rattle.node.proofs.ReadReplies.{read_free, reads_call, turn_is}
+use Rattle.node.proofs.ScrubCalls.{aside_next, scrub_heard, scrub_other, scrub_stays}
+use Rattle.node.proofs.ScrubsBeside.{ScrubApart, calls_apart_scrub, swapped}
+use Rattle.node.proofs.Turning.{alone}
 use Rattle.node.proofs.tasks.Tasks.on_read_reply.Goals as goal
-use Rattle.node.proofs.tasks.Tasks.on_read_reply.Goals.{In_ok-turn}
+use Rattle.node.proofs.tasks.Tasks.on_read_reply.Goals.{In-Ends, In-Goes, In_ok-turn}
 
 -- the read is of the brick
 at_brick : (c : In_ok-turn) → IsJobAt c.args.layout.now c.args.self.now.work.calls c.in-Some.open
 at_brick c = subst (IsJobIn c.args.layout.now c.args.self.now.work.calls) c.in-Some.is c.requires.of.job_is
 
--- the brick, once it knows the time and the round of a ballot that the reply makes known
+-- the scrub has another call
+scrub_apart : (c : In_ok-turn) → ScrubApart (scrubbing_in c.args.self.now.scrub) (read_seq c.in-Some.open)
+scrub_apart c =
+    scrub_other c.args.layout.now c.args.self.now.work.calls c.in-Some.open c.args.self.now.scrub
+    (subst (λ (job : Option OpenJob). IsScrubIn c.args.layout.now c.args.self.now.work.calls job c.args.self.now.scrub) c.in-Some.is c.requires.of.scrub_is)
+
+-- the brick, but for the read
+abbrev unread : In_ok-turn → KeptParts → Node
+unread c kept = with_scrubbing (scrubbing_in c.args.self.now.scrub) (state_in kept c.args.self.now.work)
+
+-- it, once it knows the time and the round of a ballot that the reply makes known
 abbrev later : In_ok-turn → KeptParts → Node
 later c kept =
-    let node : Node = with_round (state_in kept c.args.self.now.work) c.args.reply.now in
+    let node : Node = with_round (unread c kept) c.args.reply.now in
     with_known node (known_after (state_in kept c.args.self.now.work).known c.args.reply.now)
 
 -- what the reply comes to is the machine's step
@@ -49,51 +57,56 @@ step_is c kept turned is =
     let call = c.args.call in
     let reply = c.args.reply.now in
     let held = c.in-Some.open in
+    let beside = scrubbing_in tasks.scrub in
     let at = c.source_after-at.result in
     let turned_is = subst (λ (t : ReadTurn). IsReadTurn layout held from c.args.packet.now.message at t c.on_reply.new.self) is c.in_ok-turn.ensures.turn in
-    (λ i. (let now : Node = tasks_in kept (record { work = work; job = c.in-Some.is i }) in
+    (λ i. (let now : Node = tasks_in kept (record { work = work; job = c.in-Some.is i; scrub = tasks.scrub }) in
     replied_at (coding layout) me c.args.now from (with_round now reply) call reply (now.calls call.seq)))
-    ∙ turn_is layout me c.args.now from at held c.on_reply.new.self (with_round (state_in kept work) reply) call reply c.args.packet.now.message turned
+    ∙ ap (λ (n : Node). replied_at (coding layout) me c.args.now from (with_round n reply) call reply (n.calls call.seq))
+    (swapped beside (reading_of held) (state_in kept work) (scrub_apart c))
+    ∙ turn_is layout me c.args.now from at held c.on_reply.new.self (with_round (unread c kept) reply) call reply c.args.packet.now.message turned
     turned_is c.requires.reply (reads_call tasks.job held call.seq c.in-Some.is c.requires.reads)
     c.source_after-at.ensures.me c.source_after-at.ensures.now c.source_after-at.ensures.seq c.source_after-at.ensures.boot c.source_after-at.ensures.known
-    (read_free layout work held kept (at_brick c))
+    (calls_apart_scrub beside (state_in kept work).calls (read_seq held) (scrub_apart c) ∙ read_free layout work held kept (at_brick c))
+
+-- the read goes on, as a read of the same call
+goes_on : (c : In-Goes) → IsSameRead c.args.layout.now c.in-Some.open c.on_reply.new.self
+goes_on c =
+    subst (λ (t : ReadTurn). LeftSo c.args.layout.now c.in-Some.open c.source_after-at.result t c.on_reply.new.self) c.in-Goes.is c.in_ok-turn.ensures.turn.left
 
 pub returns-in-Goes-clause-step : goal.returns-in-Goes-clause-step
 unfolding state_with
 returns-in-Goes-clause-step c = λ kept.
+    let e = (goal.at.returns-in-Goes-clause-step c).In-Goes in
     let d = (goal.at.returns-in-Goes-clause-step c).In_ok-turn in
-    let tasks = c.args.self.now in
-    let me = tasks.work.calls.me in
-    let outs = c.in-Goes.outs in
-    let known = c.in-Goes.known in
-    let after : OpenJob = c.on_reply.new.self in
+    let was = c.args.self.now in
+    let s = scrubbing_in was.scrub in
+    let now : OpenJob = c.on_reply.new.self in
     let work : OpenWork = record { calls = c.knows.new.self; proposals = c.heard.new.self.proposals } in
-    subst (λ (step : NodeStep). StepsAs me (tasks_in kept (record { work = work; job = Some after })) step outs)
+    subst (λ (step : NodeStep). StepsAs was.work.calls.me (tasks_in kept (record { work = work; job = Some now; scrub = was.scrub })) step c.in-Goes.outs)
     (sym (step_is d kept _ c.in-Goes.is))
     (record {
       packets = refl;
       told = refl;
       answers = refl;
       reports = refl;
-      state_is = ap (with_reading (Some (reading_of after)))
-          (c.knows.ensures.state (parts_with kept c.heard.new.self.proposals) ∙ ap (λ (n : Node). with_known n known) (c.heard.ensures.state kept));
+      state_is = swapped s (reading_of now) (state_in kept work) (subst (ScrubApart s) (sym (goes_on e).seq) (scrub_apart d))
+          ∙ ap (λ (n : Node). with_reading (Some (reading_of now)) (with_scrubbing s n))
+          (c.knows.ensures.state (parts_with kept c.heard.new.self.proposals) ∙ ap (λ (n : Node). with_known n c.in-Goes.known) (c.heard.ensures.state kept));
     })
 
 pub returns-in-Goes-clause-same : goal.returns-in-Goes-clause-same
 returns-in-Goes-clause-same c =
-    let d = (goal.at.returns-in-Goes-clause-same c).In_ok-turn in
+    let e = (goal.at.returns-in-Goes-clause-same c).In-Goes in
     let layout = c.args.layout.now in
     let calls = c.args.self.now.work.calls in
-    let held = c.in-Some.open in
     let after : OpenJob = c.on_reply.new.self in
     let heard = c.heard.ensures.same layout in
     let knows = c.knows.ensures.same layout in
-    let left : IsSameRead layout held after =
-    subst (λ (t : ReadTurn). LeftSo layout held c.source_after-at.result t after) c.in-Goes.is c.in_ok-turn.ensures.turn.left in
-    let at = at_brick d in
+    let at = at_brick (goal.at.returns-in-Goes-clause-same c).In_ok-turn in
     let operations = c.knows.ensures.operations ∙ c.heard.ensures.operations in
     let last = c.knows.ensures.seq ∙ c.heard.ensures.seq in
-    let seq = left.seq in
+    let seq = (goes_on e).seq in
     let made = at.made in
     record {
       me = knows.me ∙ heard.me;
@@ -103,49 +116,60 @@ returns-in-Goes-clause-same c =
           record {
             work_is = record { calls = knows.of work_is.calls; proposing = work_is.proposing };
             job_is = record {
-              open_is = left.of at.open_is;
+              open_is = (goes_on e).of at.open_is;
               made = omega (arith, last, seq, made);
               apart = (λ i. get nat_cmp (operations i) (seq i)) ∙ at.apart;
             };
+            scrub_is = scrub_stays layout calls c.knows.new.self c.in-Some.open after c.args.self.now.scrub operations last seq
+                (subst (λ (job : Option OpenJob). IsScrubIn layout calls job c.args.self.now.scrub) c.in-Some.is of.scrub_is);
           };
     }
+
+-- what comes after the read follows from the last call
+follows_so : (c : In-Ends) → FollowsFrom c.args.layout.now c.heard.new.self.calls.seq c.group-group.result c.in-Ends.next
+follows_so c =
+    subst (λ (g : GroupId). FollowsFrom c.args.layout.now c.heard.new.self.calls.seq g c.in-Ends.next) (sym c.group-group.ensures)
+    (subst (λ (n : ℕ). FollowsFrom c.args.layout.now n c.in-Some.open.job.group c.in-Ends.next) (c.source_after-at.ensures.seq ∙ sym c.heard.ensures.seq)
+    (subst (λ (t : ReadTurn). LeftSo c.args.layout.now c.in-Some.open c.source_after-at.result t c.on_reply.new.self) c.in-Ends.is
+    c.in_ok-turn.ensures.turn.left).0)
 
 pub returns-in-Ends-clause-step : goal.returns-in-Ends-clause-step
 unfolding state_with
 returns-in-Ends-clause-step c = λ kept.
     let d = (goal.at.returns-in-Ends-clause-step c).In_ok-turn in
-    let layout = c.args.layout.now in
     let me = c.args.self.now.work.calls.me in
     let told = c.in-Ends.told in
     let next = c.in-Ends.next in
-    let heard = c.heard.ensures.same layout in
     let group = c.group-group.ensures ∙ sym c.in_ok-turn.ensures.turn.group in
     let steps = subst (λ (b : BrickId). StepsAs b (tasks_in kept c.take_up.new.self)
-    (then_told told (followed_step b c.group-group.result (state_in kept c.heard.new.self) next)) c.take_up.result) heard.me (c.take_up.ensures.step kept) in
+    (then_told told (followed_step b c.group-group.result (with_scrubbing (scrubbing_in c.args.self.now.scrub) (state_in kept c.heard.new.self)) next)) c.take_up.result)
+    (c.heard.ensures.same c.args.layout.now).me (c.take_up.ensures.step kept) in
     subst (λ (step : NodeStep). StepsAs me (tasks_in kept c.take_up.new.self) step c.take_up.result)
-    ((λ i. then_told told (followed_step me (group i) (c.heard.ensures.state kept i) next)) ∙ sym (step_is d kept _ c.in-Ends.is))
+    ((λ i. then_told told (followed_step me (group i) (with_scrubbing (scrubbing_in c.args.self.now.scrub) (c.heard.ensures.state kept i)) next))
+    ∙ sym (step_is d kept _ c.in-Ends.is))
     steps
 
 pub take_up-requires-clause-from : goal.take_up-requires-clause-from
-take_up-requires-clause-from c =
-    let d = (goal.at.take_up-requires-clause-from c).In_ok-turn in (
-      c.args.layout.now,
-      subst (λ (g : GroupId). FollowsFrom c.args.layout.now c.heard.new.self.calls.seq g c.in-Ends.next) (sym c.group-group.ensures)
-          (subst (λ (n : ℕ). FollowsFrom c.args.layout.now n c.in-Some.open.job.group c.in-Ends.next) (c.source_after-at.ensures.seq ∙ sym c.heard.ensures.seq)
-          (subst (λ (t : ReadTurn). LeftSo c.args.layout.now c.in-Some.open c.source_after-at.result t c.on_reply.new.self) c.in-Ends.is
-          c.in_ok-turn.ensures.turn.left).0),
-    )
+take_up-requires-clause-from c = (c.args.layout.now, follows_so (goal.at.take_up-requires-clause-from c).In-Ends)
+
+pub take_up-requires-clause-apart : goal.take_up-requires-clause-apart
+take_up-requires-clause-apart c =
+    aside_next c.args.layout.now c.heard.new.self.calls c.args.self.now.job c.args.self.now.scrub
+    (scrub_heard c.args.layout.now c.args.self.now.work.calls c.heard.new.self.calls c.args.self.now.job c.args.self.now.scrub c.heard.ensures.operations
+    c.heard.ensures.seq c.requires.of.scrub_is)
 
 pub returns-in-Ends-clause-same : goal.returns-in-Ends-clause-same
 returns-in-Ends-clause-same c =
-    let layout = c.args.layout.now in
-    let heard = c.heard.ensures.same layout in
-    let follows = subst (λ (g : GroupId). FollowsFrom layout c.heard.new.self.calls.seq g c.in-Ends.next) (sym c.group-group.ensures)
-    (subst (λ (n : ℕ). FollowsFrom layout n c.in-Some.open.job.group c.in-Ends.next) (c.source_after-at.ensures.seq ∙ sym c.heard.ensures.seq)
-    (subst (λ (t : ReadTurn). LeftSo layout c.in-Some.open c.source_after-at.result t c.on_reply.new.self) c.in-Ends.is c.in_ok-turn.ensures.turn.left).0) in
-    let same = c.take_up.ensures.same layout follows in
+    let heard = c.heard.ensures.same c.args.layout.now in
+    let same = c.take_up.ensures.same c.args.layout.now (follows_so (goal.at.returns-in-Ends-clause-same c).In-Ends) in
     record {
       me = same.me ∙ heard.me;
       boot = same.boot ∙ heard.boot;
-      of = λ of. same.of (record { work_is = heard.of of.work_is; job_is = tt });
+      of = λ of. same.of (record {
+        work_is = heard.of of.work_is;
+        job_is = tt;
+        scrub_is = alone c.args.layout.now c.heard.new.self.calls c.args.self.now.job c.args.self.now.scrub
+            (scrub_heard c.args.layout.now c.args.self.now.work.calls c.heard.new.self.calls c.args.self.now.job c.args.self.now.scrub c.heard.ensures.operations
+            c.heard.ensures.seq of.scrub_is);
+      });
     }

@@ -1,5 +1,5 @@
 -- The brick begins, or refuses, as the machine's does.
-use Rattle.std.proofs.Common.{◌≡◌, List, map, refl, sym, ap, ◌∙◌, subst}
+use Rattle.std.proofs.Common.{◌≡◌, List, refl, sym, ap, ◌∙◌, subst}
 use Rattle.std.specs.Prelude.{Ok, Err, IfSome}
 use Rattle.std.proofs.lemmas.Bool.{and_parts}
 use Rattle.stripe_code.specs.Codes.{coding}
@@ -8,17 +8,16 @@ use Rattle.node.specs.declared.faults.NodeFault.{NodeFault}
 use Rattle.node.specs.declared.faults.NodeFault.TheVariants.{Refused}
 use Rattle.protocol.specs.Settings.{Setting}
 use Rattle.protocol.specs.Nodes.{Node, NodeStep, put, invoked}
-use Rattle.protocol.specs.Worlds.{World, is_brick}
+use Rattle.protocol.specs.Worlds.{World, Invokes, is_brick}
 use Rattle.world.specs.BrickSteps.{ChangesBrick, RunsOn, DoesBegin}
 use Rattle.world.specs.Shown.{IsUp, ShowsBricks, running_at, seqs_of, world_in}
 use Rattle.world.specs.declared.bricks.Brick.{Brick}
 use Rattle.world.specs.Texts.{refused_or_begun}
 use Rattle.world.proofs.MachineBegins.{refusal_here, invoked_boot, invoked_next, happens_refused}
-use Rattle.fab_disk.specs.MemDisk.{content_of}
-use Rattle.fab_disk.specs.declared.mem_disk.MemDisk.{MemDisk}
+use Rattle.world.proofs.Asking.{asked_refused, asked_stays}
 use Rattle.world.proofs.BrickListLemmas.{boots_as, disks_on, shows_on, up_there}
 use Rattle.world.proofs.HistoryLemmas.{tells_began, tells_same}
-use Rattle.world.proofs.SimulationLemmas.{on_err_always, shows_asked, shows_begun, shows_still, stays_alike}
+use Rattle.world.proofs.SimulationLemmas.{on_err_always, shows_begun, stays_alike}
 use Rattle.world.proofs.simulations.Simulation.begin.Goals as goal
 
 pub ask_brick-requires : goal.ask_brick-requires
@@ -65,30 +64,18 @@ returns-in-Ok-clause-ok c =
 
 pub returns-in-Err-Refused-clause-ok : goal.returns-in-Err-Refused-clause-ok
 returns-in-Err-Refused-clause-ok c =
-    let layout = c.args.layout.now in
-    let brick = c.args.brick in
-    let asks = subst (λ (fault : NodeFault). ChangesBrick c.args.self.now.bricks.items c.ask_brick.new.bricks.items brick (RunsOn (DoesBegin c.args.ask (Err fault))))
-    c.in-Err-Refused.field-0-is c.in-Err-Refused.ensures.asks in
-    let w : World = world_in layout c.args.self.now in
-    let did = shows_on w (DoesBegin c.args.ask (Err (Refused c.in-Err-Refused.refusal))) c.requires.stands.bricks asks in
-    record {
-      trail = refl;
-      shows = shows_still layout _ w _ (happens_refused (coding layout) w brick c.args.ask c.in-Err-Refused.refusal did.holds.refused)
-          (shows_asked layout c.args.self.now _ w brick did.next did.holds.stays did.bricks c.expect_call.ensures.same c.requires.stands);
-      outcome_is =
-          rw c.in-Err-Refused.field-0-is (sym (ap refused_or_begun (refusal_here (coding layout) w brick c.args.ask (up_there layout _ w _ c.requires.up c.requires.stands.bricks) ∙ did.holds.refused)));
-      disks = disks_on (DoesBegin c.args.ask (Err (Refused c.in-Err-Refused.refusal))) asks;
-    }
+    let w : World = world_in c.args.layout.now c.args.self.now in
+    rw c.in-Err-Refused.field-0-is
+    (asked_refused c.args.layout.now c.args.self.now (record c.args.self.now { bricks = c.ask_brick.new.bricks; history = c.expect_call.new.self }) c.args.brick
+    (DoesBegin c.args.ask (Err (Refused c.in-Err-Refused.refusal))) refl c.expect_call.ensures.same c.requires.stands
+    (subst (λ (fault : NodeFault). ChangesBrick c.args.self.now.bricks.items c.ask_brick.new.bricks.items c.args.brick (RunsOn (DoesBegin c.args.ask (Err fault))))
+    c.in-Err-Refused.field-0-is c.in-Err-Refused.ensures.asks)
+    (λ next held. held.stays) (Invokes c.args.brick c.args.ask) _
+    (λ next held. happens_refused (coding c.args.layout.now) w c.args.brick c.args.ask c.in-Err-Refused.refusal held.refused)
+    (λ next held. sym (ap refused_or_begun (refusal_here (coding c.args.layout.now) w c.args.brick c.args.ask
+    (up_there c.args.layout.now _ w _ c.requires.up c.requires.stands.bricks) ∙ held.refused))))
 
 pub returns-in-Err-NoMemory-clause-err : goal.returns-in-Err-NoMemory-clause-err
 returns-in-Err-NoMemory-clause-err c =
-    let layout = c.args.layout.now in
-    let brick = c.args.brick in
-    let w : World = world_in layout c.args.self.now in
-    let did = shows_on w (DoesBegin c.args.ask (Err c.in-Err-NoMemory.field-0)) c.requires.stands.bricks c.in-Err-NoMemory.ensures.asks in
-    record {
-      trail = refl;
-      shows = shows_asked layout c.args.self.now _ w brick did.next did.holds.stays did.bricks c.expect_call.ensures.same c.requires.stands;
-      contents = ap (λ (disks : List MemDisk). map content_of disks)
-          (disks_on (DoesBegin c.args.ask (Err c.in-Err-NoMemory.field-0)) c.in-Err-NoMemory.ensures.asks);
-    }
+    asked_stays c.args.layout.now c.args.self.now (record c.args.self.now { bricks = c.ask_brick.new.bricks; history = c.expect_call.new.self }) c.args.brick
+    (DoesBegin c.args.ask (Err c.in-Err-NoMemory.field-0)) refl c.expect_call.ensures.same c.requires.stands c.in-Err-NoMemory.ensures.asks (λ next held. held.stays)

@@ -1,6 +1,6 @@
 -- The state shows bricks of the layout.
 use Rattle.std.proofs.Common.{List, sym, subst}
-use Rattle.world.specs.Shown.{AreBricksOf, FindsUp}
+use Rattle.world.specs.Shown.{AreBricksOf}
 use Rattle.world.specs.declared.bricks.Brick.{Brick}
 use Rattle.world.proofs.BrickListLemmas.{bricks_there}
 use Rattle.world.proofs.simulations.Simulation.find_up.Goals as goal

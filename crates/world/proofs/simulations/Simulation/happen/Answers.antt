@@ -2,9 +2,9 @@
 use Rattle.std.proofs.Common.{ℕ, List, map, None, refl, sym, subst}
 use Rattle.std.specs.Prelude.{IfOk}
 use Rattle.lines.specs.declared.forms.Line.{Line}
-use Rattle.lines.specs.declared.forms.Line.TheVariants.{Invoke, SetClock, Tick, Crash, Propose, Sync}
-use Rattle.protocol.specs.Worlds.{Invokes, Proposes, Syncs, Sets, Ticks, Stops}
-use Rattle.world.specs.Runs.{brick_of, ask_of, group_no, member_no, op_of}
+use Rattle.lines.specs.declared.forms.Line.TheVariants.{Invoke, SetClock, Tick, Crash, Propose, Sync, Scrub}
+use Rattle.protocol.specs.Worlds.{Invokes, Proposes, Syncs, Scrubs, Sets, Ticks, Stops}
+use Rattle.world.specs.Runs.{brick_of, ask_of, group_no, stripe_no, member_no, op_of}
 use Rattle.world.specs.Shown.{IsOther, TakesEvent, RunsLine, world_in}
 use Rattle.world.specs.declared.simulations.Outcome.TheVariants.{Marks}
 use Rattle.world.proofs.DeliveryLemmas.{ok_each, takes_runs, nothing_comes}
@@ -40,6 +40,16 @@ returns-in-Sync-clause-ok c =
     (Syncs (brick_of c.in-Sync.brick) (group_no c.in-Sync.group)) outcome refl tt)
     c.sync.ensures.ok)
 
+pub returns-in-Scrub-clause-ok : goal.returns-in-Scrub-clause-ok
+returns-in-Scrub-clause-ok c =
+    subst (λ (line : Line). IfOk c.scrub.result (RunsLine c.args.layout.now c.args.self.now c.scrub.new.self line)) (sym c.in-Scrub.is)
+    (ok_each c.scrub.result _ _
+    (λ outcome. takes_runs c.args.layout.now c.args.self.now c.scrub.new.self (Scrub c.in-Scrub.brick c.in-Scrub.group c.in-Scrub.stripe c.in-Scrub.members)
+    (Scrubs (brick_of c.in-Scrub.brick) (group_no c.in-Scrub.group) (stripe_no c.in-Scrub.stripe) (map member_no c.in-Scrub.members)) outcome refl tt)
+    (subst (λ (members : List ℕ). IfOk c.scrub.result (TakesEvent c.args.layout.now c.args.self.now c.scrub.new.self
+    (Scrubs (brick_of c.in-Scrub.brick) (group_no c.in-Scrub.group) (stripe_no c.in-Scrub.stripe) (map member_no members)))) c.as_slice-in-Scrub.ensures
+    c.scrub.ensures.ok))
+
 pub returns-in-Tick-clause-ok : goal.returns-in-Tick-clause-ok
 returns-in-Tick-clause-ok c =
     subst (λ (line : Line). IfOk c.tick.result (RunsLine c.args.layout.now c.args.self.now c.tick.new.self line)) (sym c.in-Tick.is)
@@ -70,4 +80,13 @@ returns-in-SetClock-clause-ok c =
     (Sets (brick_of c.in-SetClock.brick) c.in-SetClock.time) c.set_clock.result refl tt c.set_clock.ensures)
 
 pub unreachable-requires : goal.unreachable-requires
-unreachable-requires c = subst IsOther c.in-Calm.is c.requires.line
+unreachable-requires c = subst IsOther c.in-Suspect.is c.requires.line
+
+pub unreachable-requires-in-Trust : goal.unreachable-requires-in-Trust
+unreachable-requires-in-Trust c = subst IsOther c.in-Trust.is c.requires.line
+
+pub unreachable-requires-in-Spare : goal.unreachable-requires-in-Spare
+unreachable-requires-in-Spare c = subst IsOther c.in-Spare.is c.requires.line
+
+pub unreachable-requires-in-Calm : goal.unreachable-requires-in-Calm
+unreachable-requires-in-Calm c = subst IsOther c.in-Calm.is c.requires.line

@@ -19,7 +19,7 @@ returns-in-Calm-clause-err c =
     (ap (Calm c.in-Calm.operation) c.as_slice.ensures ∙ sym c.in-Calm.is) c.calm.ensures.err
 
 pub take-requires-clause-line : goal.take-requires-clause-line
-take-requires-clause-line c = other_is c.args.line.now c.in_default.not-Calm
+take-requires-clause-line c = other_is c.args.line.now c.requires.line c.in_default.not-Calm
 
 pub returns-in_default-clause-err : goal.returns-in_default-clause-err
 returns-in_default-clause-err c =

@@ -1,0 +1,234 @@
+//! What an old store is brought over to: its blocks in the slots from 0 on, and the frames that name them.
+
+ghost use Rattle.std.specs.Prelude.{◌≡◌, ◌≢◌, ◌<◌, ℕ, Some, List, [], IfOk, OnOk, length, map};
+ghost use Rattle.std.specs.List.{AllByRecursion};
+ghost use Rattle.brick_state.specs.Indexes.{state_of, limits_of};
+ghost use Rattle.brick_state.specs.Folds.{slot_named};
+ghost use Rattle.brick_state.specs.KeptStates.{IsKeptState};
+ghost use Rattle.brick_state.specs.States.{empty};
+ghost use Rattle.brick_store.specs.BlockTables.{SlotBlocks};
+ghost use Rattle.brick_store.specs.Blocks.{cached, resolved};
+ghost use Rattle.brick_store.specs.BringingOver.{IsBroughtTo};
+ghost use Rattle.brick_store.specs.Images.{record_of, limits_for};
+ghost use Rattle.brick_store.specs.MovingBlocks.{AreGiven, AreMoved, IsPut};
+ghost use Rattle.brick_store.specs.Openings.{memory_limits};
+ghost use Rattle.brick_store.specs.Renumbering.{blocks_over, brought, given_by, given_by_record, given_with, is_new, logged_over, number_in, record_over, records_over, slot_for};
+ghost use Rattle.brick_store.specs.Standing.{AllSlots, GroupHasMembers, IsCached};
+ghost use Rattle.brick_store.specs.Steps.{RecordHasMembers};
+
+use crate::block_tables::BlockTable;
+use crate::readings::Folded;
+use crate::rewrites::frame_of;
+use brick_state::{Index, Record, ZERO_SLOT};
+use fab_base::{Bytes, NoMem};
+use frame_store::Frame;
+use stamp_store::{LogChange, Logged};
+use std::alloc::Global;
+
+/// What an old store is brought over to: its index, its blocks by their slots and one after the other, and its frames.
+#[derive(Drop)]
+pub(crate) struct Brought {
+    pub(crate) index: Index,
+    pub(crate) blocks: BlockTable,
+    pub(crate) bytes: Vec<u8>,
+    pub(crate) frames: Vec<Frame>,
+}
+
+/// The slots that blocks go to, by the numbers that they had: each block gets the next slot when it is named first.
+#[derive(Drop)]
+struct Slots {
+    moved: Vec<u32>,
+    next: u32,
+}
+
+impl Slots {
+    /// None is given yet, of so many numbers.
+    fn new(alloc: Global, numbers: u32) -> Result<Slots, NoMem>
+        ensures given { IfOk result (λ made. AreGiven [] made.moved.items made.next) }
+        ensures numbers { IfOk result (λ made. length made.moved.items ≡ numbers) }
+    {
+        let moved = vec![in alloc; ZERO_SLOT; numbers as usize]?;
+        Ok(Slots { moved, next: 0 })
+    }
+
+    /// The slot of a number, and whether it was given just now. The zero block lies in no slot.
+    fn of(&mut self, number: u32) -> (u32, bool)
+        requires named { number ≢ 4294967295 → number < length self.old.moved.items }
+        requires few { self.old.next < 4294967295 }
+        ensures numbers { length self.new.moved.items ≡ length self.old.moved.items }
+        ensures given { (given : List ℕ) → AreGiven given self.old.moved.items self.old.next
+            → AreGiven (given_with given number) self.new.moved.items self.new.next }
+        ensures slot { (given : List ℕ) → AreGiven given self.old.moved.items self.old.next → result.0 ≡ slot_for (given_with given number) number }
+        ensures new { (given : List ℕ) → AreGiven given self.old.moved.items self.old.next → result.1 ≡ is_new given number }
+    {
+        if number == ZERO_SLOT {
+            return (ZERO_SLOT, false);
+        }
+        let slot = self.moved[number as usize];
+        if slot != ZERO_SLOT {
+            return (slot, false);
+        }
+        let slot = self.next;
+        self.moved[number as usize] = slot;
+        self.next += 1;
+        (slot, true)
+    }
+}
+
+/// Records of an old store that are put behind each other with new slots, and the blocks that were not moved yet, by their numbers.
+#[derive(Drop)]
+struct Bringing {
+    alloc: Global,
+    slots: Slots,
+    held: BlockTable,
+    brought: Brought,
+}
+
+/// What the state that an old list made is brought over to.
+pub(crate) fn bring_over(alloc: Global, folded: Folded) -> Result<Brought, NoMem>
+    requires kept { IsKeptState (memory_limits folded.sizes.records) (state_of folded.index) }
+    requires held { AllSlots (IsCached folded.sizes.block folded.blocks) (state_of folded.index) }
+    requires members { AllByRecursion GroupHasMembers (state_of folded.index).groups }
+    requires limits { limits_of folded.index ≡ memory_limits folded.sizes.records }
+    ensures state { IfOk result (λ made. state_of made.index ≡ brought (state_of folded.index)) }
+    // The frames are those that bring back this state, and the blocks lie one after the other, as they do in memory.
+    ensures frames { IfOk result (λ made. map record_of made.frames.items ≡ map Some (records_over (brought (state_of folded.index)))) }
+    ensures bytes { IfOk result (λ made. made.bytes.items ≡ blocks_over (cached folded.sizes.block folded.blocks) (state_of folded.index)) }
+    // And the state with its blocks is the one that the old list made.
+    ensures over { IfOk result (λ made. IsBroughtTo folded.sizes.block folded.sizes.records (resolved (cached folded.sizes.block folded.blocks) (state_of folded.index))
+        (limits_of made.index) (state_of made.index) made.blocks made.bytes.items made.frames.items) }
+{
+    let Folded {
+        index,
+        blocks,
+        sizes,
+        ..
+    } = folded;
+    let slots = Slots::new(alloc, index.named_end())?;
+    let records = records_over(&index)?;
+    // (It may be large, and the one that is made now is, too.)
+    drop(index);
+    let mut bringing = Bringing::new(alloc, sizes.records, slots, blocks, records.len())?;
+    for item in &records {
+        bringing.bring(item)?;
+    }
+    Ok(bringing.brought)
+}
+
+/// The records that bring back what is kept, but for the count of openings where none is kept.
+fn records_over(index: &Index) -> Result<Vec<Record>, NoMem>
+    ensures { IfOk result (λ made. made.items ≡ records_over (state_of index.now)) }
+{
+    let mut records = index.records()?;
+    if index.boot() == 0 {
+        records.remove(0);
+    }
+    Ok(records)
+}
+
+impl Bringing {
+    /// None is put yet.
+    fn new(
+        alloc: Global,
+        records: u32,
+        slots: Slots,
+        held: BlockTable,
+        room: usize,
+    ) -> Result<Bringing, NoMem>
+        ensures slots { IfOk result (λ made. made.slots ≡ slots) }
+        ensures held { IfOk result (λ made. made.held ≡ held) }
+        ensures limits { IfOk result (λ made. limits_of made.brought.index ≡ limits_for records) }
+        ensures nothing { IfOk result (λ made. state_of made.brought.index ≡ empty) }
+        ensures blocks { IfOk result (λ made. made.brought.blocks ≡ []) }
+        ensures bytes { IfOk result (λ made. made.brought.bytes.items ≡ []) }
+        ensures frames { IfOk result (λ made. made.brought.frames.items ≡ []) }
+    {
+        let brought = Brought {
+            index: Index::new(alloc, records, records)?,
+            blocks: BlockTable::with_room(alloc, room)?,
+            bytes: Vec::new(alloc),
+            frames: Vec::with_capacity(alloc, room)?,
+        };
+        Ok(Bringing {
+            alloc,
+            slots,
+            held,
+            brought,
+        })
+    }
+
+    /// Takes a record more, with the slot that its block goes to.
+    fn bring(&mut self, item: &Record) -> Result<(), NoMem>
+        requires members { RecordHasMembers item.now }
+        requires named { number_in item.now ≢ 4294967295 → number_in item.now < length self.old.slots.moved.items }
+        requires few { self.old.slots.next < 4294967295 }
+        ensures numbers { length self.new.slots.moved.items ≡ length self.old.slots.moved.items }
+        ensures limits { limits_of self.new.brought.index ≡ limits_of self.old.brought.index }
+        ensures given { OnOk result ((given : List ℕ) → AreGiven given self.old.slots.moved.items self.old.slots.next
+            → AreGiven (given_by_record item.now given) self.new.slots.moved.items self.new.slots.next) }
+        ensures moved { OnOk result ((size : ℕ) (before : SlotBlocks) (given : List ℕ) → AreGiven given self.old.slots.moved.items self.old.slots.next
+            → AreMoved size before given self.old.held self.old.brought.blocks self.old.brought.bytes.items → IsCached size before (number_in item.now)
+            → AreMoved size before (given_by_record item.now given) self.new.held self.new.brought.blocks self.new.brought.bytes.items) }
+        ensures put { OnOk result ((given : List ℕ) → AreGiven given self.old.slots.moved.items self.old.slots.next
+            → IsPut (limits_of self.old.brought.index) (record_over (given_by_record item.now given) item.now) self.old.brought.frames.items
+            self.new.brought.frames.items (state_of self.old.brought.index) (state_of self.new.brought.index)) }
+    {
+        match item {
+            Record::Kept(_) => self.brought.put(self.alloc, item),
+            Record::Logged(logged) => {
+                let logged = self.take_block(*logged)?;
+                self.brought.put(self.alloc, &Record::Logged(logged))
+            }
+        }
+    }
+
+    /// The change of a log with the slot that its block goes to, and the block in it.
+    fn take_block(&mut self, logged: Logged) -> Result<Logged, NoMem>
+        requires named { slot_named logged.change ≢ 4294967295 → slot_named logged.change < length self.old.slots.moved.items }
+        requires few { self.old.slots.next < 4294967295 }
+        ensures numbers { length self.new.slots.moved.items ≡ length self.old.slots.moved.items }
+        ensures index { self.new.brought.index ≡ self.old.brought.index }
+        ensures frames { self.new.brought.frames.items ≡ self.old.brought.frames.items }
+        ensures given { IfOk result (λ now. (given : List ℕ) → AreGiven given self.old.slots.moved.items self.old.slots.next
+            → AreGiven (given_by logged.change given) self.new.slots.moved.items self.new.slots.next) }
+        ensures moved { IfOk result (λ now. (size : ℕ) (before : SlotBlocks) (given : List ℕ) → AreGiven given self.old.slots.moved.items self.old.slots.next
+            → AreMoved size before given self.old.held self.old.brought.blocks self.old.brought.bytes.items → IsCached size before (slot_named logged.change)
+            → AreMoved size before (given_by logged.change given) self.new.held self.new.brought.blocks self.new.brought.bytes.items) }
+        ensures slot { IfOk result (λ now. (given : List ℕ) → AreGiven given self.old.slots.moved.items self.old.slots.next
+            → now ≡ logged_over (given_by logged.change given) logged) }
+    {
+        let LogChange::Slot {
+            bottom,
+            slot: number,
+        } = logged.change
+        else {
+            return Ok(logged);
+        };
+        let (slot, is_new) = self.slots.of(number);
+        if is_new {
+            if let Some(block) = self.held.take(number) {
+                self.brought.bytes.extend_from_slice(block.as_slice())?;
+                self.brought.blocks.hold(slot, block)?;
+            }
+        }
+        let change = LogChange::Slot { bottom, slot };
+        Ok(Logged { change, ..logged })
+    }
+}
+
+impl Brought {
+    /// Adds a record: its frame, and its change.
+    fn put(&mut self, alloc: Global, item: &Record) -> Result<(), NoMem>
+        requires { RecordHasMembers item.now }
+        ensures put { OnOk result (IsPut (limits_of self.old.index) item.now self.old.frames.items self.new.frames.items (state_of self.old.index)
+            (state_of self.new.index)) }
+        ensures limits { limits_of self.new.index ≡ limits_of self.old.index }
+        ensures blocks { self.new.blocks ≡ self.old.blocks }
+        ensures bytes { self.new.bytes.items ≡ self.old.bytes.items }
+    {
+        let frame = frame_of(alloc, item)?;
+        self.frames.push(frame)?;
+        self.index.apply(item)?;
+        Ok(())
+    }
+}
