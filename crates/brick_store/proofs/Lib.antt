@@ -40,3 +40,4 @@ pub mod PlainChanges
 pub mod Bringing
 pub mod MovingBlocks
 pub mod OldVersions
+pub mod Turned

@@ -8,6 +8,9 @@ use fab_base::{Bytes, GroupId, NoMem, Stamp, StripeNo, ViewNo};
 use fields::{Field, Malformed, Reader};
 use std::alloc::Global;
 
+/// How many bytes a record has at most. A list that is brought over is held as its records' bytes, so none is to have room for more.
+const MOST_BYTES: usize = 35;
+
 /// What happens to a log.
 #[derive(Clone, Copy, PartialEq, Eq)]
 pub enum LogChange {
@@ -59,7 +62,7 @@ impl Logged {
     pub fn body(&self, alloc: Global) -> Result<Bytes, NoMem>
         ensures { IfOk result (λ made. SpellsLogged (logged_kind self.now.change) made self.now) }
     {
-        let mut out = Vec::new(alloc);
+        let mut out = Vec::with_capacity(alloc, MOST_BYTES)?;
         self.put(&mut out)?;
         Ok(Bytes::from_vec(out))
     }

@@ -12,6 +12,6 @@ returns c =
     record {
       fits = changed_fits logged fits;
       kind_is = refl;
-      body_is = c.from_vec.ensures ∙ c.in_ok-put.ensures.bytes ∙ ap (λ made. made ++ spelled (logged_parts logged)) c.new-out.ensures.items
+      body_is = c.from_vec.ensures ∙ c.in_ok-put.ensures.bytes ∙ ap (λ made. made ++ spelled (logged_parts logged)) c.in_ok-out.ensures.items
           ∙ changed_same logged fits;
     }
