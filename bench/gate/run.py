@@ -3,7 +3,7 @@
 
     bench/gate/run.py [FILE]
 
-Runs `rt ci` in this repository, which proves all from nothing, whatever earlier runs kept on this machine. It writes what that prints to
+Runs `rt ci --anew` in this repository, which proves all from nothing, whatever earlier runs kept on this machine. It writes what that prints to
 FILE (bench/gate/printed, if it isn't given), and then prints the processor seconds (user and system) of each crate's proof with its programs' builds,
 of the tools that those started (LLVM and linkers), and of its wrong bodies, and the sum that the system counts for the whole run.
 It looks at the running checks each half second, so that the last half second of each is missing: the sum of the crates is some hundredths less
@@ -83,7 +83,7 @@ def main(words):
     began = time.monotonic()
     watcher.start()
     with open(printed, "w") as out:
-        status = subprocess.run(["rt", "ci"], cwd=top, stdout=out, stderr=subprocess.STDOUT, stdin=subprocess.DEVNULL).returncode
+        status = subprocess.run(["rt", "ci", "--anew"], cwd=top, stdout=out, stderr=subprocess.STDOUT, stdin=subprocess.DEVNULL).returncode
     wall = time.monotonic() - began
     ended.set()
     watcher.join()
