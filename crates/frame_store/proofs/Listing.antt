@@ -1,5 +1,5 @@
 -- Lists of frames, as bytes and read back.
-use Rattle.std.proofs.Common.{◌≡◌, ◌≢◌, ℕ, zero, suc, ◌+◌, ◌^◌, ◌<◌, ◌≤◌, List, [], ◌∷◌, ◌++◌, length, take, drop, Option, Some, None, refl, sym, ◌∙◌, ap, arith, append_assoc, length-append, length-drop}
+use Rattle.std.proofs.Common.{◌≡◌, ◌≢◌, ℕ, zero, suc, ◌+◌, ◌^◌, ◌<◌, ◌≤◌, List, [], ◌∷◌, ◌++◌, length, take, drop, Option, Some, None, refl, sym, ◌∙◌, ap, arith, append_assoc, append-nil, length-append, length-drop}
 use Rattle.std.proofs.lemmas.Bool.Decides.{nat_tests}
 use Rattle.std.proofs.lemmas.List.{take_at, drop_at}
 use Rattle.std.proofs.lemmas.Nat.{from_be_bytes-to_be_bytes_4}
@@ -20,6 +20,11 @@ pub spelled-append : (a b : List Frame) → spelled (a ++ b) ≡ spelled a ++ sp
 spelled-append [] b = refl
 spelled-append (f ∷ a) b = ap (λ (l : List ℕ). 165 ∷ l) (ap (λ (l : List ℕ). frame_rest f ++ l) (spelled-append a b)
     ∙ sym (append_assoc (frame_rest f) (spelled a) (spelled b)))
+
+-- one frame more stands behind the others
+pub spelled_more : (frames : List Frame) (f : Frame) → spelled (frames ++ f ∷ []) ≡ (spelled frames ++ 165 ∷ []) ++ frame_rest f
+spelled_more frames f = spelled-append frames (f ∷ []) ∙ ap (λ (l : List ℕ). spelled frames ++ 165 ∷ l) (append-nil (frame_rest f))
+    ∙ sym (append_assoc (spelled frames) (165 ∷ []) (frame_rest f))
 
 -- frames of few bytes have short bodies
 pub are_short : (frames : List Frame) → size_of frames < 2 ^ 32 → AreShort frames

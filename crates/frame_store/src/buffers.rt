@@ -73,7 +73,7 @@ pub(crate) fn closing(shut: bool) -> &'static [u8]
 }
 
 // Adds a frame but for its gate.
-fn put_rest(line: &mut Vec<u8>, kind: u8, body: &[u8])
+pub(crate) fn put_rest(line: &mut Vec<u8>, kind: u8, body: &[u8])
     requires short { length body.now < 2 ^ 32 }
     requires room { vec_len line.old + 5 + length body.now ≤ vec_capacity line.old }
     ensures items { line.new.items ≡ line.old.items ++ frame_rest (frame_of kind body.now) }

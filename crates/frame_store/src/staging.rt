@@ -8,6 +8,7 @@ ghost use Rattle.frame_store.specs.Listed.{frame_of, line_of, closed_list, size_
 use crate::buffers::{put_line, put_list, size_of};
 use crate::faults::FrameFault;
 use crate::frames::Frame;
+use crate::lists::FrameList;
 use crate::steps::reserve;
 use fab_disk::Disk;
 
@@ -63,6 +64,33 @@ pub(crate) fn stage_list<D: Disk>(
     let bytes = blocks + (size_of(frames) as usize + 34);
     reserve(disk, calls, bytes, end)?;
     put_list(line, frames)?;
+    Ok(())
+}
+
+// The same for a list that is spelled already.
+pub(crate) fn stage_spelled<D: Disk>(
+    disk: &mut D,
+    line: &mut Vec<u8>,
+    list: &FrameList,
+    calls: usize,
+    blocks: usize,
+    end: u64,
+) -> Result<(), FrameFault>
+    requires end { end ≤ 2 ^ 48 }
+    requires short { size_of list.now < 2 ^ 31 }
+    requires few { blocks ≤ 2 ^ 40 }
+    ensures line { OnOk result (line.new.items ≡ closed_list list.now) }
+    ensures wide { vec_capacity line.old ≤ vec_capacity line.new }
+    ensures made { OnOk result (D.has_room disk.new calls (blocks + (size_of list.now + 34)) end) }
+    ensures only { IsOkUnless result FrameFault.NoMemory }
+    ensures still { Still D.Disk disk.old disk.new ⊥ }
+    ensures room { KeepsRoom (D.has_room disk.old) (D.has_room disk.new) }
+    ensures enough { D.has_room disk.old calls (blocks + (size_of list.now + 34)) end → size_of list.now + 1 ≤ vec_capacity line.old
+        → IsOk result }
+{
+    let bytes = blocks + (list.size() + 34);
+    reserve(disk, calls, bytes, end)?;
+    list.put(line)?;
     Ok(())
 }
 

@@ -14,9 +14,10 @@ use crate::buffers::{closing, header_rest, shut_headers, size_of};
 use crate::faults::{FrameFault, OpenFault};
 use crate::frames::Frame;
 use crate::listings::{Listing, listing_of};
+use crate::lists::FrameList;
 use crate::reading::read_store;
 use crate::shapes::{Form, Half, Shape};
-use crate::staging::{Sizes, make_room, stage, stage_list};
+use crate::staging::{Sizes, make_room, stage, stage_list, stage_spelled};
 use crate::steps::{Placed, bring_gated, reserve, rewrite_gated, write_both_gated, write_gated};
 use crate::takers::TakesFrames;
 use fab_disk::{Armed, Disk, IoFault, Plan};
@@ -398,28 +399,28 @@ impl<D: Disk> FrameStore<D> {
     ///
     /// # Errors
     /// [`FrameFault::Halted`], [`FrameFault::Disk`]; [`FrameFault::NoMemory`], before the disk changed.
-    pub fn bring_over(&mut self, blocks: &[u8], frames: Vec<Frame>) -> Result<(), FrameFault>
+    pub fn bring_over(&mut self, blocks: &[u8], frames: FrameList) -> Result<(), FrameFault>
         requires old { is_old self.old.shape ≡ true }
-        requires blocks { AreBlocks self.old.shape (length frames.items) blocks.now }
-        requires fits { size_of frames.items + 1 ≤ index_half_size self.old.shape }
+        requires blocks { AreBlocks self.old.shape (length frames) blocks.now }
+        requires fits { size_of frames + 1 ≤ index_half_size self.old.shape }
         // One change of the disk: each image opens as the old list, or as the new one with the blocks in their slots.
-        ensures change { BringsOver D.Disk self.old frames.items blocks.now self.new.disk (end_of result) }
-        ensures ok { OnOk result (HasCome frames.items self.old self.new) }
+        ensures change { BringsOver D.Disk self.old frames blocks.now self.new.disk (end_of result) }
+        ensures ok { OnOk result (HasCome frames self.old self.new) }
         ensures answer { IsAnswer self.old.halted self.new.halted result }
         ensures refused { OnErr result (IsSame self.old self.new) }
         ensures no_call { result ≡ Err FrameFault.Halted → self.new ≡ self.old }
         ensures read { IsRead D.tells D.seen self.new }
         // Within what `reserve` made, memory is not refused, and what was made beyond this call is left.
-        ensures room { HasRoom D.has_room self.old 8 (length blocks.now + (size_of frames.items + 34)) (size_of frames.items + 1)
+        ensures room { HasRoom D.has_room self.old 8 (length blocks.now + (size_of frames + 34)) (size_of frames + 1)
             → result ≢ Err FrameFault.NoMemory }
         ensures left { OnOk result ((calls bytes written : ℕ) → HasRoom D.has_room self.old (calls + 8)
-            (bytes + (length blocks.now + (size_of frames.items + 34))) written → HasRoom D.has_room self.new calls bytes written) }
+            (bytes + (length blocks.now + (size_of frames + 34))) written → HasRoom D.has_room self.new calls bytes written) }
     {
         if self.halted {
             return Err(FrameFault::Halted);
         }
         let end = self.shape.end();
-        stage_list(
+        stage_spelled(
             &mut self.disk,
             &mut self.line,
             &frames,
@@ -427,6 +428,8 @@ impl<D: Disk> FrameStore<D> {
             blocks.len(),
             end,
         )?;
+        // (Its bytes are given back: the line has them too.)
+        let listing = frames.into_listing();
         let shape = self.shape.formed(Form::Moved);
         let other = self.half.other();
         let at = shape.half_at(other);
@@ -453,7 +456,7 @@ impl<D: Disk> FrameStore<D> {
                 self.used = bytes - 1;
                 self.size = self.size.max(at + bytes);
                 self.closed = true;
-                self.list = listing_of(&frames);
+                self.list = listing;
                 Ok(())
             }
             Err(fault) => {
@@ -486,6 +489,34 @@ impl<D: Disk> FrameStore<D> {
         let sizes = Sizes {
             blocks: self.blocks_ahead(frames.len()),
             list: size_of(frames) as usize,
+            block: self.shape.block as usize,
+            body,
+        };
+        let calls = if self.shape.is_old() { 14 } else { 13 };
+        let end = self.shape.end();
+        make_room(&mut self.disk, &mut self.line, sizes, calls, end)
+    }
+
+    /// The same for a list that is spelled already.
+    ///
+    /// # Errors
+    /// [`FrameFault::Halted`], [`FrameFault::Disk`]; [`FrameFault::NoMemory`].
+    pub fn reserve_spelled(&mut self, list: &FrameList, body: usize) -> Result<(), FrameFault>
+        requires fits { Fits self.old.shape list.now body }
+        ensures same { IsSame self.old self.new }
+        ensures still { Still D.Disk self.old.disk self.new.disk (result ≡ Err FrameFault.Disk) }
+        ensures certain { D.certain self.new.disk ≡ D.certain self.old.disk }
+        ensures answer { IsAnswer self.old.halted self.new.halted result }
+        ensures no_call { result ≡ Err FrameFault.Halted → self.new ≡ self.old }
+        ensures read { IsRead D.tells D.seen self.new }
+        ensures room { OnOk result (HasRoomAhead D.has_room self.new list.now body) }
+    {
+        if self.halted {
+            return Err(FrameFault::Halted);
+        }
+        let sizes = Sizes {
+            blocks: self.blocks_ahead(list.len()),
+            list: list.size(),
             block: self.shape.block as usize,
             body,
         };

@@ -9,7 +9,7 @@ use anyhow::Result;
 use fab_base::Bytes;
 use fab_disk::{Armed, Disk, FileDisk, MemDisk, Plan};
 use frame_store::{
-    Collected, Frame, FrameFault, FrameStore, OpenFault, format, format_one, open_store,
+    Collected, Frame, FrameFault, FrameList, FrameStore, OpenFault, format, format_one, open_store,
 };
 use std::alloc::Global;
 use std::fs::File;
@@ -79,7 +79,7 @@ fn brought_disk(alloc: Global) -> Result<MemDisk> {
 fn bring_none<D: Disk>(alloc: Global, store: &mut FrameStore<D>) -> Result<(), FrameFault> {
     store.sync()?;
     if store.is_old() {
-        store.bring_over(&[], Vec::new(alloc))?;
+        store.bring_over(&[], FrameList::with_room(alloc, 0)?)?;
     }
     Ok(())
 }
