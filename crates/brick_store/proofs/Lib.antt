@@ -22,6 +22,7 @@ pub mod Starting
 pub mod Seen
 pub mod Versions
 pub mod Adding
+pub mod PuttingVersions
 pub mod Opened
 pub mod CutOpenings
 pub mod OpeningLaws
