@@ -16,20 +16,16 @@ use Rattle.brick_store.proofs.commits.make_room.Goals as goal
 differ : true ≡ false → ⊥
 differ e = cc
 
-pub returns-then-fits-clause-step : goal.returns-then-fits-clause-step
-returns-then-fits-clause-step g c =
-    let old = c.args.frames.now in
-    let bytes = size_of old.frames in
-    let room : HasMadeRoom (has_room_for old.shape bytes c.args.body) (live (state_of c.args.index.now)) bytes bytes =
-    room_there (fits_there old.shape bytes c.args.body (c.fits.ensures.0 c.if-fits.true)) in
-    search (rules, room)
-
-pub returns-then-fits-clause-change : goal.returns-then-fits-clause-change
-returns-then-fits-clause-change g c =
+pub returns-then-fits : goal.returns-then-fits
+returns-then-fits g c =
     let st = state_of c.args.index.now in
     let old = c.args.frames.now in
-    subst (λ (n : ℕ). StateChange g.D.Disk n old None st st old.disk Whole) (stays old.shape (size_of old.frames) c.args.body 0 (c.fits.ensures.0 c.if-fits.true))
-    (unchanged_stands g.D.Disk g.met.D.Disk.only_now st old c.requires.store.may)
+    let fits = c.fits.ensures.0 c.if-fits.true in
+    let room : HasMadeRoom (has_room_for old.shape (size_of old.frames) c.args.body) (live st) (size_of old.frames) (size_of old.frames) =
+    room_there (fits_there old.shape (size_of old.frames) c.args.body fits) in
+    let change = subst (λ (n : ℕ). StateChange g.D.Disk n old None st st old.disk Whole) (stays old.shape (size_of old.frames) c.args.body 0 fits)
+    (unchanged_stands g.D.Disk g.met.D.Disk.only_now st old c.requires.store.may) in
+    search (rules, room, change)
 
 pub returns : goal.returns
 returns g c =
