@@ -13,12 +13,10 @@ use Rattle.brick_store.proofs.readings.FoldedTakesFrames.take.Goals as goal
 pub returns-then-not-self : goal.returns-then-not-self
 returns-then-not-self c = λ first old frames so_far.
     let self = c.args.self.now in
-    let ended : self.whole ≡ false = search rules in (
-      so_far.0,
-      so_far.1,
-      makes_past old first.sizes.block first.sizes.records frames (frame_of c.args.kind c.args.body.now) (limits_of self.index) (state_of self.index)
-          self.blocks self.whole ended so_far.2,
-    )
+    let ended : self.whole ≡ false = search rules in
+    let makes = makes_past old first.sizes.block first.sizes.records frames (frame_of c.args.kind c.args.body.now) (limits_of self.index) (state_of self.index)
+    self.blocks self.whole ended so_far.2 in
+    (so_far.0, so_far.1, makes)
 
 -- a frame of the old format
 pub returns-then-self : goal.returns-then-self
@@ -51,18 +49,14 @@ returns c = λ first old frames so_far.
     let frame = frame_of c.args.kind c.args.body.now in
     let st = state_of self.index in
     let next = state_of c.take_frame.new.index in
-    let whole : self.whole ≡ true = search rules in
     let new : self.of_old ≡ false = search rules in
     let is : false ≡ old = sym new ∙ so_far.0 in
     let before = subst (λ (b : Bool). Makes first.sizes.block first.sizes.records b frames (limits_of self.index) st self.blocks self.whole) (sym is) so_far.2 in
-    let limits : limits_of self.index ≡ limits_for first.sizes.records = before.0 in (
-      so_far.0,
-      so_far.1,
-      subst (λ (b : Bool). Makes first.sizes.block first.sizes.records b (frames ++ frame ∷ []) (limits_of c.take_frame.new.index) next self.blocks c.in_ok-self.field-0) is (
-        here.limits ∙ limits,
-        fold_more (limits_for first.sizes.records) frames frame st next self.whole c.in_ok-self.field-0 whole before.1
-            (λ is. subst (λ (l : Limits). IsTaken l frame st next) limits (here.takes.taken (ap Ok is)))
-            (λ is. subst (λ (l : Limits). EndsBefore l frame st next) limits (here.takes.ended (ap Ok is)))
-            (here.takes.members refl before.1.members),
-      ),
-    )
+    let limits : limits_of self.index ≡ limits_for first.sizes.records = before.0 in
+    let fold = fold_more (limits_for first.sizes.records) frames frame st next self.whole c.in_ok-self.field-0 (search rules) before.1
+    (λ is. subst (λ (l : Limits). IsTaken l frame st next) limits (here.takes.taken (ap Ok is)))
+    (λ is. subst (λ (l : Limits). EndsBefore l frame st next) limits (here.takes.ended (ap Ok is)))
+    (here.takes.members refl before.1.members) in
+    let makes = subst (λ (b : Bool). Makes first.sizes.block first.sizes.records b (frames ++ frame ∷ []) (limits_of c.take_frame.new.index) next
+    self.blocks c.in_ok-self.field-0) is (here.limits ∙ limits, fold) in
+    (so_far.0, so_far.1, makes)

@@ -12,6 +12,8 @@ use Rattle.brick_store.specs.Calls.{calls_of}
 use Rattle.brick_store.specs.Sizes.{view_size}
 use Rattle.brick_store.proofs.Changing.{Told, known_is}
 use Rattle.brick_store.proofs.Resolving.{groups-resolved}
+use Rattle.brick_store.proofs.stores.BrickStore.synced.Given.{Over}
+use Rattle.brick_store.proofs.stores.BrickStore.synced.Goals.{After-learnt_view}
 use Rattle.brick_store.proofs.stores.BrickStore.synced.Goals as goal
 
 pub learnt_view-requires : goal.learnt_view-requires
@@ -22,25 +24,23 @@ learnt_view-requires g c =
     (groups-resolved (cached x.frames.shape.block x.blocks) (state_of x.index))
     (subst (λ (b : Brick g.row.D.Denot). IsSome (group_at b.state c.args.group.0).known) (sym c.self.view_is) c.requires.learnt))
 
+-- the view that was learnt is the one that a clause sees
+learnt_so : (g : Over) (c : After-learnt_view g) → learnt_view (group_at c.args.self.now.state c.args.group.0) ≡ Some c.learnt_view.result
+learnt_so g c =
+    let x = c.self.inside in
+    ap (λ (b : Brick g.row.D.Denot). learnt_view (group_at b.state c.args.group.0)) (sym c.self.view_is)
+    ∙ ap (λ (gs : List Group). learnt_view (slice_index_or gs c.args.group.0 no_group))
+    (groups-resolved (cached x.frames.shape.block x.blocks) (state_of x.index))
+    ∙ ap learnt_view (sym c.group.ensures) ∙ c.learnt_view.ensures
+
 pub change-requires-clause-can : goal.change-requires-clause-can
-change-requires-clause-can g c =
-    let x = c.self.inside in (
-      c.requires.group,
-      ap (λ (b : Brick g.row.D.Denot). learnt_view (group_at b.state c.args.group.0)) (sym c.self.view_is)
-          ∙ ap (λ (gs : List Group). learnt_view (slice_index_or gs c.args.group.0 no_group))
-          (groups-resolved (cached x.frames.shape.block x.blocks) (state_of x.index))
-          ∙ ap learnt_view (sym c.group.ensures) ∙ c.learnt_view.ensures,
-    )
+change-requires-clause-can g c = (c.requires.group, learnt_so g (goal.at.change-requires-clause-can g c).After-learnt_view)
 
 pub returns : goal.returns
 returns g c =
-    let x = c.self.inside in
     let old = c.args.self.now in
     let group = group_at old.state c.args.group.0 in
-    let is : learnt_view group ≡ Some c.learnt_view.result =
-    ap (λ (b : Brick g.row.D.Denot). learnt_view (group_at b.state c.args.group.0)) (sym c.self.view_is)
-    ∙ ap (λ (gs : List Group). learnt_view (slice_index_or gs c.args.group.0 no_group)) (groups-resolved (cached x.frames.shape.block x.blocks) (state_of x.index))
-    ∙ ap learnt_view (sym c.group.ensures) ∙ c.learnt_view.ensures in
+    let is = learnt_so g (goal.at.returns g c).After-learnt_view in
     let both = subst (λ (n : ℕ). Told g.D.Disk old c.change.new.self (synced_to (learnt_view group) c.args.group.0 old.state) n false (calls_of old n 4) c.change.result)
     (known_is group.known c.learnt_view.result is)
     (subst (λ (o : Option View). Told g.D.Disk old c.change.new.self (synced_to o c.args.group.0 old.state) (view_size c.learnt_view.result) false
