@@ -1,5 +1,5 @@
 -- A version with a block of its own, once its record was tried.
-use Rattle.std.proofs.Common.{◌≡◌, ◌≢◌, ℕ, ◌<◌, Bool, true, false, Some, List, length, Result, refl, sym, ap, subst, ◌∙◌, arith}
+use Rattle.std.proofs.Common.{◌≡◌, ◌≢◌, ℕ, ◌<◌, true, false, Some, List, length, Result, refl, sym, ap, subst, ◌∙◌, arith}
 use Rattle.std.specs.Result.{OnOk, OnErr}
 use Rattle.std.proofs.lemmas.Option.{same_Some}
 use Rattle.fab_base.specs.declared.stamps.Stamp.{Stamp}
@@ -12,8 +12,7 @@ use Rattle.frame_store.specs.Stores.{Held}
 use Rattle.brick_state.specs.declared.records.Record.{Record}
 use Rattle.brick_state.specs.declared.records.Record.TheVariants as forms
 use Rattle.brick_state.specs.declared.indexes.Index.{Index}
-use Rattle.brick_state.specs.Entries.{Entry}
-use Rattle.brick_state.specs.States.{StateOf, stripe_at, added}
+use Rattle.brick_state.specs.States.{stripe_at, added}
 use Rattle.brick_state.specs.Folds.{Limits, applied, is_full, place, entry}
 use Rattle.brick_state.specs.Indexes.{state_of, limits_of}
 use Rattle.brick_store.specs.BlockTables.{SlotBlocks, block_under}

@@ -19,11 +19,11 @@ pub returns-in_err-ready : goal.returns-in_err-ready
 returns-in_err-ready g c =
     let x = c.self.inside in
     let f = c.in_err-ready.field-0.0 in
-    let q = err_from_is_err_and c.from_residual.result c.from_residual.ensures.1 in
-    let both = told_as g.D.Disk _ _ _ _ _ _ c.from_residual.result (refused f) (q.1 ∙ ap refused q.2) (told_refused g.D.Disk g.met.D.Disk.only_now x.blocks x.zero
-    x.frames x.index c.args.self.now
+    let told = told_refused g.D.Disk g.met.D.Disk.only_now x.blocks x.zero x.frames x.index c.args.self.now
     (with_version c.args.self.now.shape.block (place c.args.group c.args.view c.args.stripe) c.args.stamp (Some c.args.block))
-    (λ s. true) 35 true (calls_of c.args.self.now 35 5) f c.self.view_is refl c.self.invariant c.in_err-ready.ensures.refused) in
+    (λ s. true) 35 true (calls_of c.args.self.now 35 5) f c.self.view_is refl c.self.invariant c.in_err-ready.ensures.refused in
+    let q = err_from_is_err_and c.from_residual.result c.from_residual.ensures.1 in
+    let both = told_as g.D.Disk _ _ _ _ _ _ c.from_residual.result (refused f) (q.1 ∙ ap refused q.2) told in
     record { change = both.0; answer = both.1 }
 
 -- ---- the block is held in memory
@@ -48,12 +48,12 @@ pub returns-in_err-slot : goal.returns-in_err-slot
 returns-in_err-slot g c =
     let d = (goal.at.returns-in_err-slot g c).After-hold_new in
     let f = c.in_err-slot.field-0.0 in
-    let q = err_from_is_err_and c.from_residual-in_err-slot.result c.from_residual-in_err-slot.ensures.1 in
-    let both = told_as g.D.Disk _ _ _ _ _ _ c.from_residual-in_err-slot.result (refused f) (q.1 ∙ ap refused q.2) (told_stopped g.D.Disk g.met.D.Disk.only_now
-    c.hold_new.new.blocks c.self.inside.zero c.self.inside.frames c.self.inside.index c.args.self.now
+    let told = told_stopped g.D.Disk g.met.D.Disk.only_now c.hold_new.new.blocks c.self.inside.zero c.self.inside.frames c.self.inside.index c.args.self.now
     (with_version c.args.self.now.shape.block (place c.args.group c.args.view c.args.stripe) c.args.stamp (Some c.args.block) c.args.self.now.state)
     35 (calls_of c.args.self.now 35 5) f (seen_so g d) (no_slot_fault f c.in_err-slot.ensures.memory) (stands_so g d) c.in_ok-ready.ensures.runs
-    (c.in_ok-ready.ensures.free refl)) in
+    (c.in_ok-ready.ensures.free refl) in
+    let q = err_from_is_err_and c.from_residual-in_err-slot.result c.from_residual-in_err-slot.ensures.1 in
+    let both = told_as g.D.Disk _ _ _ _ _ _ c.from_residual-in_err-slot.result (refused f) (q.1 ∙ ap refused q.2) told in
     record { change = both.0; answer = both.1 }
 
 -- ---- its record is committed
@@ -77,8 +77,8 @@ put_so g c =
     version_put g.D.Disk c.args.group c.args.view c.args.stripe c.args.stamp c.in_ok-slot.slot c.args.block c.held_under.result.now x.blocks
     c.hold_new.new.blocks c.forget_refused.new.blocks x.zero x.frames c.commit-answer.new.frames x.index c.commit-answer.new.index c.args.self.now
     c.commit-answer.result c.self.view_is c.self.invariant c.hold_new.ensures.same c.in_ok-ready.ensures.runs (c.in_ok-ready.ensures.free refl)
-    c.requires.group c.requires.above slot.slot slot.unnamed slot.held c.requires.block c.held_under.ensures call.limits call.step call.made call.not_made call.change
-    c.forget_refused.ensures.added c.forget_refused.ensures.others
+    c.requires.group c.requires.above slot.slot slot.unnamed slot.held c.requires.block c.held_under.ensures call.limits call.step call.made
+    call.not_made call.change c.forget_refused.ensures.added c.forget_refused.ensures.others
 
 pub invariant_of-self-2 : goal.invariant_of-self-2
 invariant_of-self-2 g c = (put_so g (goal.at.invariant_of-self-2 g c).After-forget_refused).1

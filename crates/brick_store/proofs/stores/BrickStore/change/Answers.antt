@@ -58,7 +58,8 @@ returns g c =
     c.in_ok-ready.ensures.runs c.in_ok-ready.ensures.free p.1.is p.1.slots c.commit.ensures.step c.commit.ensures.made c.commit.ensures.not_made
     c.commit.ensures.change in
     let both = told_of g.D.Disk x.blocks x.frames c.commit.new.frames st now p.0 c.args.self.now (made_by c.args.self.now.shape.block item)
-    (adds_record item) (λ b. calls_of b size 4) size c.args.adds _ c.commit.result c.self.view_is shown (adds_so g (goal.at.returns g c).After-ready) refl tried in
+    (adds_record item) (λ b. calls_of b size 4) size c.args.adds _ c.commit.result c.self.view_is shown
+    (adds_so g (goal.at.returns g c).After-ready) refl tried in
     record { change = both.0; answer = both.1 }
 
 pub returns-in_err-ready : goal.returns-in_err-ready
@@ -67,8 +68,9 @@ returns-in_err-ready g c =
     let item = c.args.item.now in
     let f = c.in_err-ready.field-0.0 in
     let adds = adds_so g (goal.at.returns-in_err-ready g c).After-ready in
+    let told = told_refused g.D.Disk g.met.D.Disk.only_now x.blocks x.zero x.frames x.index c.args.self.now (made_by c.args.self.now.shape.block item)
+    (adds_record item) (body_size item) c.args.adds (calls_of c.args.self.now (body_size item) 4) f c.self.view_is adds c.self.invariant
+    c.in_err-ready.ensures.refused in
     let q = err_from_is_err_and c.from_residual.result c.from_residual.ensures.1 in
-    let both = told_as g.D.Disk _ _ _ _ _ _ c.from_residual.result (refused f) (q.1 ∙ ap refused q.2) (told_refused g.D.Disk g.met.D.Disk.only_now x.blocks
-    x.zero x.frames x.index c.args.self.now (made_by c.args.self.now.shape.block item) (adds_record item) (body_size item) c.args.adds
-    (calls_of c.args.self.now (body_size item) 4) f c.self.view_is adds c.self.invariant c.in_err-ready.ensures.refused) in
+    let both = told_as g.D.Disk _ _ _ _ _ _ c.from_residual.result (refused f) (q.1 ∙ ap refused q.2) told in
     record { change = both.0; answer = both.1 }
