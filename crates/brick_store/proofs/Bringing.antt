@@ -27,7 +27,7 @@ use Rattle.brick_state.specs.Slots.{slots_of}
 use Rattle.brick_state.proofs.Rewriting as lists
 use Rattle.brick_state.proofs.StateRewrites.{records_lead}
 use Rattle.brick_state.proofs.UsedSlots.{each_slot, kept_slots}
-use Rattle.brick_store.specs.BlockTables.{SlotBlocks, block_under}
+use Rattle.brick_store.specs.BlockTables.{SlotBlocks, block_under, joined_blocks}
 use Rattle.brick_store.specs.Blocks.{cached, resolved, resolved_stripe}
 use Rattle.brick_store.specs.BringingOver.{IsAmong, IsBroughtTo, IsCut, cut_block}
 use Rattle.brick_store.specs.Images.{record_of, limits_for}
@@ -87,11 +87,11 @@ record_kept given more (forms.Logged r) placed = ap logged (by r.change placed)
 
 -- Of the records of a state these are left. The others were put: their blocks lie in their slots, and the index is what they lead to.
 pub record IsOnItsWay (size records : ℕ) (before : SlotBlocks) (st : StateOf Entry) (left : List Record) (moved : List ℕ) (next : ℕ) (held now : SlotBlocks)
-    (bytes : List ℕ) (limits : Limits) (index : StateOf Entry) (frames : List Frame) : Type 0 where
+    (limits : Limits) (index : StateOf Entry) (frames : List Frame) : Type 0 where
   pub given : List ℕ
   pub named : given_all given (map number_in left) ≡ numbers_of st
   pub are : AreGiven given moved next
-  pub blocks : AreMoved size before given held now bytes
+  pub blocks : AreMoved size before given held now
   pub each : AllByRecursion (IsTakeable size before (length moved)) left
   pub enough : length given ≤ length frames
   pub limits_are : limits ≡ limits_for records
@@ -154,14 +154,14 @@ pub at_first : (size records named : ℕ) (before : SlotBlocks) (st : StateOf En
     → IsKeptState (memory_limits records) st → records < 4294967295 → AllSlots (IsCached size before) st → AllByRecursion GroupHasMembers st.groups
     → length moved ≡ named → ((slot : ℕ) → slot < records + 1 → Contains (slots_of st) slot → slot < named) → AreGiven [] moved next
     → limits ≡ limits_for records → index ≡ empty
-    → IsOnItsWay size records before st (records_over st) moved next before [] [] limits index []
-unfolding most_of
+    → IsOnItsWay size records before st (records_over st) moved next before [] limits index []
+unfolding most_of joined_blocks
 at_first size records named before st moved next limits index kept few cached_all members long end are limits_are none = record {
   given = [];
   named = over_cases (λ (rs : List Record). given_all [] (map number_in rs) ≡ numbers_of st) st
       (sym (given_first [] 4294967295 (map number_in (rest_of st))) ∙ records_name st) (records_name st);
   are = are;
-  blocks = record { left = λ n free. refl; here = λ n has. absurd cc; bytes_are = refl };
+  blocks = record { left = λ n free. refl; here = λ n has. absurd cc; joined_are = refl };
   each = over_cases (AllByRecursion (IsTakeable size before (length moved))) st takeable.1 takeable;
   enough = omega arith;
   limits_are = limits_are;
@@ -191,21 +191,28 @@ at_first size records named before st moved next limits index kept few cached_al
 
 -- as it is told of a store of these parts
 pub at_first_of : (size records : ℕ) (before : SlotBlocks) (st : StateOf Entry) (left : List Record) (moved : List ℕ) (next : ℕ) (held now : SlotBlocks)
-    (bytes : List ℕ) (limits : Limits) (index : StateOf Entry) (frames : List Frame) → left ≡ records_over st → held ≡ before → now ≡ [] → bytes ≡ []
-    → frames ≡ [] → IsOnItsWay size records before st (records_over st) moved next before [] [] limits index []
-    → IsOnItsWay size records before st left moved next held now bytes limits index frames
-at_first_of size records before st left moved next held now bytes limits index frames left_is held_is now_is bytes_are frames_are way =
-    subst (λ (rs : List Record). IsOnItsWay size records before st rs moved next held now bytes limits index frames) (sym left_is)
-    (subst (λ (b : SlotBlocks). IsOnItsWay size records before st (records_over st) moved next b now bytes limits index frames) (sym held_is)
-    (subst (λ (b : SlotBlocks). IsOnItsWay size records before st (records_over st) moved next before b bytes limits index frames) (sym now_is)
-    (subst (λ (bs : List ℕ). IsOnItsWay size records before st (records_over st) moved next before [] bs limits index frames) (sym bytes_are)
-    (subst (λ (fs : List Frame). IsOnItsWay size records before st (records_over st) moved next before [] [] limits index fs) (sym frames_are) way))))
+    (limits : Limits) (index : StateOf Entry) (frames : List Frame) → left ≡ records_over st → held ≡ before → now ≡ []
+    → frames ≡ [] → IsOnItsWay size records before st (records_over st) moved next before [] limits index []
+    → IsOnItsWay size records before st left moved next held now limits index frames
+at_first_of size records before st left moved next held now limits index frames left_is held_is now_is frames_are way =
+    subst (λ (rs : List Record). IsOnItsWay size records before st rs moved next held now limits index frames) (sym left_is)
+    (subst (λ (b : SlotBlocks). IsOnItsWay size records before st (records_over st) moved next b now limits index frames) (sym held_is)
+    (subst (λ (b : SlotBlocks). IsOnItsWay size records before st (records_over st) moved next before b limits index frames) (sym now_is)
+    (subst (λ (fs : List Frame). IsOnItsWay size records before st (records_over st) moved next before [] limits index fs) (sym frames_are) way)))
+
+-- and of what is left
+pub left_way : (size records : ℕ) (before : SlotBlocks) (st : StateOf Entry) (left rest : List Record) (moved : List ℕ) (next : ℕ) (held now : SlotBlocks)
+    (limits : Limits) (index : StateOf Entry) (frames : List Frame) → left ≡ rest
+    → IsOnItsWay size records before st left moved next held now limits index frames
+    → IsOnItsWay size records before st rest moved next held now limits index frames
+left_way size records before st left rest moved next held now limits index frames same way =
+    subst (λ (rs : List Record). IsOnItsWay size records before st rs moved next held now limits index frames) same way
 
 -- fewer slots are given than there are numbers
 pub next_few : (size records : ℕ) (before : SlotBlocks) (st : StateOf Entry) (left : List Record) (moved : List ℕ) (next : ℕ) (held now : SlotBlocks)
-    (bytes : List ℕ) (limits : Limits) (index : StateOf Entry) (frames : List Frame) → records < 4294967295 → IsKeptState (memory_limits records) st
-    → IsOnItsWay size records before st left moved next held now bytes limits index frames → next < 4294967295
-next_few size records before st left moved next held now bytes limits index frames few kept way =
+    (limits : Limits) (index : StateOf Entry) (frames : List Frame) → records < 4294967295 → IsKeptState (memory_limits records) st
+    → IsOnItsWay size records before st left moved next held now limits index frames → next < 4294967295
+next_few size records before st left moved next held now limits index frames few kept way =
     let more = all_more way.given (map number_in left) in
     let all : length (numbers_of st) ≡ length way.given + length more.0 = ap length (sym way.named ∙ more.1) ∙ length-append way.given more.0 in
     omega (arith, all, way.are.next_is, numbers_few st, kept.within, few)
@@ -213,14 +220,14 @@ next_few size records before st left moved next held now bytes limits index fram
 -- ---- one more
 
 pub one_more : (size records : ℕ) (before : SlotBlocks) (st : StateOf Entry) (r : Record) (left : List Record) (moved moved_now : List ℕ) (next next_now : ℕ)
-    (held held_now now now_now : SlotBlocks) (bytes bytes_now : List ℕ) (limits limits_now : Limits) (index index_now : StateOf Entry)
-    (frames frames_now : List Frame) → (way : IsOnItsWay size records before st (r ∷ left) moved next held now bytes limits index frames)
+    (held held_now now now_now : SlotBlocks) (limits limits_now : Limits) (index index_now : StateOf Entry)
+    (frames frames_now : List Frame) → (way : IsOnItsWay size records before st (r ∷ left) moved next held now limits index frames)
     → length moved_now ≡ length moved → limits_now ≡ limits → AreGiven (given_by_record r way.given) moved_now next_now
-    → AreMoved size before (given_by_record r way.given) held_now now_now bytes_now
+    → AreMoved size before (given_by_record r way.given) held_now now_now
     → IsPut limits (record_over (given_by_record r way.given) r) frames frames_now index index_now
-    → IsOnItsWay size records before st left moved_now next_now held_now now_now bytes_now limits_now index_now frames_now
+    → IsOnItsWay size records before st left moved_now next_now held_now now_now limits_now index_now frames_now
 unfolding lists.Leads most_of
-one_more size records before st r left moved moved_now next next_now held held_now now now_now bytes bytes_now limits limits_now index index_now frames frames_now way long same are blocks put = record {
+one_more size records before st r left moved moved_now next next_now held held_now now now_now limits limits_now index index_now frames frames_now way long same are blocks put = record {
   given = now_given;
   named = named;
   are = are;
@@ -425,10 +432,10 @@ pub record IsBrought (size records : ℕ) (before : SlotBlocks) (st : StateOf En
 pub at_last : (size records : ℕ) (before : SlotBlocks) (st : StateOf Entry) (moved : List ℕ) (next : ℕ) (held now : SlotBlocks) (bytes : List ℕ)
     (limits : Limits) (index : StateOf Entry) (frames : List Frame) → records < 4294967295 → IsKeptState (memory_limits records) st
     → AllSlots (IsCached size before) st → AllByRecursion GroupHasMembers st.groups
-    → IsOnItsWay size records before st [] moved next held now bytes limits index frames
+    → IsOnItsWay size records before st [] moved next held now limits index frames → bytes ≡ joined_blocks now next
     → IsBrought size records before st now bytes limits index frames
 unfolding lists.Leads most_of bytes
-at_last size records before st moved next held now bytes limits index frames few kept cached_all members way = record {
+at_last size records before st moved next held now bytes limits index frames few kept cached_all members way joined = record {
   state = way.leads;
   read = read;
   bytes_are = bytes_are;
@@ -473,7 +480,7 @@ at_last size records before st moved next held now bytes limits index frames few
     content = blocks_over (cached size before) st
 
     bytes_are : bytes ≡ blocks_over (cached size before) st
-    bytes_are = way.blocks.bytes_are ∙ ap (flat_map (cached size before)) given_is
+    bytes_are = joined ∙ ap (joined_blocks now) way.are.next_is ∙ way.blocks.joined_are ∙ ap (flat_map (cached size before)) given_is
 
     read : map record_of frames ≡ map Some (records_over (brought st))
     read = sym (append-nil (map record_of frames)) ∙ way.read ∙ ap (λ (rs : List Record). map Some rs) (over_records st small)

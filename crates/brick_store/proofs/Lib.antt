@@ -41,3 +41,4 @@ pub mod PlainChanges
 pub mod Bringing
 pub mod MovingBlocks
 pub mod OldVersions
+pub mod Turned

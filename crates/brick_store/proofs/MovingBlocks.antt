@@ -6,11 +6,12 @@ use Rattle.std.specs.Option.{unwrap_or}
 use Rattle.std.proofs.lemmas.Bool.{cases_eq, eqb-true}
 use Rattle.std.proofs.lemmas.Bool.Decides.{nat_tests}
 use Rattle.std.proofs.lemmas.List.{flat_map_more, get_or-set_other, get_or-set_same, length-set, length_push}
-use Rattle.brick_store.specs.BlockTables.{SlotBlocks, block_under}
+use Rattle.brick_store.specs.BlockTables.{SlotBlocks, block_under, joined_blocks}
 use Rattle.brick_store.specs.Blocks.{cached}
 use Rattle.brick_store.specs.MovingBlocks.{AreGiven, AreMoved}
 use Rattle.brick_store.specs.Renumbering.{given_with, has_place, is_new, place_of, slot_for}
 use Rattle.brick_store.specs.Standing.{IsCached}
+use Rattle.brick_store.proofs.BlockTables.{joined_next}
 use Rattle.brick_store.proofs.Numbers.{has_place_new, has_place_other, place_kept, place_new}
 
 -- a number that has a place has a slot that is not that of the zero block
@@ -75,22 +76,25 @@ pub named_old : (given : List ℕ) (n : ℕ) → is_new given n ≡ false → gi
 named_old given n is = ap (λ (b : Bool). cond b (given ++ n ∷ []) given) is
 
 -- its block is held under its number still
-pub block_left : (size : ℕ) (before : SlotBlocks) (given : List ℕ) (held now : SlotBlocks) (bytes : List ℕ) (n : ℕ)
-    → AreMoved size before given held now bytes → is_new given n ≡ true → IsCached size before n → (block : List ℕ) × (block_under held n ≡ Some block)
-block_left size before given held now bytes n moved new (inl zero_block) = absurd ((new_parts given n new).0 (eqb-true n 4294967295 zero_block))
-block_left size before given held now bytes n moved new (inr some) = (some.0, moved.left n (new_parts given n new).1 ∙ some.1)
+pub block_left : (size : ℕ) (before : SlotBlocks) (given : List ℕ) (held now : SlotBlocks) (n : ℕ)
+    → AreMoved size before given held now → is_new given n ≡ true → IsCached size before n → (block : List ℕ) × (block_under held n ≡ Some block)
+block_left size before given held now n moved new (inl zero_block) = absurd ((new_parts given n new).0 (eqb-true n 4294967295 zero_block))
+block_left size before given held now n moved new (inr some) = (some.0, moved.left n (new_parts given n new).1 ∙ some.1)
 
 -- and moves to its slot
-pub block_moved : (size : ℕ) (before : SlotBlocks) (given : List ℕ) (held held_now now now_then : SlotBlocks) (bytes bytes_now : List ℕ) (n slot : ℕ)
-    (block : List ℕ) → AreMoved size before given held now bytes → is_new given n ≡ true → slot ≡ slot_for (given_with given n) n
+pub block_moved : (size : ℕ) (before : SlotBlocks) (given : List ℕ) (held held_now now now_then : SlotBlocks) (n slot : ℕ)
+    (block : List ℕ) → AreMoved size before given held now → is_new given n ≡ true → slot ≡ slot_for (given_with given n) n
     → block_under held n ≡ Some block → ((other : ℕ) → other ≢ n → block_under held_now other ≡ block_under held other)
     → block_under now_then slot ≡ Some block → ((other : ℕ) → other ≢ slot → block_under now_then other ≡ block_under now other)
-    → bytes_now ≡ bytes ++ block → AreMoved size before (given_with given n) held_now now_then bytes_now
-block_moved size before given held held_now now now_then bytes bytes_now n slot block moved new slot_is there held_others here now_others longer =
-    subst (λ (g : List ℕ). AreMoved size before g held_now now_then bytes_now) (sym with) (record {
+    → AreMoved size before (given_with given n) held_now now_then
+block_moved size before given held held_now now now_then n slot block moved new slot_is there held_others here now_others =
+    subst (λ (g : List ℕ). AreMoved size before g held_now now_then) (sym with) (record {
       left = λ m free. ⊎_elim (λ same. absurd (taken m same free)) (λ apart. held_others m apart ∙ moved.left m (sym (apart_place m apart) ∙ free)) (cases_eq m n);
       here = λ m has. ⊎_elim (λ same. own m same) (λ apart. others m apart (sym (apart_place m apart) ∙ has)) (cases_eq m n);
-      bytes_are = longer ∙ ap (λ (bs : List ℕ). bs ++ block) moved.bytes_are ∙ ap (λ (bs : List ℕ). flat_map (cached size before) given ++ bs) block_is
+      joined_are = ap (joined_blocks now_then) (length_push given n)
+          ∙ joined_next now_then now (length given) block (ap (block_under now_then) (sym slot_last) ∙ here)
+          (λ other apart. now_others other (λ is. apart (is ∙ slot_last)))
+          ∙ ap (λ (bs : List ℕ). bs ++ block) moved.joined_are ∙ ap (λ (bs : List ℕ). flat_map (cached size before) given ++ bs) block_is
           ∙ flat_map_more (cached size before) [] given n;
     })
   where

@@ -1,7 +1,8 @@
 //! The blocks that are held in memory, by their slots.
 
-ghost use Rattle.std.specs.Prelude.{◌≡◌, ◌≢◌, ◌≤◌, ◌<◌, ℕ, [], None, Some, IfOk, OnOk, length, option_copied, slice_set};
-ghost use Rattle.brick_store.specs.BlockTables.{block_under};
+ghost use Rattle.std.specs.Prelude.{◌≡◌, ◌≢◌, ◌≤◌, ◌<◌, ◌++◌, ℕ, [], None, Some, IfOk, OnOk, length, option_copied, slice_set};
+ghost use Rattle.std.specs.Option.{unwrap_or};
+ghost use Rattle.brick_store.specs.BlockTables.{block_under, joined_blocks};
 
 use fab_base::{Bytes, NoMem};
 use std::alloc::Global;
@@ -73,6 +74,31 @@ impl BlockTable {
         let place = slot as usize;
         if place < self.blocks.len() {
             self.put(place, None);
+        }
+    }
+
+    /// The blocks that are held under the slots below this one, one after the other. There is room for blocks of this size.
+    #[tactic(auto, using(crate::proofs::BlockTables::joined_more))]
+    pub(crate) fn joined(&self, alloc: Global, slots: u32, size: u16) -> Result<Vec<u8>, NoMem>
+        ensures { IfOk result (λ bytes. bytes.items ≡ joined_blocks self.now slots) }
+    {
+        let mut bytes = Vec::with_capacity(alloc, (slots as usize).saturating_mul(size as usize))?;
+        for slot in 0..slots {
+            self.add_block(slot, &mut bytes)?;
+        }
+        Ok(bytes)
+    }
+
+    // Adds the block that is held under a slot, if one is.
+    fn add_block(&self, slot: u32, bytes: &mut Vec<u8>) -> Result<(), NoMem>
+        ensures { OnOk result (bytes.new.items ≡ bytes.old.items ++ unwrap_or (block_under self.now slot) []) }
+    {
+        match self.get(slot) {
+            Some(block) => {
+                bytes.extend_from_slice(block.as_slice())?;
+                Ok(())
+            }
+            None => Ok(()),
         }
     }
 

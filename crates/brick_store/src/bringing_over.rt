@@ -1,6 +1,6 @@
 //! What an old store is brought over to: its blocks in the slots from 0 on, and the frames that name them.
 
-ghost use Rattle.std.specs.Prelude.{◌≡◌, ◌≢◌, ◌<◌, ℕ, Some, List, [], IfOk, OnOk, length, map};
+ghost use Rattle.std.specs.Prelude.{◌≡◌, ◌≢◌, ◌<◌, ℕ, Some, List, [], ◌∷◌, IfOk, OnOk, MatchOption, length, map};
 ghost use Rattle.std.specs.List.{AllByRecursion};
 ghost use Rattle.brick_state.specs.Indexes.{state_of, limits_of};
 ghost use Rattle.brick_state.specs.Folds.{slot_named};
@@ -21,9 +21,10 @@ use crate::readings::Folded;
 use crate::rewrites::frame_of;
 use brick_state::{Index, Record, ZERO_SLOT};
 use fab_base::{Bytes, NoMem};
-use frame_store::Frame;
+use frame_store::FrameList;
 use stamp_store::{LogChange, Logged};
 use std::alloc::Global;
+use std::marker::Model;
 
 /// What an old store is brought over to: its index, its blocks by their slots and one after the other, and its frames.
 #[derive(Drop)]
@@ -31,7 +32,72 @@ pub(crate) struct Brought {
     pub(crate) index: Index,
     pub(crate) blocks: BlockTable,
     pub(crate) bytes: Vec<u8>,
-    pub(crate) frames: Vec<Frame>,
+    pub(crate) frames: FrameList,
+}
+
+/// What was put behind each other so far: the index that the records make, their blocks by their slots, and their frames.
+#[derive(Drop)]
+struct Placed {
+    index: Index,
+    blocks: BlockTable,
+    frames: FrameList,
+}
+
+/// How many bytes the frame of a version has.
+const LISTED: usize = 41;
+
+/// How many records are taken before the memory of those that were is given back.
+const GIVEN_BACK: usize = 65_536;
+
+/// Records that are taken one after the other. The next is the last of the vector, so that the memory of those that were taken can be
+/// given back: they are large, and what is made of them grows.
+#[derive(Drop)]
+struct Remaining {
+    turned: Vec<Record>,
+}
+
+impl Model for Remaining {
+    ghost use Rattle.std.specs.Prelude.{List, reverse};
+    ghost use Rattle.brick_state.specs.declared.records.Record.{Record};
+
+    ghost Value = { List Record };
+
+    ghost view = { λ left. reverse left.turned.items };
+}
+
+impl Remaining {
+    /// All of them are left.
+    #[tactic(auto, using(crate::proofs::Turned::turned_back))]
+    fn new(records: Vec<Record>) -> Remaining
+        ensures { result ≡ records.items }
+    {
+        let mut turned = records;
+        turned.reverse();
+        Remaining { turned }
+    }
+
+    /// Takes the next, if one is left.
+    #[tactic(auto, using(crate::proofs::Turned::turned_next, crate::proofs::Turned::turned_none))]
+    fn next(&mut self) -> Option<Record>
+        ensures { MatchOption result (self.old ≡ []) (λ item. self.old ≡ item ∷ self.new) }
+    {
+        match self.turned.pop() {
+            Some(item) => {
+                self.give_back();
+                Some(item)
+            }
+            None => None,
+        }
+    }
+
+    /// Gives memory back now and then.
+    fn give_back(&mut self)
+        ensures { self.new ≡ self.old }
+    {
+        if self.turned.len() % GIVEN_BACK == 0 {
+            self.turned.shrink_to_fit();
+        }
+    }
 }
 
 /// The slots that blocks go to, by the numbers that they had: each block gets the next slot when it is named first.
@@ -81,7 +147,7 @@ struct Bringing {
     alloc: Global,
     slots: Slots,
     held: BlockTable,
-    brought: Brought,
+    brought: Placed,
 }
 
 /// What the state that an old list made is brought over to.
@@ -92,11 +158,11 @@ pub(crate) fn bring_over(alloc: Global, folded: Folded) -> Result<Brought, NoMem
     requires limits { limits_of folded.index ≡ memory_limits folded.sizes.records }
     ensures state { IfOk result (λ made. state_of made.index ≡ brought (state_of folded.index)) }
     // The frames are those that bring back this state, and the blocks lie one after the other, as they do in memory.
-    ensures frames { IfOk result (λ made. map record_of made.frames.items ≡ map Some (records_over (brought (state_of folded.index)))) }
+    ensures frames { IfOk result (λ made. map record_of made.frames ≡ map Some (records_over (brought (state_of folded.index)))) }
     ensures bytes { IfOk result (λ made. made.bytes.items ≡ blocks_over (cached folded.sizes.block folded.blocks) (state_of folded.index)) }
     // And the state with its blocks is the one that the old list made.
     ensures over { IfOk result (λ made. IsBroughtTo folded.sizes.block folded.sizes.records (resolved (cached folded.sizes.block folded.blocks) (state_of folded.index))
-        (limits_of made.index) (state_of made.index) made.blocks made.bytes.items made.frames.items) }
+        (limits_of made.index) (state_of made.index) made.blocks made.bytes.items made.frames) }
 {
     let Folded {
         index,
@@ -104,15 +170,36 @@ pub(crate) fn bring_over(alloc: Global, folded: Folded) -> Result<Brought, NoMem
         sizes,
         ..
     } = folded;
-    let slots = Slots::new(alloc, index.named_end())?;
+    let numbers = index.named_end();
     let records = records_over(&index)?;
     // (It may be large, and the one that is made now is, too.)
     drop(index);
+    let slots = Slots::new(alloc, numbers)?;
     let mut bringing = Bringing::new(alloc, sizes.records, slots, blocks, records.len())?;
-    for item in &records {
-        bringing.bring(item)?;
+    let mut remaining = Remaining::new(records);
+    while let Some(item) = remaining.next() {
+        bringing.bring(&item)?;
     }
-    Ok(bringing.brought)
+    let Bringing {
+        slots,
+        held,
+        brought,
+        ..
+    } = bringing;
+    // (So may the table be that the blocks came from.)
+    drop(held);
+    let Placed {
+        index,
+        blocks,
+        frames,
+    } = brought;
+    let bytes = blocks.joined(alloc, slots.next, sizes.block)?;
+    Ok(Brought {
+        index,
+        blocks,
+        bytes,
+        frames,
+    })
 }
 
 /// The records that bring back what is kept, but for the count of openings where none is kept.
@@ -140,14 +227,12 @@ impl Bringing {
         ensures limits { IfOk result (λ made. limits_of made.brought.index ≡ limits_for records) }
         ensures nothing { IfOk result (λ made. state_of made.brought.index ≡ empty) }
         ensures blocks { IfOk result (λ made. made.brought.blocks ≡ []) }
-        ensures bytes { IfOk result (λ made. made.brought.bytes.items ≡ []) }
-        ensures frames { IfOk result (λ made. made.brought.frames.items ≡ []) }
+        ensures frames { IfOk result (λ made. made.brought.frames ≡ []) }
     {
-        let brought = Brought {
+        let brought = Placed {
             index: Index::new(alloc, records, records)?,
             blocks: BlockTable::with_room(alloc, room)?,
-            bytes: Vec::new(alloc),
-            frames: Vec::with_capacity(alloc, room)?,
+            frames: FrameList::with_room(alloc, room.saturating_mul(LISTED))?,
         };
         Ok(Bringing {
             alloc,
@@ -167,11 +252,11 @@ impl Bringing {
         ensures given { OnOk result ((given : List ℕ) → AreGiven given self.old.slots.moved.items self.old.slots.next
             → AreGiven (given_by_record item.now given) self.new.slots.moved.items self.new.slots.next) }
         ensures moved { OnOk result ((size : ℕ) (before : SlotBlocks) (given : List ℕ) → AreGiven given self.old.slots.moved.items self.old.slots.next
-            → AreMoved size before given self.old.held self.old.brought.blocks self.old.brought.bytes.items → IsCached size before (number_in item.now)
-            → AreMoved size before (given_by_record item.now given) self.new.held self.new.brought.blocks self.new.brought.bytes.items) }
+            → AreMoved size before given self.old.held self.old.brought.blocks → IsCached size before (number_in item.now)
+            → AreMoved size before (given_by_record item.now given) self.new.held self.new.brought.blocks) }
         ensures put { OnOk result ((given : List ℕ) → AreGiven given self.old.slots.moved.items self.old.slots.next
-            → IsPut (limits_of self.old.brought.index) (record_over (given_by_record item.now given) item.now) self.old.brought.frames.items
-            self.new.brought.frames.items (state_of self.old.brought.index) (state_of self.new.brought.index)) }
+            → IsPut (limits_of self.old.brought.index) (record_over (given_by_record item.now given) item.now) self.old.brought.frames
+            self.new.brought.frames (state_of self.old.brought.index) (state_of self.new.brought.index)) }
     {
         match item {
             Record::Kept(_) => self.brought.put(self.alloc, item),
@@ -188,12 +273,12 @@ impl Bringing {
         requires few { self.old.slots.next < 4294967295 }
         ensures numbers { length self.new.slots.moved.items ≡ length self.old.slots.moved.items }
         ensures index { self.new.brought.index ≡ self.old.brought.index }
-        ensures frames { self.new.brought.frames.items ≡ self.old.brought.frames.items }
+        ensures frames { self.new.brought.frames ≡ self.old.brought.frames }
         ensures given { IfOk result (λ now. (given : List ℕ) → AreGiven given self.old.slots.moved.items self.old.slots.next
             → AreGiven (given_by logged.change given) self.new.slots.moved.items self.new.slots.next) }
         ensures moved { IfOk result (λ now. (size : ℕ) (before : SlotBlocks) (given : List ℕ) → AreGiven given self.old.slots.moved.items self.old.slots.next
-            → AreMoved size before given self.old.held self.old.brought.blocks self.old.brought.bytes.items → IsCached size before (slot_named logged.change)
-            → AreMoved size before (given_by logged.change given) self.new.held self.new.brought.blocks self.new.brought.bytes.items) }
+            → AreMoved size before given self.old.held self.old.brought.blocks → IsCached size before (slot_named logged.change)
+            → AreMoved size before (given_by logged.change given) self.new.held self.new.brought.blocks) }
         ensures slot { IfOk result (λ now. (given : List ℕ) → AreGiven given self.old.slots.moved.items self.old.slots.next
             → now ≡ logged_over (given_by logged.change given) logged) }
     {
@@ -207,7 +292,6 @@ impl Bringing {
         let (slot, is_new) = self.slots.of(number);
         if is_new {
             if let Some(block) = self.held.take(number) {
-                self.brought.bytes.extend_from_slice(block.as_slice())?;
                 self.brought.blocks.hold(slot, block)?;
             }
         }
@@ -216,18 +300,18 @@ impl Bringing {
     }
 }
 
-impl Brought {
+impl Placed {
     /// Adds a record: its frame, and its change.
+    #[tactic(auto, using(crate::proofs::Counting::most_few))]
     fn put(&mut self, alloc: Global, item: &Record) -> Result<(), NoMem>
         requires { RecordHasMembers item.now }
-        ensures put { OnOk result (IsPut (limits_of self.old.index) item.now self.old.frames.items self.new.frames.items (state_of self.old.index)
+        ensures put { OnOk result (IsPut (limits_of self.old.index) item.now self.old.frames self.new.frames (state_of self.old.index)
             (state_of self.new.index)) }
         ensures limits { limits_of self.new.index ≡ limits_of self.old.index }
         ensures blocks { self.new.blocks ≡ self.old.blocks }
-        ensures bytes { self.new.bytes.items ≡ self.old.bytes.items }
     {
         let frame = frame_of(alloc, item)?;
-        self.frames.push(frame)?;
+        self.frames.push(&frame)?;
         self.index.apply(item)?;
         Ok(())
     }

@@ -29,7 +29,7 @@ use crate::taking_up::{TakenUp, refusal_of};
 use brick_state::{Index, Record};
 use fab_base::Bytes;
 use fab_disk::Disk;
-use frame_store::{Frame, FrameStore};
+use frame_store::{Frame, FrameList, FrameStore};
 use stamp_store::Kept;
 use std::alloc::Global;
 
@@ -88,16 +88,16 @@ fn start_over<D: Disk>(
     frames: &mut FrameStore<D>,
     index: &mut Index,
     blocks: &[u8],
-    listed: Vec<Frame>,
+    listed: FrameList,
 ) -> Result<(), StoreFault>
     requires shape { IsShape frames.old.shape }
     requires old { is_old frames.old.shape ≡ true }
     requires limits { indexes.limits_of index.old ≡ limits_of frames.old.shape }
     requires runs { frames.old.halted ≡ false }
     requires read { IsRead D.tells D.seen frames.old }
-    requires blocks { AreBlocks frames.old.shape (length listed.items) blocks.now }
-    requires fits { Fits frames.old.shape listed.items boot_size }
-    requires leads { Leads (limits_of frames.old.shape) listed.items empty (state_of index.old) }
+    requires blocks { AreBlocks frames.old.shape (length listed) blocks.now }
+    requires fits { Fits frames.old.shape listed boot_size }
+    requires leads { Leads (limits_of frames.old.shape) listed empty (state_of index.old) }
     requires slots { AllSlots (IsAmong frames.old.shape.block (length blocks.now)) (state_of index.old) }
     requires state { resolved (cut_block frames.old.shape.block blocks.now) (state_of index.old)
         ≡ old_state_in frames.old.shape.block frames.old.shape.records frames.old.frames }
@@ -105,7 +105,7 @@ fn start_over<D: Disk>(
     ensures made { OnOk result (state_of index.new ≡ booted ((state_of index.old).boot + 1) (state_of index.old)) }
     ensures limits { indexes.limits_of index.new ≡ indexes.limits_of index.old }
     ensures leads { OnOk result (Leads (limits_of frames.old.shape) frames.new.frames empty (state_of index.new)) }
-    ensures listed { OnOk result (size_of frames.new.frames ≡ size_of listed.items + framed boot_size) }
+    ensures listed { OnOk result (size_of frames.new.frames ≡ size_of listed + framed boot_size) }
     ensures lie { D.tells → OnOk result (AllSlots (LiesIn (formed Moved frames.old.shape) blocks.now (D.seen frames.new.disk)) (state_of index.old)) }
     ensures shape { OnOk result (frames.new.shape ≡ formed Moved frames.old.shape) }
     ensures runs { OnOk result (frames.new.halted ≡ false) }
@@ -116,7 +116,7 @@ fn start_over<D: Disk>(
 {
     let item = Record::Kept(Kept::Boot(index.boot() + 1));
     let frame = frame_of(alloc, &item)?;
-    frames.reserve(&listed, frame.body.len())?;
+    frames.reserve_spelled(&listed, frame.body.len())?;
     frames.sync()?;
     frames.bring_over(blocks, listed)?;
     append_count(frames, index, &item, frame)

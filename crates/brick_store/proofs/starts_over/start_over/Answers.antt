@@ -45,14 +45,14 @@ returns-in_err-frame-clause-starts g c =
     rw (p.1, p.2) (refused_over d g.met.D.Disk.only_now g.met.D.Disk.counts_now old c.requires.old old.disk NotBegun ⊥ (λ is. absurd cc) (λ is. absurd cc)
     (still_none d old.disk))
 
-pub returns-in_err-reserve-clause-starts : goal.returns-in_err-reserve-clause-starts
-returns-in_err-reserve-clause-starts g c =
+pub returns-in_err-reserve_spelled-clause-starts : goal.returns-in_err-reserve_spelled-clause-starts
+returns-in_err-reserve_spelled-clause-starts g c =
     let d = g.D.Disk in
     let old = c.args.frames.now in
-    let f = c.in_err-reserve.field-0.0 in
-    let here = c.in_err-reserve.ensures in
-    let p = err_from_is_err_and c.from_residual-in_err-reserve.result c.from_residual-in_err-reserve.ensures.1 in
-    rw (p.1, p.2) (refused_over d g.met.D.Disk.only_now g.met.D.Disk.counts_now old c.requires.old c.reserve.new.self.disk (end_of (refused (fault_of f)))
+    let f = c.in_err-reserve_spelled.field-0.0 in
+    let here = c.in_err-reserve_spelled.ensures in
+    let p = err_from_is_err_and c.from_residual-in_err-reserve_spelled.result c.from_residual-in_err-reserve_spelled.ensures.1 in
+    rw (p.1, p.2) (refused_over d g.met.D.Disk.only_now g.met.D.Disk.counts_now old c.requires.old c.reserve_spelled.new.self.disk (end_of (refused (fault_of f)))
     (refused f ≡ refused frames.Disk) (not_whole (fault_of f)) (cut_means f) here.still)
 
 pub returns-in_err-sync-clause-starts : goal.returns-in_err-sync-clause-starts
@@ -60,12 +60,12 @@ returns-in_err-sync-clause-starts g c =
     let d = g.D.Disk in
     let old = c.args.frames.now in
     let f = c.in_err-sync.field-0.0 in
-    let made = c.in_ok-reserve.ensures in
+    let made = c.in_ok-reserve_spelled.ensures in
     let call = c.in_err-sync.ensures in
-    let runs : c.reserve.new.self.halted ≡ false = made.answer.halts ∙ c.requires.runs in
+    let runs : c.reserve_spelled.new.self.halted ≡ false = made.answer.halts ∙ c.requires.runs in
     let few : (old_state_in old.shape.block old.shape.records old.frames).boot < 4294967295 = few_boots (cut_block old.shape.block c.args.blocks.now) (state_of c.args.index.now) _ c.requires.state c.requires.boots in
     let p = err_from_is_err_and c.from_residual-in_err-sync.result c.from_residual-in_err-sync.ensures.1 in
-    rw (p.1, p.2) (sync_over d g.met.D.Disk.only_now g.met.D.Disk.counts_now old c.requires.old c.reserve.new.self.disk _ made.still few c.sync.new.self.disk f
+    rw (p.1, p.2) (sync_over d g.met.D.Disk.only_now g.met.D.Disk.counts_now old c.requires.old c.reserve_spelled.new.self.disk _ made.still few c.sync.new.self.disk f
     (λ told. c.requires.read told c.requires.runs) made.certain call.content call.certain call.crash call.time call.run
     (λ is. call.no_memory (ap (refused {E = FrameFault}) is)) (λ is. halted_not (sym (call.answer.only_then (ap (refused {E = FrameFault}) is)) ∙ runs)) call.cause)
   where
@@ -76,22 +76,21 @@ pub returns-in_err-bring_over-clause-starts : goal.returns-in_err-bring_over-cla
 returns-in_err-bring_over-clause-starts g c =
     let d = g.D.Disk in
     let old = c.args.frames.now in
-    let listed = c.args.listed.items in
+    let listed = c.args.listed in
     let blocks = c.args.blocks.now in
     let held = c.sync.new.self in
     let new = c.bring_over.new.self.disk in
     let f = c.in_err-bring_over.field-0.0 in
-    let made = c.in_ok-reserve.ensures in
+    let made = c.in_ok-reserve_spelled.ensures in
     let synced = c.in_ok-sync.ensures in
     let call = c.in_err-bring_over.ensures in
     let few : (old_state_in old.shape.block old.shape.records old.frames).boot < 4294967295 = few_boots (cut_block old.shape.block c.args.blocks.now) (state_of c.args.index.now) _ c.requires.state c.requires.boots in
     let shape : held.shape ≡ old.shape = synced.same.shape ∙ made.same.shape in
     let listed_is : held.frames ≡ old.frames = synced.same.frames ∙ made.same.frames in
     let runs : held.halted ≡ false = synced.answer.halts ∙ made.answer.halts ∙ c.requires.runs in
-    let size = ap size_of c.deref.ensures.value in
-    let ahead = ahead_old d.has_room g.met.D.Disk.room_for_less c.reserve.new.self c.deref.result.now c.len.result blocks
+    let ahead = ahead_old d.has_room g.met.D.Disk.room_for_less c.reserve_spelled.new.self c.args.listed c.len.result blocks
     (subst (λ (s : Shape). is_old s ≡ true) (sym made.same.shape) c.requires.old) (search rules) made.room in
-    let never = call.room (room_less d.has_room g.met.D.Disk.room_for_less held _ _ _ _ _ _ (omega arith) (omega (arith, size)) (omega (arith, size))
+    let never = call.room (room_less d.has_room g.met.D.Disk.room_for_less held _ _ _ _ _ _ (omega arith) (omega arith) (omega arith)
     (synced.left 13 _ _ ahead)) in
     let is : f ≡ frames.Disk = disk_failed f held.halted runs call.answer.only_then never in
     let change = subst (λ (fs : List Frame). Change d 8 (OpensAs old.shape fs true) (IsBroughtOver old.shape listed blocks) held.disk new Cut) listed_is
@@ -106,7 +105,7 @@ returns-in_err-bring_over-clause-starts g c =
     } in
     let after = λ (image : List ℕ) (at : IsBroughtOver old.shape listed blocks image). subst (λ (s : StateOf Version). StandsFor (formed New old.shape) s image)
     c.requires.state (after_over old.shape listed blocks image (state_of c.args.index.now) c.requires.shape c.requires.leads c.requires.slots at) in
-    let over = bring_cut d g.met.D.Disk.only_now g.met.D.Disk.counts_now old c.requires.old c.reserve.new.self.disk _ made.still few held.disk _ _ refl synced.time
+    let over = bring_cut d g.met.D.Disk.only_now g.met.D.Disk.counts_now old c.requires.old c.reserve_spelled.new.self.disk _ made.still few held.disk _ _ refl synced.time
     synced.crash synced.run synced.cause stands (IsBroughtOver old.shape listed blocks) after new change in
     let p = err_from_is_err_and c.from_residual-in_err-bring_over.result c.from_residual-in_err-bring_over.ensures.1 in
     rw (p.1, p.2, is) over
@@ -117,9 +116,9 @@ pub append_count-requires-clause-may : goal.append_count-requires-clause-may
 append_count-requires-clause-may g c =
     let here = c.in_ok-bring_over.ensures in
     let new = c.bring_over.new.self in
-    let runs : new.halted ≡ false = here.answer.halts ∙ c.in_ok-sync.ensures.answer.halts ∙ c.in_ok-reserve.ensures.answer.halts ∙ c.requires.runs in
-    may_over g.D.Disk c.args.frames.now.shape c.args.listed.items (state_of c.args.index.now) new
-    (here.ok.shape ∙ ap (formed Moved) (c.in_ok-sync.ensures.same.shape ∙ c.in_ok-reserve.ensures.same.shape)) runs here.ok.frames c.requires.leads
+    let runs : new.halted ≡ false = here.answer.halts ∙ c.in_ok-sync.ensures.answer.halts ∙ c.in_ok-reserve_spelled.ensures.answer.halts ∙ c.requires.runs in
+    may_over g.D.Disk c.args.frames.now.shape c.args.listed (state_of c.args.index.now) new
+    (here.ok.shape ∙ ap (formed Moved) (c.in_ok-sync.ensures.same.shape ∙ c.in_ok-reserve_spelled.ensures.same.shape)) runs here.ok.frames c.requires.leads
     (λ told. record { only = (here.change.whole refl told).only; shows = here.read told runs; closed = here.ok.closed })
 
 pub append_count-requires-clause-room : goal.append_count-requires-clause-room
@@ -128,17 +127,16 @@ append_count-requires-clause-room g c =
     let held = c.sync.new.self in
     let new = c.bring_over.new.self in
     let blocks = c.args.blocks.now in
-    let made = c.in_ok-reserve.ensures in
+    let made = c.in_ok-reserve_spelled.ensures in
     let synced = c.in_ok-sync.ensures in
     let call = c.in_ok-bring_over.ensures in
-    let size = ap size_of c.deref.ensures.value in
     let block = λ (a b : Shape) (same : a ≡ b). ap (λ (s : Shape). s.block) same in
-    let ahead = ahead_old d.has_room g.met.D.Disk.room_for_less c.reserve.new.self c.deref.result.now c.len.result blocks
+    let ahead = ahead_old d.has_room g.met.D.Disk.room_for_less c.reserve_spelled.new.self c.args.listed c.len.result blocks
     (subst (λ (s : Shape). is_old s ≡ true) (sym made.same.shape) c.requires.old) (search rules) made.room in
     let bytes = held.shape.block + c.len.result + 7 in
-    let before : HasRoom d.has_room held (5 + 8) (bytes + (length blocks + (size_of c.args.listed.items + 34))) (c.len.result + 6) =
+    let before : HasRoom d.has_room held (5 + 8) (bytes + (length blocks + (size_of c.args.listed + 34))) (c.len.result + 6) =
     room_less d.has_room g.met.D.Disk.room_for_less held _ _ _ _ _ _ (omega arith)
-    (omega (arith, size, block held.shape c.reserve.new.self.shape synced.same.shape)) (omega arith) (synced.left 13 _ _ ahead) in
+    (omega (arith, block held.shape c.reserve_spelled.new.self.shape synced.same.shape)) (omega arith) (synced.left 13 _ _ ahead) in
     let after = call.left 5 bytes (c.len.result + 6) before in
     room_less d.has_room g.met.D.Disk.room_for_less new _ _ _ _ _ _ (omega arith)
     (omega (arith, block new.shape (formed Moved held.shape) call.ok.shape, c.len.ensures)) (omega (arith, c.len.ensures)) after
@@ -152,7 +150,7 @@ returns-clause-made g c =
 
 pub returns-clause-listed : goal.returns-clause-listed
 returns-clause-listed g c =
-    let same : size_of c.bring_over.new.self.frames ≡ size_of c.args.listed.items = ap size_of c.in_ok-bring_over.ensures.ok.frames in
+    let same : size_of c.bring_over.new.self.frames ≡ size_of c.args.listed = ap size_of c.in_ok-bring_over.ensures.ok.frames in
     let body = c.in_ok-frame.ensures.length in
     on_ok _ _ _ c.append_count.result
     (subst (λ (n : ℕ). OnOk c.append_count.result (size_of c.append_count.new.frames.frames ≡ size_of c.bring_over.new.self.frames + framed n)) body
@@ -172,8 +170,8 @@ returns-clause-lie g c = λ told.
     let mid = c.bring_over.new.self in
     let new = c.append_count.new.frames in
     let call = c.in_ok-bring_over.ensures in
-    let shape : c.sync.new.self.shape ≡ old.shape = c.in_ok-sync.ensures.same.shape ∙ c.in_ok-reserve.ensures.same.shape in
-    let stand = subst (λ (s : Shape). IsBroughtOver s c.args.listed.items blocks (d.seen mid.disk)) shape (call.change.whole refl told).has in
+    let shape : c.sync.new.self.shape ≡ old.shape = c.in_ok-sync.ensures.same.shape ∙ c.in_ok-reserve_spelled.ensures.same.shape in
+    let stand = subst (λ (s : Shape). IsBroughtOver s c.args.listed blocks (d.seen mid.disk)) shape (call.change.whole refl told).has in
     let over : mid.shape ≡ formed Moved old.shape = call.ok.shape ∙ ap (formed Moved) shape in
     let slots = slots_after d 4 _ _ (formed Moved old.shape) (d.seen mid.disk) mid new.disk c.append_count.result over
     (slots_same (formed Moved old.shape) None (d.seen mid.disk) (d.seen mid.disk) refl) c.append_count.ensures.change told in
@@ -190,9 +188,9 @@ returns-clause-settled g c =
     let count = c.append_count.ensures in
     let here = c.in_ok-bring_over.ensures in
     let mid = c.bring_over.new.self in
-    let runs : mid.halted ≡ false = here.answer.halts ∙ c.in_ok-sync.ensures.answer.halts ∙ c.in_ok-reserve.ensures.answer.halts ∙ c.requires.runs in
-    let may = may_over g.D.Disk c.args.frames.now.shape c.args.listed.items (state_of c.args.index.now) mid
-    (here.ok.shape ∙ ap (formed Moved) (c.in_ok-sync.ensures.same.shape ∙ c.in_ok-reserve.ensures.same.shape)) runs here.ok.frames c.requires.leads
+    let runs : mid.halted ≡ false = here.answer.halts ∙ c.in_ok-sync.ensures.answer.halts ∙ c.in_ok-reserve_spelled.ensures.answer.halts ∙ c.requires.runs in
+    let may = may_over g.D.Disk c.args.frames.now.shape c.args.listed (state_of c.args.index.now) mid
+    (here.ok.shape ∙ ap (formed Moved) (c.in_ok-sync.ensures.same.shape ∙ c.in_ok-reserve_spelled.ensures.same.shape)) runs here.ok.frames c.requires.leads
     (λ told. record { only = (here.change.whole refl told).only; shows = here.read told runs; closed = here.ok.closed }) in
     settled_after g.D.Disk 4 None _ _ mid c.append_count.new.frames c.append_count.result may count.step count.change
 
@@ -200,13 +198,13 @@ pub returns-clause-starts : goal.returns-clause-starts
 returns-clause-starts g c =
     let d = g.D.Disk in
     let old = c.args.frames.now in
-    let listed = c.args.listed.items in
+    let listed = c.args.listed in
     let blocks = c.args.blocks.now in
     let st = state_of c.args.index.now in
     let held = c.sync.new.self in
     let mid = c.bring_over.new.self in
     let new = c.append_count.new.frames.disk in
-    let made = c.in_ok-reserve.ensures in
+    let made = c.in_ok-reserve_spelled.ensures in
     let synced = c.in_ok-sync.ensures in
     let call = c.in_ok-bring_over.ensures in
     let count = c.append_count.ensures in
@@ -248,6 +246,6 @@ returns-clause-starts g c =
     (moved_stands old.shape blocks (d.seen mid.disk) image are.count (booted (st.boot + 1) st) c.requires.shape are.long are.slots
     (change.whole refl told).has.stand c.requires.slots at.slots at.opens) in
     let ends = tried_ends c.append_count.result count.step.only count.no_memory in
-    count_over d g.met.D.Disk.only_now g.met.D.Disk.counts_now old c.requires.old c.reserve.new.self.disk _ made.still few held.disk _ _ refl synced.time
+    count_over d g.met.D.Disk.only_now g.met.D.Disk.counts_now old c.requires.old c.reserve_spelled.new.self.disk _ made.still few held.disk _ _ refl synced.time
     synced.crash synced.run synced.cause stands (IsBroughtOver old.shape listed blocks) after mid.disk new (end_of c.append_count.result) _ _ change counting
     so_far later here ends.0 ends.1

@@ -93,7 +93,7 @@ start_over-requires-clause-limits g c = c.in_ok-brought.ensures.over.limits_are 
 
 pub start_over-requires-clause-blocks : goal.start_over-requires-clause-blocks
 start_over-requires-clause-blocks g c =
-    subst (λ (bytes : List ℕ). AreBlocks c.args.frames.now.shape (length c.in_ok-brought.brought.frames.items) bytes) (sym c.deref.ensures.value)
+    subst (λ (bytes : List ℕ). AreBlocks c.args.frames.now.shape (length c.in_ok-brought.brought.frames) bytes) (sym c.deref.ensures.value)
     (over_blocks c.args.frames.now.shape _ _ _ _ _ _ (in_shape c.args.frames.now.shape c.requires.block c.requires.records c.in_ok-brought.ensures.over))
 
 pub start_over-requires-clause-fits : goal.start_over-requires-clause-fits
