@@ -28,6 +28,11 @@ pub mod CutOpenings
 pub mod OpeningLaws
 pub mod OldOpenings
 pub mod OldStarts
+pub mod Synced
+pub mod BootCounts
+pub mod Readying
+pub mod CountedStarts
+pub mod OldSynced
 pub mod OldTaken
 pub mod OldTakes
 pub mod Numbers

@@ -21,6 +21,7 @@ use Rattle.frame_store.specs.Listed.{size_of}
 use Rattle.frame_store.specs.Stores.{Held, HasRoom, HasRoomAhead, Shows}
 use Rattle.frame_store.proofs.Openings.{untouched_both}
 use Rattle.frame_store.proofs.Parts.{part_inside, part_of_part}
+use Rattle.frame_store.proofs.Stills.{still_none}
 use Rattle.version_log.specs.Versions.{Version}
 use Rattle.brick_state.specs.Entries.{Entry}
 use Rattle.brick_state.specs.States.{StateOf, booted, empty}
@@ -211,6 +212,10 @@ module _ {D : Type 0} (d : on_disk.Ghosts D) (only_now : (disk : D) (image : Lis
     not_begun = λ is. still.untouched;
     cause = kept_for _ _ _ _ _ _ failed still.cause;
   }
+
+  -- nothing was begun
+  pub untouched_over : StartsOver d st held held.disk NotBegun
+  untouched_over = refused_over held.disk NotBegun ⊥ (λ is. absurd cc) (λ is. absurd cc) (still_none d held.disk)
 
   before_is : (image : List ℕ) → OpensAs held.shape held.frames true image → StandsFor shape st image
   before_is image = before_over held.shape held.frames image old
