@@ -15,7 +15,8 @@ use Rattle.brick_store.proofs.Starting.{counted}
 use Rattle.brick_store.proofs.StateChanges.{stands_before}
 
 -- the next count is that of one opening more
-pub next_count : (limits : Limits) (count : ℕ) (st : StateOf Entry) → count ≡ st.boot → changed limits (forms.Kept (Boot (count + 1))) st ≡ booted (st.boot + 1) st
+pub next_count : (limits : Limits) (count : ℕ) (st : StateOf Entry) → count ≡ st.boot
+    → changed limits (forms.Kept (Boot (count + 1))) st ≡ booted (st.boot + 1) st
 next_count limits count st is = counted limits (count + 1) st ∙ ap (λ (n : ℕ). booted (n + 1) st) is
 
 module _ {D : Type 0} (d : on_disk.Ghosts D) (shape : Shape) (st : StateOf Entry) (mid : Held D) (same : mid.shape ≡ shape) where

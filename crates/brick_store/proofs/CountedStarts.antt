@@ -30,13 +30,13 @@ module _ {D : Type 0} (d : on_disk.Ghosts D) (whole : Bool) (st : StateOf Entry)
   abbrev next : StateOf Entry
   next = booted (st.boot + 1) st
 
+  abbrev Stops : ℕ → D → Type 0
+  Stops calls new =
+      StopsOpening d.seen d.certain d.moment calls old.disk new (IsKeptIn old.shape st (d.seen old.disk)) (IsKeptIn old.shape next (d.seen old.disk))
+
   -- what stops within the calls of both stops within the opening's
-  stops : (new : D) → StopsOpening d.seen d.certain d.moment (first + 4) old.disk new (IsKeptIn old.shape st (d.seen old.disk)) (IsKeptIn old.shape next (d.seen old.disk))
-      → StopsOpening d.seen d.certain d.moment (opening_calls (is_appendable whole old 4)) old.disk new (IsKeptIn old.shape st (d.seen old.disk))
-      (IsKeptIn old.shape next (d.seen old.disk))
-  stops new within =
-      subst (λ (n : ℕ). StopsOpening d.seen d.certain d.moment n old.disk new (IsKeptIn old.shape st (d.seen old.disk)) (IsKeptIn old.shape next (d.seen old.disk)))
-      (sym sum) within
+  stops : (new : D) → Stops (first + 4) new → Stops (opening_calls (is_appendable whole old 4)) new
+  stops new within = subst (λ (n : ℕ). Stops n new) (sym sum) within
 
   -- it was not made ready
   pub unready_starts : (new : D) (end : End) → (end ≡ Whole → ⊥) → Readies d first st old new end → Starts d whole st old new end
@@ -44,7 +44,8 @@ module _ {D : Type 0} (d : on_disk.Ghosts D) (whole : Bool) (st : StateOf Entry)
     moments = λ told closed. settled_moments d.moment d.left_since (d.may_leave old.disk) old.shape st next (d.seen old.disk) old.disk new
         (ready.moments told closed);
     run = run_cut d.tells d.moment d.plan d.unlisted first _ old.disk new _ _ (omega (arith, sum)) not_whole (ready.run.waits not_whole)
-        (run_as d.tells d.moment d.plan d.unlisted first old.disk new _ _ _ _ (λ never. absurd never) (λ is. is) (λ a b. ready.run.waits not_whole b) ready.run);
+        (run_as d.tells d.moment d.plan d.unlisted first old.disk new _ _ _ _ (λ never. absurd never) (λ is. is) (λ a b. ready.run.waits not_whole b)
+        ready.run);
     not_worn = λ is free. boots;
     cut = λ is told free closed. stops new
         (readying_cut d.seen d.certain d.may_leave d.moment d.left_since first old.disk new _ _ (ready.cut is told free closed));

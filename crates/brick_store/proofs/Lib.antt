@@ -27,6 +27,7 @@ pub mod Opened
 pub mod CutOpenings
 pub mod OpeningLaws
 pub mod OldOpenings
+pub mod FailedSyncs
 pub mod OldStarts
 pub mod Synced
 pub mod BootCounts

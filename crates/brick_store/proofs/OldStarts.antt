@@ -1,5 +1,5 @@
 -- An old store that is brought over and counted.
-use Rattle.std.proofs.Common.{◌≡◌, ◌⊎◌, inl, inr, ⊎_elim, ℕ, ◌+◌, ◌*◌, ◌<◌, ◌≤◌, Bool, true, false, if◌then◌else◌, cond, eqb, None, List, length, Result, refl, sym, ap, subst, ◌∙◌, arith}
+use Rattle.std.proofs.Common.{◌≡◌, ◌⊎◌, inl, inr, ⊎_elim, ℕ, ◌+◌, ◌*◌, ◌<◌, ◌≤◌, Bool, true, false, if◌then◌else◌, cond, eqb, None, List, length, refl, sym, ap, subst, ◌∙◌, arith}
 use Rattle.std.specs.Prelude.{replicate, take, drop, min, max, IsOk}
 use Rattle.std.proofs.Math.Nat.{mul-le-mul_right}
 use Rattle.std.proofs.lemmas.Bool.{cases_lt}
@@ -14,7 +14,6 @@ use Rattle.frame_store.specs.declared.faults.FrameFault.TheVariants as frames
 use Rattle.frame_store.specs.declared.frames.Frame.{Frame}
 use Rattle.frame_store.specs.declared.shapes.Form.TheVariants.{New, Moved}
 use Rattle.frame_store.specs.declared.shapes.Shape.{Shape}
-use Rattle.frame_store.specs.Ends as lists
 use Rattle.frame_store.specs.Images.{part, block_in, AreBlocks, IsBroughtOver, KeepsSlots, OpensAs}
 use Rattle.frame_store.specs.Layouts.{IsShape, formed, is_old, slot_at}
 use Rattle.frame_store.specs.Listed.{size_of}
@@ -35,14 +34,14 @@ use Rattle.brick_store.specs.Openings.{IsAllowedOr, IsInside, StartsOver}
 use Rattle.brick_store.specs.Standing.{AllSlots, Leads}
 use Rattle.brick_store.specs.Steps.{CanChange, IsSettled, LeadsTo}
 use Rattle.brick_store.proofs.Changing.{leads_folded}
-use Rattle.brick_store.proofs.CutOpenings.{run_clock}
+use Rattle.brick_store.proofs.FailedSyncs.{failed_cause, failed_clock, failed_run}
 use Rattle.brick_store.proofs.FreshLists.{synced_allowed}
 use Rattle.brick_store.proofs.OldOpenings.{old_state}
 use Rattle.brick_store.proofs.Opened.{kept_stands}
 use Rattle.brick_store.proofs.OpeningLaws.{kept_for}
 use Rattle.brick_store.proofs.Resolving.{boot-resolved, resolved_same, slots_imply}
 use Rattle.brick_store.proofs.Starting.{kept_leads, still_allowed}
-use Rattle.brick_store.proofs.StateChanges.{cut_means, ends_as, not_begun_so, not_whole}
+use Rattle.brick_store.proofs.StateChanges.{not_begun_so}
 use Rattle.brick_store.proofs.Stepping.{refused, room_less, slots_same}
 
 -- ---- images
@@ -179,13 +178,6 @@ may_over d shape listed st new is runs frames_are leads settled = record {
   settled = settled;
 }
 
--- how the sync of the list failed
-cut_when : (fault : FrameFault) → refused fault ≡ refused frames.Disk → end_of (refused (fault_of fault)) ≡ Cut
-cut_when fault is = sym (ends_as fault) ∙ ap (λ (r : Result (Unit {0}) FrameFault). lists.end_of r) is
-
-err_not : false ≡ true → ⊥
-err_not is = cc
-
 module _ {D : Type 0} (d : on_disk.Ghosts D) (only_now : (disk : D) (image : List ℕ) → d.left_since disk (d.moment disk) image → d.may_leave disk image)
     (counts : (disk : D) (t : ℕ) (image : List ℕ) → t ≤ d.moment disk → d.may_leave disk image → d.left_since disk t image)
     (held : Held D) (old : is_old held.shape ≡ true) where
@@ -231,16 +223,11 @@ module _ {D : Type 0} (d : on_disk.Ghosts D) (only_now : (disk : D) (image : Lis
         → StartsOver d st held new (end_of (refused (fault_of fault)))
     sync_over new fault shows certain content same crash time run memory runs cause = record {
       moments = λ told closed. synced_allowed d.tells d.seen d.may_leave d.moment d.left_since only_now held.disk mid new either still.untouched time crash;
-      run = run_after d.tells d.moment d.plan d.unlisted 13 held.disk mid new F _ _ still.plan still.untouched.clock
-          (run_cut d.tells d.moment d.plan d.unlisted 1 13 mid new _ _ (omega arith) (not_whole (fault_of fault))
-          (λ no. run.waits (λ ok. absurd (err_not ok)) (λ is. no (cut_when fault is)))
-          (run_as d.tells d.moment d.plan d.unlisted 1 mid new (IsOk (refused fault)) (refused fault ≡ refused frames.Disk) ⊥
-          (end_of (refused (fault_of fault)) ≡ Cut) (λ is. absurd is) (cut_means fault)
-          (λ a b. run.waits (λ ok. absurd (err_not ok)) (λ is. b (cut_when fault is))) run));
+      run = failed_run d held.disk mid new fault F still run 13 (omega arith);
       not_worn = λ is free. few;
       cut = λ is told free closed.
           let content_is : d.seen new ≡ d.seen held.disk = content ∙ still.untouched.content in
-          let clock = run_clock {whole = IsOk (refused fault)} {cut = refused fault ≡ refused frames.Disk} run told (still.plan.stays free) (cut_means fault is) in
+          let clock = failed_clock d held.disk mid new fault F still run told free is in
           record {
             clock = omega (arith, clock, still.untouched.clock);
             settled = inl (same ∙ certain);
@@ -249,7 +236,7 @@ module _ {D : Type 0} (d : on_disk.Ghosts D) (only_now : (disk : D) (image : Lis
             late = λ at. absurd (never (d.moment held.disk) (d.moment mid) (d.moment new) clock still.untouched.clock at);
           };
       not_begun = λ is. untouched_both d.seen d.may_leave d.moment d.left_since counts held.disk mid new still.untouched (not_begun_so fault runs memory is);
-      cause = kept_both (d.faults held.disk) (d.faults mid) (d.faults new) _ _ _ _ _ still.cause (kept_for _ _ _ _ _ _ (cut_means fault) cause);
+      cause = failed_cause d held.disk mid new fault F still run cause;
     }
       where
         never : (a b c : ℕ) → c ≤ b + 1 → b ≡ a → a + 13 < c + 2 → ⊥

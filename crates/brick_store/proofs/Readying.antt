@@ -1,16 +1,15 @@
 -- A list that is made ready for the count of an opening: it was refused, its sync failed, or it was written anew.
-use Rattle.std.proofs.Common.{◌≡◌, ℕ, ◌+◌, ◌≤◌, true, false, None, List, Result, refl, sym, ap, ◌∙◌, arith}
+use Rattle.std.proofs.Common.{◌≡◌, ℕ, ◌≤◌, true, None, List, refl, ◌∙◌, arith}
 use Rattle.std.specs.Result.{IsOk}
 use Rattle.fab_disk.specs.declared.disk.Disk as on_disk
 use Rattle.fab_disk.specs.Changing.{End, Whole, Cut, NotBegun, Still}
 use Rattle.fab_disk.specs.Disk.{Elapses, IsUntouched, Kept}
 use Rattle.fab_disk.specs.Plan.{IsRun}
 use Rattle.fab_disk.proofs.Moments.{kept_both}
-use Rattle.fab_disk.proofs.Plans.{run_after, run_as, run_both, run_cut, run_not_begun}
+use Rattle.fab_disk.proofs.Plans.{run_after, run_both, run_not_begun}
 use Rattle.frame_store.specs.declared.faults.FrameFault.{FrameFault}
 use Rattle.frame_store.specs.declared.faults.FrameFault.TheVariants as frames
 use Rattle.frame_store.specs.declared.frames.Frame.{Frame}
-use Rattle.frame_store.specs.Ends as lists
 use Rattle.frame_store.specs.Ends.{ListChange}
 use Rattle.frame_store.specs.Stores.{Held}
 use Rattle.frame_store.proofs.Openings.{untouched_both}
@@ -24,16 +23,14 @@ use Rattle.brick_store.specs.Images.{limits_of}
 use Rattle.brick_store.specs.Openings.{IsKeptIn, Readies}
 use Rattle.brick_store.specs.Standing.{Leads}
 use Rattle.brick_store.specs.Steps.{IsReadAs}
-use Rattle.brick_store.proofs.CutOpenings.{rewrite_cut, run_clock, sync_cut}
+use Rattle.brick_store.proofs.CutOpenings.{rewrite_cut, sync_cut}
+use Rattle.brick_store.proofs.FailedSyncs.{failed_cause, failed_clock, failed_run}
 use Rattle.brick_store.proofs.FreshLists.{renewed, synced_allowed}
 use Rattle.brick_store.proofs.OpeningLaws.{kept_for}
 use Rattle.brick_store.proofs.Starting.{still_allowed}
-use Rattle.brick_store.proofs.StateChanges.{cut_means, ends_as, not_begun_so, not_whole}
+use Rattle.brick_store.proofs.StateChanges.{not_begun_so}
 use Rattle.brick_store.proofs.Stepping.{refused}
 use Rattle.brick_store.proofs.Synced.{IsSynced}
-
-err_not : false ≡ true → ⊥
-err_not is = cc
 
 module _ {D : Type 0} (d : on_disk.Ghosts D) (only_now : (disk : D) (image : List ℕ) → d.left_since disk (d.moment disk) image → d.may_leave disk image)
     (st : StateOf Entry) (old : Held D) where
@@ -41,7 +38,8 @@ module _ {D : Type 0} (d : on_disk.Ghosts D) (only_now : (disk : D) (image : Lis
   pub refused_ready : (calls : ℕ) (new : D) (end : End) (F : Type 0) → (end ≡ Whole → ⊥) → (end ≡ Cut → F) → Still d old.disk new F
       → Readies d calls st old new end
   refused_ready calls new end F not_whole failed still = record {
-    moments = λ told closed. still_allowed d.seen d.may_leave d.moment d.left_since only_now old.disk new (IsKeptIn old.shape st (d.seen old.disk)) still.untouched;
+    moments = λ told closed. still_allowed d.seen d.may_leave d.moment d.left_since only_now old.disk new (IsKeptIn old.shape st (d.seen old.disk))
+        still.untouched;
     run = run_not_begun d.tells d.moment d.plan d.unlisted calls old.disk new _ _ not_whole
         (record { same = still.plan.same; stays = still.plan.stays; never = λ free is. still.plan.never free (failed is) });
     cut = λ is told free closed. absurd (still.plan.never free (failed is));
@@ -62,20 +60,14 @@ module _ {D : Type 0} (d : on_disk.Ghosts D) (only_now : (disk : D) (image : Lis
     sync_ready counts calls mid new fault F some still certain content same crash time run memory runs cause = record {
       moments = λ told closed. synced_allowed d.tells d.seen d.may_leave d.moment d.left_since only_now old.disk mid new
           (IsKeptIn old.shape st (d.seen old.disk)) still.untouched time crash;
-      run = run_after d.tells d.moment d.plan d.unlisted calls old.disk mid new F _ _ still.plan still.untouched.clock
-          (run_cut d.tells d.moment d.plan d.unlisted 1 calls mid new _ _ some (not_whole (fault_of fault)) waits
-          (run_as d.tells d.moment d.plan d.unlisted 1 mid new (IsOk (refused fault)) (refused fault ≡ refused frames.Disk) ⊥
-          (end_of (refused (fault_of fault)) ≡ Cut) (λ is. absurd is) (cut_means fault) (λ a b. waits b) run));
+      run = failed_run d old.disk mid new fault F still run calls some;
       cut = λ is told free closed.
-          let clock = run_clock {whole = IsOk (refused fault)} {cut = refused fault ≡ refused frames.Disk} run told (still.plan.stays free) (cut_means fault is) in
+          let clock = failed_clock d old.disk mid new fault F still run told free is in
           sync_cut d.seen d.certain d.may_leave d.moment d.left_since calls old mid new st (read.read told read.runs) closed read.found still.untouched content
           certain same (omega (arith, clock, some));
       not_begun = λ is. untouched_both d.seen d.may_leave d.moment d.left_since counts old.disk mid new still.untouched (not_begun_so fault runs memory is);
-      cause = kept_both (d.faults old.disk) (d.faults mid) (d.faults new) _ _ _ _ _ still.cause (kept_for _ _ _ _ _ _ (cut_means fault) cause);
+      cause = failed_cause d old.disk mid new fault F still run cause;
     }
-      where
-        waits : (end_of (refused (fault_of fault)) ≡ Cut → ⊥) → d.plan new ≡ d.plan mid
-        waits not_cut = run.waits (λ ok. absurd (err_not ok)) (λ is. not_cut (sym (ends_as fault) ∙ ap (λ (r : Result (Unit {0}) FrameFault). lists.end_of r) is))
 
     -- it was synced, and then a list of the same state took its place, or that was cut short
     pub rewritten_ready : (mid held : Held D) (new : D) (after : List Frame) (end : End) → IsSynced d old mid held → Leads (limits_of old.shape) after empty st

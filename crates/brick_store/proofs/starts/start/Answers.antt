@@ -60,9 +60,9 @@ returns-clause-listed g c =
     let mid = c.make_appendable.new.frames in
     let body = c.in_ok-frame.ensures.length in
     let room = subst (λ (n : ℕ). HasMadeRoom (is_appendable c.args.whole old n) (live (state_of c.args.index.now)) (size_of old.frames) (size_of mid.frames))
-    (c.len.ensures ∙ body)
-    c.in_ok-make_appendable.ensures.listed in
-    counted_on _ _ c.append_count.result room (subst (λ (n : ℕ). OnOk c.append_count.result (size_of c.append_count.new.frames.frames ≡ size_of mid.frames + framed n)) body
+    (c.len.ensures ∙ body) c.in_ok-make_appendable.ensures.listed in
+    counted_on _ _ c.append_count.result room
+    (subst (λ (n : ℕ). OnOk c.append_count.result (size_of c.append_count.new.frames.frames ≡ size_of mid.frames + framed n)) body
     c.append_count.ensures.step.listed)
 
 pub returns-clause-settled : goal.returns-clause-settled
@@ -74,4 +74,5 @@ returns-clause-settled g c =
 pub returns-clause-slots : goal.returns-clause-slots
 returns-clause-slots g c = λ told.
     slots_after g.D.Disk 4 _ _ c.args.frames.now.shape (g.D.Disk.seen c.args.frames.now.disk) c.make_appendable.new.frames
-    c.append_count.new.frames.disk c.append_count.result c.make_appendable.ensures.shape (c.in_ok-make_appendable.ensures.slots told) c.append_count.ensures.change told
+    c.append_count.new.frames.disk c.append_count.result c.make_appendable.ensures.shape (c.in_ok-make_appendable.ensures.slots told)
+    c.append_count.ensures.change told
