@@ -4,7 +4,6 @@ use Rattle.std.proofs.lemmas.Result.{err_from_is_err_and}
 use Rattle.fab_disk.specs.Changing.{Whole}
 use Rattle.frame_store.specs.declared.faults.FrameFault.{FrameFault}
 use Rattle.frame_store.specs.declared.faults.FrameFault.TheVariants as frames
-use Rattle.frame_store.specs.declared.frames.Frame.{Frame}
 use Rattle.frame_store.specs.declared.shapes.Shape.{Shape}
 use Rattle.frame_store.specs.Ends as lists
 use Rattle.frame_store.specs.Images.{AreBlocks}
@@ -34,7 +33,7 @@ use Rattle.brick_store.proofs.starts_over.start_over.Goals.{After-bring_over}
 use Rattle.brick_store.proofs.starts_over.start_over.Goals as goal
 
 -- what the store is brought over to
-comes : (g : Over) (c : After-bring_over g) → ComesTo c.args.frames.now c.args.listed.items c.args.blocks.now (state_of c.args.index.now)
+comes : (g : Over) (c : After-bring_over g) → ComesTo c.args.frames.now c.args.listed c.args.blocks.now (state_of c.args.index.now)
 comes g c = record {
   old_form = c.requires.old;
   shape = c.requires.shape;
@@ -46,12 +45,12 @@ comes g c = record {
 }
 
 -- how it was left by the sync
-synced : (g : Over) (c : After-bring_over g) → IsSynced g.D.Disk c.args.frames.now c.reserve.new.self c.sync.new.self
+synced : (g : Over) (c : After-bring_over g) → IsSynced g.D.Disk c.args.frames.now c.reserve_spelled.new.self c.sync.new.self
 synced g c =
-    let made = c.in_ok-reserve.ensures in
+    let made = c.in_ok-reserve_spelled.ensures in
     let call = c.in_ok-sync.ensures in
     record {
-      same = same_both c.args.frames.now c.reserve.new.self c.sync.new.self made.same call.same;
+      same = same_both c.args.frames.now c.reserve_spelled.new.self c.sync.new.self made.same call.same;
       runs = call.answer.halts ∙ made.answer.halts ∙ c.requires.runs;
       still = made.still;
       content = call.content;
@@ -66,22 +65,19 @@ synced g c =
 -- the room that is left for the bringing over and for an append
 ahead : (g : Over) (c : After-bring_over g)
     → HasRoom g.D.Disk.has_room c.sync.new.self 13
-    (c.sync.new.self.shape.block + c.len.result + 7 + (length c.args.blocks.now + (size_of c.args.listed.items + 34)))
-    (max (size_of c.args.listed.items + 1) (c.len.result + 6))
+    (c.sync.new.self.shape.block + c.len.result + 7 + (length c.args.blocks.now + (size_of c.args.listed + 34)))
+    (max (size_of c.args.listed + 1) (c.len.result + 6))
 ahead g c =
-    let made = c.in_ok-reserve.ensures in
-    let are : AreBlocks c.reserve.new.self.shape (length c.deref.result.now) c.args.blocks.now =
-    subst (λ (s : Shape). AreBlocks s (length c.deref.result.now) c.args.blocks.now) (sym made.same.shape)
-    (subst (λ (fs : List Frame). AreBlocks c.args.frames.now.shape (length fs) c.args.blocks.now) (sym c.deref.ensures.value) c.requires.blocks) in
+    let made = c.in_ok-reserve_spelled.ensures in
+    let are = subst (λ (s : Shape). AreBlocks s (length c.args.listed) c.args.blocks.now) (sym made.same.shape) c.requires.blocks in
     room_less g.D.Disk.has_room g.met.D.Disk.room_for_less c.sync.new.self _ _ _ _ _ _ (omega arith)
-    (omega (arith, ap size_of c.deref.ensures.value, ap (λ (s : Shape). s.block) c.in_ok-sync.ensures.same.shape))
-    (omega (arith, ap size_of c.deref.ensures.value))
-    (c.in_ok-sync.ensures.left 13 _ _ (ahead_old g.D.Disk.has_room g.met.D.Disk.room_for_less c.reserve.new.self c.deref.result.now c.len.result
+    (omega (arith, ap (λ (s : Shape). s.block) c.in_ok-sync.ensures.same.shape)) (omega arith)
+    (c.in_ok-sync.ensures.left 13 _ _ (ahead_old g.D.Disk.has_room g.met.D.Disk.room_for_less c.reserve_spelled.new.self c.args.listed c.len.result
     c.args.blocks.now (subst (λ (s : Shape). is_old s ≡ true) (sym made.same.shape) c.requires.old) are made.room))
 
 -- once it was brought over, it can be changed
-may : (g : Over) (c : After-bring_over g) → HasCome c.args.listed.items c.sync.new.self c.bring_over.new.self
-    → BringsOver g.D.Disk c.sync.new.self c.args.listed.items c.args.blocks.now c.bring_over.new.self.disk Whole
+may : (g : Over) (c : After-bring_over g) → HasCome c.args.listed c.sync.new.self c.bring_over.new.self
+    → BringsOver g.D.Disk c.sync.new.self c.args.listed c.args.blocks.now c.bring_over.new.self.disk Whole
     → c.bring_over.new.self.halted ≡ c.sync.new.self.halted → CanChange g.D.Disk (state_of c.args.index.now) c.bring_over.new.self
 may g c came change halts =
     may_count _ _ c.args.blocks.now _ (comes g c) g.D.Disk _ _ (synced g c) c.bring_over.new.self came change (halts ∙ (synced g c).runs)
@@ -94,12 +90,12 @@ returns-in_err-frame-clause-starts g c =
     let p = err_from_is_err_and c.from_residual.result c.from_residual.ensures.1 in
     rw (p.1, p.2) (untouched_over g.D.Disk g.met.D.Disk.only_now g.met.D.Disk.counts_now c.args.frames.now c.requires.old)
 
-pub returns-in_err-reserve-clause-starts : goal.returns-in_err-reserve-clause-starts
-returns-in_err-reserve-clause-starts g c =
-    let f = c.in_err-reserve.field-0.0 in
-    let p = err_from_is_err_and c.from_residual-in_err-reserve.result c.from_residual-in_err-reserve.ensures.1 in
-    rw (p.1, p.2) (refused_over g.D.Disk g.met.D.Disk.only_now g.met.D.Disk.counts_now c.args.frames.now c.requires.old c.reserve.new.self.disk
-    (end_of (refused (fault_of f))) (refused f ≡ refused frames.Disk) (not_whole (fault_of f)) (cut_means f) c.in_err-reserve.ensures.still)
+pub returns-in_err-reserve_spelled-clause-starts : goal.returns-in_err-reserve_spelled-clause-starts
+returns-in_err-reserve_spelled-clause-starts g c =
+    let f = c.in_err-reserve_spelled.field-0.0 in
+    let p = err_from_is_err_and c.from_residual-in_err-reserve_spelled.result c.from_residual-in_err-reserve_spelled.ensures.1 in
+    rw (p.1, p.2) (refused_over g.D.Disk g.met.D.Disk.only_now g.met.D.Disk.counts_now c.args.frames.now c.requires.old c.reserve_spelled.new.self.disk
+    (end_of (refused (fault_of f))) (refused f ≡ refused frames.Disk) (not_whole (fault_of f)) (cut_means f) c.in_err-reserve_spelled.ensures.still)
 
 pub returns-in_err-sync-clause-starts : goal.returns-in_err-sync-clause-starts
 returns-in_err-sync-clause-starts g c =
@@ -108,7 +104,7 @@ returns-in_err-sync-clause-starts g c =
     let call = c.in_err-sync.ensures in
     let few = few_boots (cut_block c.args.frames.now.shape.block c.args.blocks.now) (state_of c.args.index.now) _ c.requires.state c.requires.boots in
     let p = err_from_is_err_and c.from_residual-in_err-sync.result c.from_residual-in_err-sync.ensures.1 in
-    rw (p.1, p.2) (sync_over g.D.Disk g.met.D.Disk.only_now g.met.D.Disk.counts_now c.args.frames.now c.requires.old c.reserve.new.self.disk _ made.still few
+    rw (p.1, p.2) (sync_over g.D.Disk g.met.D.Disk.only_now g.met.D.Disk.counts_now c.args.frames.now c.requires.old c.reserve_spelled.new.self.disk _ made.still few
     c.sync.new.self.disk f (λ told. c.requires.read told c.requires.runs) made.certain call.content call.certain call.crash call.time call.run
     (λ is. call.no_memory (ap (refused {E = FrameFault}) is))
     (λ is. halted_not (sym (call.answer.only_then (ap (refused {E = FrameFault}) is)) ∙ made.answer.halts ∙ c.requires.runs)) call.cause)
@@ -125,7 +121,7 @@ returns-in_err-bring_over-clause-starts g c =
     let never = call.room (room_less g.D.Disk.has_room g.met.D.Disk.room_for_less held _ _ _ _ _ _ (omega arith) (omega arith) (omega arith)
     (ahead g at)) in
     let is : f ≡ frames.Disk = disk_failed f held.halted (synced g at).runs call.answer.only_then never in
-    let change = subst (λ (fault : FrameFault). BringsOver g.D.Disk held c.args.listed.items c.args.blocks.now c.bring_over.new.self.disk
+    let change = subst (λ (fault : FrameFault). BringsOver g.D.Disk held c.args.listed c.args.blocks.now c.bring_over.new.self.disk
     (lists.end_of (refused fault))) is call.change in
     let p = err_from_is_err_and c.from_residual-in_err-bring_over.result c.from_residual-in_err-bring_over.ensures.1 in
     rw (p.1, p.2, is) (cut_synced _ _ _ _ (comes g at) g.D.Disk _ _ (synced g at) g.met.D.Disk.only_now g.met.D.Disk.counts_now
@@ -142,7 +138,7 @@ pub append_count-requires-clause-room : goal.append_count-requires-clause-room
 append_count-requires-clause-room g c =
     let call = c.in_ok-bring_over.ensures in
     let before : HasRoom g.D.Disk.has_room c.sync.new.self (5 + 8)
-    (c.sync.new.self.shape.block + c.len.result + 7 + (length c.args.blocks.now + (size_of c.args.listed.items + 34))) (c.len.result + 6) =
+    (c.sync.new.self.shape.block + c.len.result + 7 + (length c.args.blocks.now + (size_of c.args.listed + 34))) (c.len.result + 6) =
     room_less g.D.Disk.has_room g.met.D.Disk.room_for_less c.sync.new.self _ _ _ _ _ _ (omega arith) (omega arith) (omega arith)
     (ahead g (goal.at.append_count-requires-clause-room g c).After-bring_over) in
     room_less g.D.Disk.has_room g.met.D.Disk.room_for_less c.bring_over.new.self _ _ _ _ _ _ (omega arith)

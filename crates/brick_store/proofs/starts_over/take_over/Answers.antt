@@ -48,7 +48,7 @@ boots_few block index st is few = omega (arith, few, boot-resolved block index, 
 over : (g : Over) (c : After-deref g)
     → IsBroughtTo c.args.frames.now.shape.block c.args.frames.now.shape.records
     (old_state_in c.args.frames.now.shape.block c.args.frames.now.shape.records c.args.frames.now.frames) (indexes.limits_of c.in_ok-brought.brought.index)
-    (state_of c.in_ok-brought.brought.index) c.in_ok-brought.brought.blocks c.in_ok-brought.brought.bytes.items c.in_ok-brought.brought.frames.items
+    (state_of c.in_ok-brought.brought.index) c.in_ok-brought.brought.blocks c.in_ok-brought.brought.bytes.items c.in_ok-brought.brought.frames
 over g c =
     in_shape c.args.frames.now.shape c.requires.block c.requires.records
     (ap (λ (n : ℕ). resolved (cached n c.args.folded.blocks) (state_of c.args.folded.index)) c.requires.block ∙ sym c.requires.fold.1.found)
@@ -106,7 +106,7 @@ start_over-requires g c =
       limits = over.limits_are;
       runs = c.requires.runs;
       read = c.requires.read;
-      blocks = subst (λ (bytes : List ℕ). AreBlocks shape (length c.in_ok-brought.brought.frames.items) bytes) (sym c.deref.ensures.value)
+      blocks = subst (λ (bytes : List ℕ). AreBlocks shape (length c.in_ok-brought.brought.frames) bytes) (sym c.deref.ensures.value)
           (over_blocks shape _ _ _ _ _ _ over);
       fits = over_fits shape _ _ _ _ _ _ over;
       leads = over.leads;
