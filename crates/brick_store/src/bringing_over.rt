@@ -37,7 +37,7 @@ pub(crate) struct Brought {
 
 /// What was put behind each other so far: the index that the records make, their blocks by their slots, and their frames.
 #[derive(Drop)]
-struct Placed {
+struct BroughtSoFar {
     index: Index,
     blocks: BlockTable,
     frames: FrameList,
@@ -147,7 +147,7 @@ struct Bringing {
     alloc: Global,
     slots: Slots,
     held: BlockTable,
-    brought: Placed,
+    brought: BroughtSoFar,
 }
 
 /// What the state that an old list made is brought over to.
@@ -188,7 +188,7 @@ pub(crate) fn bring_over(alloc: Global, folded: Folded) -> Result<Brought, NoMem
     } = bringing;
     // (So may the table be that the blocks came from.)
     drop(held);
-    let Placed {
+    let BroughtSoFar {
         index,
         blocks,
         frames,
@@ -229,7 +229,7 @@ impl Bringing {
         ensures blocks { IfOk result (λ made. made.brought.blocks ≡ []) }
         ensures frames { IfOk result (λ made. made.brought.frames ≡ []) }
     {
-        let brought = Placed {
+        let brought = BroughtSoFar {
             index: Index::new(alloc, records, records)?,
             blocks: BlockTable::with_room(alloc, room)?,
             frames: FrameList::with_room(alloc, room.saturating_mul(LISTED))?,
@@ -300,7 +300,7 @@ impl Bringing {
     }
 }
 
-impl Placed {
+impl BroughtSoFar {
     /// Adds a record: its frame, and its change.
     #[tactic(auto, using(crate::proofs::Counting::most_few))]
     fn put(&mut self, alloc: Global, item: &Record) -> Result<(), NoMem>
