@@ -1,7 +1,7 @@
 -- A call that handles a request, from the change of the store that it makes.
 use Rattle.std.proofs.Common.{◌≡◌, ◌≢◌, inl, inr, ⊎_elim, ℕ, Bool, true, false, Option, Some, None, List, Result, Ok, Err, refl, sym, ap, subst, ◌∙◌, arith}
 use Rattle.std.specs.Option.{option_map}
-use Rattle.std.specs.Result.{IfOk, OnOk, OnErr}
+use Rattle.std.specs.Result.{IfOk, IsErrAnd, OnOk, OnErr}
 use Rattle.fab_disk.specs.declared.disk.Disk as on_disk
 use Rattle.fab_disk.specs.Disk.{IsUntouched}
 use Rattle.fab_disk.specs.Changing.{End, Whole, Cut, NotBegun, Stands, Still}
@@ -184,6 +184,32 @@ module _ {D A : Type 0} (d : on_disk.Ghosts D) (Follows : Option A → StateOf V
       followed (Ok reply) h = subst (λ (st : StateOf Version). Follows reply st) (sym state) h
       followed (Err fault) h = tt
 
+-- what a call promises of the store, and of its disk by what is appended
+abbrev pub HandlesBy : {D A : Type 0} → on_disk.Ghosts D → Option Append → (Option A → StateOf Version → Type 0) → Brick D → Brick D → AnswerOf A → Type 0
+HandlesBy d given Follows old new result = record {
+  handles : Handles d Follows old new result;
+  change : KeepsNext d given Follows old new (end_of result);
+}
+
+module _ {D A : Type 0} (d : on_disk.Ghosts D)
+    (only_now : (disk : D) (image : List ℕ) → d.left_since disk (d.moment disk) image → d.may_leave disk image)
+    (Follows : Option A → StateOf Version → Type 0) (old : Brick D) (runs : Runs d old) (given : Option Append) where
+  -- a call that had nothing to change
+  pub handles_none : given ≡ None → (answer : Option A) → Follows answer old.state → HandlesBy d given Follows old old (Ok answer)
+  handles_none none answer follows = record {
+    handles = handles_untouched d Follows old old (Ok answer) runs refl refl refl (still_here d old.disk).untouched (λ h. absurd cc) (λ h. absurd cc) follows;
+    change = keeps_none d only_now Follows old given none runs.stands answer follows;
+  }
+
+  -- one that memory was refused at once
+  pub handles_refused : (result : AnswerOf A) → IsErrAnd result (λ fault. fault ≡ NoMemory) → HandlesBy d given Follows old old result
+  handles_refused (Ok answer) refused = absurd refused
+  handles_refused (Err fault) refused =
+      subst (λ (f : ReplicaFault). HandlesBy d given Follows old old (Err f)) (sym refused) (record {
+        handles = handles_untouched d Follows old old (Err NoMemory) runs refl refl refl (still_here d old.disk).untouched (λ h. absurd cc) (λ h. absurd cc) tt;
+        change = keeps_refused d only_now Follows old given;
+      })
+
 module _ {D : Type 0} (d : on_disk.Ghosts D) (Follows : Option Reply → StateOf Version → Type 0) where
   -- A change of the store, and the reply that says so, if there is one.
   module _ (old new : Brick D) (after : StateOf Version) (body : ℕ) (adds : Bool) (appends : ℕ) (reply : Option Reply) (runs : Runs d old)
@@ -277,12 +303,12 @@ module _ {D : Type 0} (d : on_disk.Ghosts D) (Follows : Option Reply → StateOf
         → ((adds ≡ true → live old.state ≡ old.shape.records → ⊥) → given ≡ Some (append_of body appends))
         → (adds ≡ true → live old.state ≡ old.shape.records → given ≡ None) → (answer : Result (Unit {0}) StoreFault) (result : AnswerOf Reply) → result ≡ answered reply answer
         → BrickChange d (calls_of old body appends) old after new.disk (store_ends.end_of answer) → Answers old new after body adds answer
-        → Handles d Follows old new result × KeepsNext d given Follows old new (end_of result)
+        → HandlesBy d given Follows old new result
     changed_next only_now given some zero answer result is run change =
-        subst (λ (r : AnswerOf Reply). Handles d Follows old new r × KeepsNext d given Follows old new (end_of r)) (sym is) (
-          handles_change answer run change,
-          record { change = change_next only_now given some zero answer run change; listed = lists_next given some zero answer change },
-        )
+        subst (λ (r : AnswerOf Reply). HandlesBy d given Follows old new r) (sym is) (record {
+          handles = handles_change answer run change;
+          change = record { change = change_next only_now given some zero answer run change; listed = lists_next given some zero answer change };
+        })
 
 abbrev fails : (A : Type 0) → ReplicaFault → AnswerOf A
 fails A fault = Err fault

@@ -18,73 +18,86 @@ use Rattle.brick_state.specs.States.{StateOf, group_at, balloted, is_numbered, v
 use Rattle.brick_store.specs.declared.faults.StoreFault.{StoreFault}
 use Rattle.brick_store.specs.Blocks.{all_synced, learnt_of, synced_to}
 use Rattle.brick_store.specs.Bricks.{Brick}
-use Rattle.brick_store.specs.Calls.{Append, append_of, append_calls, calls_of}
+use Rattle.brick_store.specs.Calls.{append_of, append_calls, calls_of}
 use Rattle.brick_store.specs.Changes.{Answers}
 use Rattle.brick_store.specs.Ends.{BrickChange}
 use Rattle.brick_store.specs.Ends as store_ends
 use Rattle.brick_store.specs.Sizes.{ballots_size, known_size, view_size}
 use Rattle.synod_laws.specs.Synods.{Kept, last_of}
+use Rattle.view_synod.specs.Acceptors.{Acceptor}
 use Rattle.protocol.specs.Views.{Learnt, first_learnt, is_later, is_unsynced, learns, notes_synced}
 use Rattle.protocol.specs.Ballots.{Voted}
 use Rattle.protocol.specs.Nodes.{Node, may_teach, with_learnt, node_taught, node_learnt, node_synced}
 use Rattle.replica.specs.declared.faults.ReplicaFault.{ReplicaFault}
 use Rattle.replica.specs.Parts.{ballots_in, learnt_or, learnt_in, is_to_learn, is_to_note, IsPartsOf}
 use Rattle.replica.specs.Reactions.{IsVoted, IsStep}
-use Rattle.replica.specs.Handling.{Runs, Handles, KeepsAll, KeepsNext, end_of, answered, seen_as}
+use Rattle.replica.specs.Handling.{Runs, KeepsAll, end_of, answered, seen_as}
 use Rattle.replica.specs.Calls.{same_ballots, ballot_append, learnt_append, message_append}
-use Rattle.replica.proofs.Answering.{changed_next, handles_seen, handles_untouched, keeps_none, next_seen, still_here}
+use Rattle.replica.proofs.Answering.{HandlesBy, changed_next, handles_none}
+use Rattle.replica.proofs.Messages.{HandlesMessage, message_none, message_seen}
 use Rattle.replica.proofs.Learning.{learnt_append_none, learnt_moves, lists_learnt, parts_learnt, view_appended, numbered_later, more_later, lists_later, taught_is, numbered_synced, more_synced, lists_synced, noted_is}
 use Rattle.replica.proofs.Voting.{ballots_are, voted_same, voted_kept, vote_moves}
 
 differ : {A : Type 0} → false ≡ true → A
 differ h = absurd cc
 
+-- what a vote promises of the store
+abbrev pub VoteKept : {D : Type 0} → on_disk.Ghosts D → Brick D → Call → Voted → Result (Option Reply) ReplicaFault → Brick D → Type 0
+VoteKept d old call vote result new =
+    HandlesBy d (ballot_append (ballots_in old.state call.group.0) vote.kept) (IsVoted call old.state vote) old new result
+
+-- an acceptor has voted so, and replies so
+pub record IsCast (vote : Voted) (reply : Reply) (acceptor : Acceptor) : Type 0 where
+  pub reply_is : reply ≡ vote.reply
+  pub kept_is : acceptor.kept ≡ vote.kept
+
 module _ {D : Type 0} (d : on_disk.Ghosts D)
     (only_now : (disk : D) (image : List ℕ) → d.left_since disk (d.moment disk) image → d.may_leave disk image) (old : Brick D) (runs : Runs d old) where
   -- ---- a vote
 
-  module _ (call : Call) (vote : Voted) where
+  module _ (call : Call) (vote : Voted) (reply : Reply) (acceptor : Acceptor) (cast : IsCast vote reply acceptor) where
     abbrev kept : Kept (List BrickId)
     kept = ballots_in old.state call.group.0
 
     abbrev VotedSo : Option Reply → StateOf Version → Type 0
     VotedSo = IsVoted call old.state vote
 
-    abbrev pub VoteKept : Result (Option Reply) ReplicaFault → Brick D → Type 0
-    VoteKept result new = Handles d VotedSo old new result × KeepsNext d (ballot_append kept vote.kept) VotedSo old new (end_of result)
+    -- whether the same was kept already
+    same_is : (b : Bool) → same_ballots kept acceptor.kept ≡ b → same_ballots kept vote.kept ≡ b
+    same_is b is = ap (same_ballots kept) (sym cast.kept_is) ∙ is
 
     -- that leaves nothing new to keep
-    pub vote_told : same_ballots kept vote.kept ≡ true → VoteKept (Ok (Some vote.reply)) old
-    vote_told same = (
-      handles_untouched d VotedSo old old (Ok (Some vote.reply)) runs refl refl refl (still_here d old.disk).untouched (λ h. absurd cc) (λ h. absurd cc) follows,
-      keeps_none d only_now VotedSo old (ballot_append kept vote.kept) none runs.stands (Some vote.reply) follows,
-    )
+    pub vote_told : same_ballots kept acceptor.kept ≡ true → VoteKept d old call vote (Ok (Some reply)) old
+    vote_told is =
+        handles_none d only_now VotedSo old runs (ballot_append kept vote.kept) none (Some reply)
+        (subst (λ (r : Reply). VotedSo (Some r) old.state) (sym cast.reply_is) (voted_same call old.state vote (ballots_are kept vote.kept (same_is true is))))
       where
-        follows : VotedSo (Some vote.reply) old.state
-        follows = voted_same call old.state vote (ballots_are kept vote.kept same)
-
         none : ballot_append kept vote.kept ≡ None
-        none = ap (λ (b : Bool). cond b None (Some (append_of (ballots_size (last_of vote.kept)) append_calls))) same
+        none = ap (λ (b : Bool). cond b None (Some (append_of (ballots_size (last_of vote.kept)) append_calls))) (same_is true is)
 
     -- of which a record is kept
-    pub vote_kept : call.group.0 < 64 → (promised : Ballot) (accepted : Option (Ballot × List BrickId)) → same_ballots kept vote.kept ≡ false
-        → vote.kept ≡ Some (promised, accepted) → (new : Brick D) (answer : Result (Unit {0}) StoreFault) (result : Result (Option Reply) ReplicaFault)
-        → result ≡ answered (Some vote.reply) answer
+    pub vote_kept : call.group.0 < 64 → (promised : Ballot) (accepted : Option (Ballot × List BrickId)) → same_ballots kept acceptor.kept ≡ false
+        → (same_ballots kept vote.kept ≡ false → vote.kept ≡ Some (promised, accepted)) → (new : Brick D) (answer : Result (Unit {0}) StoreFault)
+        (result : Result (Option Reply) ReplicaFault) → result ≡ answered (Some reply) answer
         → BrickChange d (calls_of old (ballots_size accepted) append_calls) old (balloted call.group.0 promised accepted old.state) new.disk
         (store_ends.end_of answer)
-        → Answers old new (balloted call.group.0 promised accepted old.state) (ballots_size accepted) false answer → VoteKept result new
-    vote_kept few promised accepted other is new answer result result_is run change =
+        → Answers old new (balloted call.group.0 promised accepted old.state) (ballots_size accepted) false answer → VoteKept d old call vote result new
+    vote_kept few promised accepted is grants new answer result result_is run change =
         changed_next d VotedSo old new (balloted call.group.0 promised accepted old.state) (ballots_size accepted) false append_calls (Some vote.reply) runs
         (λ room. follows) (λ adds. absurd cc) (λ layout same. vote_moves call old.state vote _ other follows layout old.shape.block same) only_now
-        (ballot_append kept vote.kept) (λ room. appended) (λ adds. absurd cc) answer result result_is run change
+        (ballot_append kept vote.kept) (λ room. appended) (λ adds. absurd cc) answer result
+        (result_is ∙ ap (λ (r : Reply). answered (Some r) answer) cast.reply_is) run change
       where
+        other : same_ballots kept vote.kept ≡ false
+        other = same_is false is
+
         follows : VotedSo (Some vote.reply) (balloted call.group.0 promised accepted old.state)
-        follows = voted_kept call old.state vote runs.ordered.groups few promised accepted is
+        follows = voted_kept call old.state vote runs.ordered.groups few promised accepted (grants other)
 
         appended : ballot_append kept vote.kept ≡ Some (append_of (ballots_size accepted) append_calls)
         appended =
             ap (λ (b : Bool). cond b None (Some (append_of (ballots_size (last_of vote.kept)) append_calls))) other
-            ∙ ap (λ (k : Kept (List BrickId)). Some (append_of (ballots_size (last_of k)) append_calls)) is
+            ∙ ap (λ (k : Kept (List BrickId)). Some (append_of (ballots_size (last_of k)) append_calls)) (grants other)
 
   -- ---- what is heard of a view
 
@@ -93,16 +106,7 @@ module _ {D : Type 0} (d : on_disk.Ghosts D)
     Taken = IsStep layout me from notice old.state
 
     abbrev pub NoticeKept : Result (Option Message) ReplicaFault → Brick D → Type 0
-    NoticeKept result new = Handles d Taken old new result
-        × ((node : Node) → IsPartsOf layout old.state node → KeepsNext d (message_append layout me from node notice) Taken old new (end_of result))
-
-    -- that leaves nothing new to keep
-    notice_left : Taken None old.state → ((node : Node) → IsPartsOf layout old.state node → message_append layout me from node notice ≡ None)
-        → NoticeKept (Ok None) old
-    notice_left follows none = (
-      handles_untouched d Taken old old (Ok None) runs refl refl refl (still_here d old.disk).untouched (λ h. absurd cc) (λ h. absurd cc) follows,
-      λ node parts. keeps_none d only_now Taken old (message_append layout me from node notice) (none node parts) runs.stands None follows,
-    )
+    NoticeKept result new = HandlesMessage d layout me from notice old new result
 
     -- of which a record of a view is kept, and no reply is given
     module _ (after : StateOf Version) (size : ℕ) (follows : Taken None after)
@@ -119,14 +123,11 @@ module _ {D : Type 0} (d : on_disk.Ghosts D)
           → BrickChange d (calls_of old size append_calls) old after new.disk (store_ends.end_of answer) → Answers old new after size false answer
           → NoticeKept result new
       notice_kept new answer result f is run change =
-          let given = Some (append_of size append_calls) in
-          let both = changed_next d TakenSo old new after size false append_calls None runs (λ room. (refl, follows)) (λ adds. absurd cc)
-          (λ other same. moves other old.shape.block same) only_now given (λ room. refl) (λ adds. absurd cc) answer (answered None answer) refl run change in
-          subst (λ (r : Result (Option Message) ReplicaFault). NoticeKept r new) (sym is) (
-            handles_seen d f TakenSo Taken (unanswered f) old new (answered None answer) both.0,
-            λ node parts. subst (λ (a : Option Append). KeepsNext d a Taken old new (end_of (seen_as f (answered None answer)))) (sym (appended node parts))
-                (next_seen d f TakenSo Taken (unanswered f) given old new (answered None answer) both.1),
-          )
+          message_seen d only_now old runs layout me from notice f TakenSo (unanswered f) (Some (append_of size append_calls)) appended new (answered None answer)
+          result is
+          (changed_next d TakenSo old new after size false append_calls None runs (λ room. (refl, follows)) (λ adds. absurd cc)
+          (λ other same. moves other old.shape.block same) only_now (Some (append_of size append_calls)) (λ room. refl) (λ adds. absurd cc) answer
+          (answered None answer) refl run change)
 
   -- ---- a view that is taught
 
@@ -145,7 +146,7 @@ module _ {D : Type 0} (d : on_disk.Ghosts D)
         by true h = ap (λ (x : Bool). cond x (with_learnt layout.block group.0 node (learns (node.learnt group.0) view)) node) (ap (λ (l : Learnt). is_later l view) (parts.learnt group.0) ∙ h)
 
     pub view_left : is_to_learn layout old.state group.0 view ≡ false → NoticeKept layout me from taught (Ok None) old
-    view_left none = notice_left layout me from taught
+    view_left none = message_none d only_now old runs layout me from taught None
         (record {
           packets = λ node parts. refl;
           parts = λ node parts. subst (λ (n : Node). IsPartsOf layout old.state n) (sym (stays_as node parts none)) parts;
@@ -200,7 +201,7 @@ module _ {D : Type 0} (d : on_disk.Ghosts D)
         (ap (λ (l : Learnt). is_some (group_of layout group.0) && is_unsynced l number.0) (parts.learnt group.0) ∙ none)
 
     pub synced_left : is_to_note layout old.state group.0 number.0 ≡ false → NoticeKept layout me from told (Ok None) old
-    synced_left none = notice_left layout me from told
+    synced_left none = message_none d only_now old runs layout me from told None
         (record {
           packets = λ node parts. refl;
           parts = λ node parts. subst (λ (n : Node). IsPartsOf layout old.state n) (sym (notes_none node parts none)) parts;

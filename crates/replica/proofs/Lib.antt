@@ -7,8 +7,10 @@ pub mod Weights
 pub mod Dropping
 pub mod Reacting
 pub mod Answering
+pub mod Messages
 pub mod Runs
 pub mod Sharing
+pub mod Carrying
 pub mod Voting
 pub mod CourseSteps
 pub mod Learning

@@ -106,14 +106,14 @@ parts_same f call h v t = by (eqb h g) refl
 
 -- ---- a part that stays
 
-pub reacted_stays : (block : ℕ) (call : Call) (reply : Reply) (st : StateOf Kept)
-    → IsReacted block call st (stays (part_at block st call) reply) (Some reply) st
+pub reacted_stays : (block : ℕ) (call : Call) (reply : Option Reply) (st : StateOf Kept)
+    → IsReacted block call st (record { replica = part_at block st call; reply = reply; adds = 0; drops = 0 }) reply st
 reacted_stays block call reply st = record {
   told = refl;
   boot = refl;
   groups = refl;
   live = omega arith;
-  live_in = live_in_same (live_at st) call (stays (part_at block st call) reply) refl refl;
+  live_in = live_in_same (live_at st) call (record { replica = part_at block st call; reply = reply; adds = 0; drops = 0 }) refl refl;
   parts = λ h v t. parts_same (part_in block st) call h v t;
 }
 
@@ -295,4 +295,4 @@ module _ (block : ℕ) (call : Call) (st : StateOf Kept) (sorted : IsStrictlySor
       → Reacts (unless_full (full_at records (live st)) (part_at block st call) reaction) (Some (Full (live st))) st
   none_made records reaction adds full =
       subst (λ (r : Reaction). Reacts r (Some (Full (live st))) st) (unless_none records (part_at block st call) reaction adds full)
-      (reacted_stays block call (Full (live st)) st)
+      (reacted_stays block call (Some (Full (live st))) st)

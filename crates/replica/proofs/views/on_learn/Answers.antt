@@ -15,7 +15,7 @@ pub returns-then-not-is_to_learn : goal.returns-then-not-is_to_learn
 returns-then-not-is_to_learn g c from =
     let both = view_left g.D.Disk g.met.D.Disk.only_now c.args.store.now c.requires.runs c.args.layout.now (me_of c.args.store.now) from c.args.group
     c.args.view.now (sym c.is_to_learn.ensures.teaches ∙ c.if-not-is_to_learn.true) in
-    record { handles = both.0; change = both.1 }
+    record { handles = both.handles; change = both.change }
 
 pub returns : goal.returns
 returns g c from =
@@ -32,4 +32,4 @@ returns g c from =
     let both = view_kept d g.met.D.Disk.only_now old c.requires.runs c.args.layout.now (me_of old) from group c.args.view.now
     (c.is_to_learn.ensures.few c.if-not-is_to_learn.false) to_learn more new c.learn.result (unanswered c.taught.result)
     (λ reply. Message.Learn group c.args.view.now) (c.taught.ensures _) change answer in
-    record { handles = both.0; change = both.1 }
+    record { handles = both.handles; change = both.change }
