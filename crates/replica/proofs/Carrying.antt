@@ -90,7 +90,8 @@ module _ {D : Type 0} (d : on_disk.Ghosts D)
   pub tell_kept : (reply : Reply) → plan ≡ Tell reply → PlanKept d old call plan (Ok (Some reply)) old
   tell_kept reply is =
       kept_as is old (Ok (Some reply))
-      (handles_none d only_now (Reacts (planned full part (Tell reply))) old runs _ (append_kept false part) (Some reply) (reacted_stays block call (Some reply) st))
+      (handles_none d only_now (Reacts (planned full part (Tell reply))) old runs _ (append_kept false part) (Some reply)
+      (reacted_stays block call (Some reply) st))
 
   -- ---- an order stamp
 
@@ -136,8 +137,8 @@ module _ {D : Type 0} (d : on_disk.Ghosts D)
         let over = λ (b : List ℕ). unless_full full part (stored part t b) in
         kept_as is new result
         (subst (λ (b : List ℕ). HandlesBy d (appends shares (over b)) (Reacts (over b)) old new result) (sym (stored_added log own))
-        (changed_next d (Reacts (over bytes)) old new (with_version block (place_of call) t own st) (version_size own) true (version_calls own) (Some Stored) runs
-        (store_made block call st sorted records t bytes) (none_made block call st sorted records (stored part t bytes))
+        (changed_next d (Reacts (over bytes)) old new (with_version block (place_of call) t own st) (version_size own) true (version_calls own)
+        (Some Stored) runs (store_made block call st sorted records t bytes) (none_made block call st sorted records (stored part t bytes))
         (λ layout same. store_moves block call st sorted t bytes (same.parts call.group.0 call.view.0 call.stripe.0)) only_now (appends shares (over bytes))
         (λ room. ap (appends shares) (sym (unless_room block call st sorted records part (stored part t bytes) room)) ∙ append_stored shares part _
         ∙ version_stored own)
@@ -159,7 +160,7 @@ module _ {D : Type 0} (d : on_disk.Ghosts D)
         let held = (change_as is).0 in
         let some = (change_as is).1 in
         kept_as is new result
-        (changed_next d (Reacts (planned full part (Collect t))) old new (collected version_stamp (place_of call) t st) stamped_size false append_calls None runs
-        (λ room. reacted_collect block call st sorted t held) (λ adds. absurd cc)
+        (changed_next d (Reacts (planned full part (Collect t))) old new (collected version_stamp (place_of call) t st) stamped_size false append_calls
+        None runs (λ room. reacted_collect block call st sorted t held) (λ adds. absurd cc)
         (λ layout same. collect_moves block call st sorted t some (same.parts call.group.0 call.view.0 call.stripe.0)) only_now _
         (λ room. append_collected false part t held some) (λ adds. absurd cc) answer result result_is run answers)

@@ -123,8 +123,8 @@ module _ {D : Type 0} (d : on_disk.Ghosts D)
           → BrickChange d (calls_of old size append_calls) old after new.disk (store_ends.end_of answer) → Answers old new after size false answer
           → NoticeKept result new
       notice_kept new answer result f is run change =
-          message_seen d only_now old runs layout me from notice f TakenSo (unanswered f) (Some (append_of size append_calls)) appended new (answered None answer)
-          result is
+          message_seen d only_now old runs layout me from notice f TakenSo (unanswered f) (Some (append_of size append_calls)) appended new
+          (answered None answer) result is
           (changed_next d TakenSo old new after size false append_calls None runs (λ room. (refl, follows)) (λ adds. absurd cc)
           (λ other same. moves other old.shape.block same) only_now (Some (append_of size append_calls)) (λ room. refl) (λ adds. absurd cc) answer
           (answered None answer) refl run change)

@@ -8,7 +8,7 @@ use Rattle.fab_base.proofs.StampOrder.{stamp_below_irrefl, stamp_same_true}
 use Rattle.messages.specs.declared.requests.Version.{Version}
 use Rattle.version_log.specs.Versions.{Version as Kept, newest, below, is_below, has_stamp, block_of, IsRising}
 use Rattle.version_log.proofs.RisingLogs.{filter-map}
-use Rattle.protocol.specs.Replicas.{newest_of, is_held, looked_up}
+use Rattle.protocol.specs.Replicas.{newest_of, is_held}
 use Rattle.protocol.specs.Replicas as machine
 use Rattle.replica.specs.Parts.{as_version}
 

@@ -45,11 +45,13 @@ module _ {D : Type 0} (d : on_disk.Ghosts D)
   answer_of reply = Message.Reply call reply
 
   pub void_kept : Takes layout me from call request old.state Void → RequestKept (Ok None) old
-  void_kept takes = message_none d only_now old runs layout me from asked None (step_void layout me from call request old.state takes)
+  void_kept takes =
+      message_none d only_now old runs layout me from asked None (step_void layout me from call request old.state takes)
       (λ node parts. append_void layout me from call request old.state node parts takes)
 
   pub told_kept : (reply : Reply) → Takes layout me from call request old.state (Tell reply) → RequestKept (Ok (Some (answer_of reply))) old
-  told_kept reply takes = message_none d only_now old runs layout me from asked (Some (answer_of reply)) (step_told layout me from call request old.state reply takes)
+  told_kept reply takes =
+      message_none d only_now old runs layout me from asked (Some (answer_of reply)) (step_told layout me from call request old.state reply takes)
       (λ node parts. append_told layout me from call request old.state node parts reply takes)
 
   pub old_kept : (bound : Option Stamp) → Takes layout me from call request old.state (TellOld bound) → (reply : Reply)

@@ -16,7 +16,9 @@ returns-then-is_halted-clause-change g c node parts =
 
 pub returns-in-Request : goal.returns-in-Request
 returns-in-Request g c =
-    subst (λ (m : Message). HandlesMessage g.D.Disk c.args.layout.now (me_of c.args.store.now) c.args.from m c.args.store.now c.on_request.new.store c.on_request.result)
+    subst
+    (λ (m : Message). HandlesMessage g.D.Disk c.args.layout.now (me_of c.args.store.now) c.args.from m c.args.store.now c.on_request.new.store
+    c.on_request.result)
     (sym c.in-Request.is) c.on_request.ensures
 
 pub returns-in-Learn : goal.returns-in-Learn

@@ -5,6 +5,7 @@ use Rattle.version_log.specs.Versions.{Version}
 use Rattle.frame_store.specs.declared.shapes.Shape.{Shape}
 use Rattle.brick_store.specs.Blocks.{log_at}
 use Rattle.protocol.specs.Views.{Learnt}
+use Rattle.replica.specs.declared.courses.Course.TheVariants.{Serve, Vote}
 use Rattle.replica.specs.Courses.{ServesAs, VotesBy, fits_block}
 use Rattle.protocol.specs.Replicas.{newest_of, under}
 use Rattle.replica.specs.Parts.{as_version}
@@ -12,6 +13,7 @@ use Rattle.replica.specs.Reactions.{place_of}
 use Rattle.replica.specs.Handling.{me_of}
 use Rattle.replica.proofs.CourseSteps.{serves_of, votes_of, number_learnt, asked_some}
 use Rattle.replica.proofs.Messages.{message_refused}
+use Rattle.replica.proofs.Stepping.{Takes}
 use Rattle.replica.proofs.Decided.{IsDecided, decided, change_decided}
 use Rattle.replica.proofs.Requested.{void_kept, told_kept, old_kept, voted_kept, served_kept}
 use Rattle.replica.proofs.handling.on_request.Given.{Over}
@@ -44,10 +46,14 @@ returns-in_err-course g c =
 -- ---- as a member
 
 -- the member serves
+takes_serve : (g : Over) (c : In-Serve g)
+    → Takes c.args.layout.now (me_of c.args.store.now) c.args.call c.args.request.now c.args.store.now.state (Serve c.in-Serve.member)
+takes_serve g c = sym c.in_ok-course.ensures.course ∙ c.in-Serve.is
+
+-- as it may
 serves_so : (g : Over) (c : In-Serve g) → ServesAs c.args.layout.now c.args.store.now.state c.args.call c.args.request.now c.in-Serve.member
 serves_so g c =
-    serves_of c.args.layout.now (me_of c.args.store.now) c.args.store.now.state c.args.call c.in-Serve.member c.args.request.now
-    (sym c.in_ok-course.ensures.course ∙ c.in-Serve.is)
+    serves_of c.args.layout.now (me_of c.args.store.now) c.args.store.now.state c.args.call c.in-Serve.member c.args.request.now (takes_serve g c)
 
 -- and decides as the machine's
 decided_so : (g : Over) (c : In_ok-plan-in-Serve g) → c.in-Serve.member.block ≡ c.args.layout.now.block
@@ -76,7 +82,7 @@ returns-in_ok-plan-in-Serve g c =
     let at = goal.at.returns-in_ok-plan-in-Serve g c in
     served_kept g.D.Disk g.met.D.Disk.only_now c.args.store.now c.requires.runs c.args.layout.now (me_of c.args.store.now) c.args.from c.args.call
     c.args.request.now c.in-Serve.member c.in_ok-plan-in-Serve.plan (decided_so g at.In_ok-plan-in-Serve (serves_so g at.In-Serve).block)
-    (sym c.in_ok-course.ensures.course ∙ c.in-Serve.is) c.carry_out.new.store c.carry_out.result c.answer.result c.answer.ensures c.carry_out.ensures
+    (takes_serve g at.In-Serve) c.carry_out.new.store c.carry_out.result c.answer.result c.answer.ensures c.carry_out.ensures
 
 pub returns-in_err-plan-in-Serve : goal.returns-in_err-plan-in-Serve
 returns-in_err-plan-in-Serve g c =
@@ -85,11 +91,17 @@ returns-in_err-plan-in-Serve g c =
 
 -- ---- by a vote
 
--- the brick votes by what it has learnt
+-- the brick votes
+takes_vote : (g : Over) (c : In-Vote g)
+    → Takes c.args.layout.now (me_of c.args.store.now) c.args.call c.args.request.now c.args.store.now.state
+    (Vote c.in-Vote.learnt c.in-Vote.ballot c.in-Vote.asks)
+takes_vote g c = sym c.in_ok-course.ensures.course ∙ c.in-Vote.is
+
+-- by what it has learnt
 votes_so : (g : Over) (c : In-Vote g) → VotesBy c.args.layout.now c.args.store.now.state c.args.call c.in-Vote.learnt c.in-Vote.asks
 votes_so g c =
     votes_of c.args.layout.now (me_of c.args.store.now) c.args.store.now.state c.args.call c.in-Vote.learnt c.in-Vote.ballot c.in-Vote.asks
-    c.args.request.now (sym c.in_ok-course.ensures.course ∙ c.in-Vote.is)
+    c.args.request.now (takes_vote g c)
 
 pub vote-requires-clause-learnt : goal.vote-requires-clause-learnt
 vote-requires-clause-learnt g c =
@@ -103,6 +115,7 @@ vote-requires-clause-some g c =
 
 pub returns-in-Vote : goal.returns-in-Vote
 returns-in-Vote g c =
+    let at = (goal.at.returns-in-Vote g c).In-Vote in
     voted_kept g.D.Disk g.met.D.Disk.only_now c.args.store.now c.requires.runs c.args.layout.now (me_of c.args.store.now) c.args.from c.args.call
-    c.args.request.now c.in-Vote.learnt c.in-Vote.ballot c.in-Vote.asks (sym c.in_ok-course.ensures.course ∙ c.in-Vote.is)
-    (votes_so g (goal.at.returns-in-Vote g c).In-Vote) c.vote.new.store c.vote.result c.answer-in-Vote.result c.answer-in-Vote.ensures c.vote.ensures
+    c.args.request.now c.in-Vote.learnt c.in-Vote.ballot c.in-Vote.asks (takes_vote g at) (votes_so g at) c.vote.new.store c.vote.result
+    c.answer-in-Vote.result c.answer-in-Vote.ensures c.vote.ensures

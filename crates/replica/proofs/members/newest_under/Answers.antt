@@ -1,5 +1,5 @@
 -- It is told as it is found.
-use Rattle.std.proofs.Common.{◌≡◌, true, Option, Some, None, IfOk, refl, ap, subst, ◌∙◌}
+use Rattle.std.proofs.Common.{◌≡◌, true, Option, Some, None, IfOk, refl, subst, ◌∙◌}
 use Rattle.messages.specs.declared.requests.Version.{Version}
 use Rattle.protocol.specs.Replicas.{told_version}
 use Rattle.replica.proofs.members.newest_under.Goals as goal
