@@ -47,7 +47,7 @@ returns-in_err-course g c =
 
 -- the member serves
 takes_serve : (g : Over) (c : In-Serve g)
-    → Takes c.args.layout.now (me_of c.args.store.now) c.args.call c.args.request.now c.args.store.now.state (Serve c.in-Serve.member)
+    → Takes c.args.layout.now (me_of c.args.store.now) c.args.from c.args.call c.args.request.now c.args.store.now.state (Serve c.in-Serve.member)
 takes_serve g c = sym c.in_ok-course.ensures.course ∙ c.in-Serve.is
 
 -- as it may
@@ -93,7 +93,7 @@ returns-in_err-plan-in-Serve g c =
 
 -- the brick votes
 takes_vote : (g : Over) (c : In-Vote g)
-    → Takes c.args.layout.now (me_of c.args.store.now) c.args.call c.args.request.now c.args.store.now.state
+    → Takes c.args.layout.now (me_of c.args.store.now) c.args.from c.args.call c.args.request.now c.args.store.now.state
     (Vote c.in-Vote.learnt c.in-Vote.ballot c.in-Vote.asks)
 takes_vote g c = sym c.in_ok-course.ensures.course ∙ c.in-Vote.is
 
