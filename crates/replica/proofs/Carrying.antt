@@ -9,7 +9,7 @@ use Rattle.fab_disk.specs.declared.disk.Disk as on_disk
 use Rattle.messages.specs.declared.calls.Call.{Call}
 use Rattle.messages.specs.declared.replies.Reply.{Reply}
 use Rattle.messages.specs.declared.replies.Reply.TheVariants.{Stored}
-use Rattle.version_log.specs.Versions.{Version, version}
+use Rattle.version_log.specs.Versions.{Version}
 use Rattle.brick_state.specs.States.{StateOf, place_cmp, stripe_at, ordered, collected, live}
 use Rattle.brick_store.specs.declared.faults.StoreFault.{StoreFault}
 use Rattle.brick_store.specs.Blocks.{HasStamp, IsNext, log_at, block_added, adds_stamp, version_stamp, with_version}

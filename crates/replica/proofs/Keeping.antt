@@ -31,7 +31,7 @@ use Rattle.protocol.specs.Nodes.{Node, may_teach, with_learnt, node_taught, node
 use Rattle.replica.specs.declared.faults.ReplicaFault.{ReplicaFault}
 use Rattle.replica.specs.Parts.{ballots_in, learnt_or, learnt_in, is_to_learn, is_to_note, IsPartsOf}
 use Rattle.replica.specs.Reactions.{IsVoted, IsStep}
-use Rattle.replica.specs.Handling.{Runs, KeepsAll, end_of, answered, seen_as}
+use Rattle.replica.specs.Handling.{Runs, KeepsAll, answered, seen_as}
 use Rattle.replica.specs.Calls.{same_ballots, ballot_append, learnt_append, message_append}
 use Rattle.replica.proofs.Answering.{HandlesBy, changed_next, handles_none}
 use Rattle.replica.proofs.Messages.{HandlesMessage, message_none, message_seen}
