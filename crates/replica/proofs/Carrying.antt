@@ -71,11 +71,11 @@ module _ {D : Type 0} (d : on_disk.Ghosts D)
   sorted : IsStrictlySortedBy place_cmp (keys_of st.stripes)
   sorted = runs.ordered.sorted
 
-  -- the plan that it is, is a change
+  -- this plan, which is the one that is carried out, is a change
   change_as : {is : Plan} → plan ≡ is → IsChange block (is_shared is) part is
   change_as same = subst (λ (p : Plan). IsChange block (is_shared p) part p) same change
 
-  -- and what that promises, the plan does
+  -- what it promises, that one does
   kept_as : {is : Plan} → plan ≡ is → (new : Brick D) (result : Result (Option Reply) ReplicaFault) → PlanKept d old call is result new
       → PlanKept d old call plan result new
   kept_as same new result = subst (λ (p : Plan). PlanKept d old call p result new) (sym same)

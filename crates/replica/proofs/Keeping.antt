@@ -46,7 +46,7 @@ abbrev pub VoteKept : {D : Type 0} → on_disk.Ghosts D → Brick D → Call →
 VoteKept d old call vote result new =
     HandlesBy d (ballot_append (ballots_in old.state call.group.0) vote.kept) (IsVoted call old.state vote) old new result
 
--- an acceptor has voted so, and replies so
+-- an acceptor has voted so: the reply is the vote's, and so is what it keeps
 pub record IsCast (vote : Voted) (reply : Reply) (acceptor : Acceptor) : Type 0 where
   pub reply_is : reply ≡ vote.reply
   pub kept_is : acceptor.kept ≡ vote.kept

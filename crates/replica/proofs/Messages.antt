@@ -30,7 +30,7 @@ HandlesMessage d layout me from message old new result = record {
       (IsStep layout me from message old.state) old new (end_of result);
 }
 
--- what a notice of a view was taken for is the message that it is
+-- a notice of a view that was taken, as the message that it is
 pub message_noticed : {D : Type 0} (d : on_disk.Ghosts D) (layout : Layout) (from : BrickId) (message notice : Message) (old new : Brick D)
     (taken : Result (Unit {0}) ReplicaFault) (result : Result (Option Message) ReplicaFault) → message ≡ notice → result ≡ unanswered taken
     → TakesNotice d layout from notice old new taken → HandlesMessage d layout (me_of old) from message old new result

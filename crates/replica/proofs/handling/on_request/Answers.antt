@@ -45,17 +45,17 @@ returns-in_err-course g c =
 
 -- ---- as a member
 
--- the member serves
+-- the request is served by a member
 takes_serve : (g : Over) (c : In-Serve g)
     → Takes c.args.layout.now (me_of c.args.store.now) c.args.from c.args.call c.args.request.now c.args.store.now.state (Serve c.in-Serve.member)
 takes_serve g c = sym c.in_ok-course.ensures.course ∙ c.in-Serve.is
 
--- as it may
+-- which the store may have do so
 serves_so : (g : Over) (c : In-Serve g) → ServesAs c.args.layout.now c.args.store.now.state c.args.call c.args.request.now c.in-Serve.member
 serves_so g c =
     serves_of c.args.layout.now (me_of c.args.store.now) c.args.store.now.state c.args.call c.in-Serve.member c.args.request.now (takes_serve g c)
 
--- and decides as the machine's
+-- what it decides is the step of the machine's member
 decided_so : (g : Over) (c : In_ok-plan-in-Serve g) → c.in-Serve.member.block ≡ c.args.layout.now.block
     → IsDecided c.args.store.now c.args.layout.now c.args.call c.args.request.now c.in-Serve.member.m c.in-Serve.member.seat c.in_ok-plan-in-Serve.plan
 decided_so g c block =
@@ -91,13 +91,13 @@ returns-in_err-plan-in-Serve g c =
 
 -- ---- by a vote
 
--- the brick votes
+-- the request is voted on
 takes_vote : (g : Over) (c : In-Vote g)
     → Takes c.args.layout.now (me_of c.args.store.now) c.args.from c.args.call c.args.request.now c.args.store.now.state
     (Vote c.in-Vote.learnt c.in-Vote.ballot c.in-Vote.asks)
 takes_vote g c = sym c.in_ok-course.ensures.course ∙ c.in-Vote.is
 
--- by what it has learnt
+-- by what the brick has learnt of the group
 votes_so : (g : Over) (c : In-Vote g) → VotesBy c.args.layout.now c.args.store.now.state c.args.call c.in-Vote.learnt c.in-Vote.asks
 votes_so g c =
     votes_of c.args.layout.now (me_of c.args.store.now) c.args.store.now.state c.args.call c.in-Vote.learnt c.in-Vote.ballot c.in-Vote.asks
