@@ -11,32 +11,19 @@ median of five of each is printed, and how much more the second is. The project 
 more than 40 MiB with it.
 """
 
-import os
 import re
 import statistics
 import subprocess
 import sys
 import tempfile
-import time
+
+from disks import make, served
 
 MOST_BYTES = 32 * 2**20
 ROUNDS = 5
 M, N, BLOCK = 4, 6, 4096
 STRIPES = MOST_BYTES // (M * BLOCK)
 ALLOWED = 40 * 2**20
-
-LAYOUT = """block = {block}
-bricks = {n}
-records = 16000
-port = {port}
-[[group]]
-m = {m}
-members = [{members}]
-stripes = {stripes}
-[[volume]]
-name = "v"
-segments = [[0, 0, {stripes}]]
-"""
 
 # What the client does: it comes to the disk, writes its bytes by requests of so many, tells that it is ready, and ends once it is told.
 CLIENT = """
@@ -50,47 +37,25 @@ h.shutdown()
 """
 
 
-def listens(port):
-    """Whether a socket of this machine listens at a TCP port of 127.0.0.1."""
-    with open("/proc/net/tcp") as table:
-        rows = [line.split() for line in table.readlines()[1:]]
-    return any(row[1] == f"0100007F:{port:04X}" and row[3] == "0A" for row in rows)
-
-
-def peak(program, layout, stores, port, written, piece):
+def peak(program, disk, written, piece):
     """The most bytes that were resident in the program, with a client that writes so many bytes by requests of so many."""
-    served = subprocess.Popen([program, "nbd", layout, stores, str(port), str(10**15)], stdout=subprocess.PIPE, text=True)
-    try:
-        while not listens(port):
-            if served.poll() is not None:
-                raise SystemExit(f"nbd ended with {served.returncode}")
-            time.sleep(0.005)
-        does = CLIENT.format(port=port, written=written, piece=piece)
-        client = subprocess.Popen(["/usr/bin/python3", "-m", "nbd", "-c", does], stdin=subprocess.PIPE, stdout=subprocess.PIPE, text=True)
+    with served(program, disk) as process:
+        does = CLIENT.format(port=disk[2], written=written, piece=piece)
+        client = subprocess.Popen(["/usr/bin/python3", "-m", "nbd", "-c", does], cwd="/", stdin=subprocess.PIPE, stdout=subprocess.PIPE, text=True)
         if client.stdout.readline() != "ready\n":
             raise SystemExit("the client was not served")
-        with open(f"/proc/{served.pid}/status") as status:
+        with open(f"/proc/{process.pid}/status") as status:
             most = int(re.search(r"VmHWM:\s+(\d+) kB", status.read())[1]) * 1024
         client.communicate("\n", timeout=60)
-        if served.communicate(timeout=60)[0] != "nbd disc\n":
-            raise SystemExit(f"nbd ended with {served.returncode}")
-    finally:
-        # It is still there if something went wrong.
-        served.kill()
     return most
 
 
 def peaks(program, place):
     """The most memory of an idle session over a disk that is written, and of one that writes it again by one request."""
-    port = 20000 + 64 * (os.getpid() % 512)
     with tempfile.TemporaryDirectory(dir=place) as folder:
-        layout, stores = os.path.join(folder, "layout"), os.path.join(folder, "store")
-        with open(layout, "w") as text:
-            text.write(LAYOUT.format(block=BLOCK, n=N, m=M, port=port, members=", ".join(map(str, range(N))), stripes=STRIPES))
-        for brick in range(N):
-            subprocess.run([program, "format", layout, f"{stores}.{brick}", str(brick)], check=True, stdout=subprocess.DEVNULL)
-        peak(program, layout, stores, port + N, MOST_BYTES, 2**18)
-        return peak(program, layout, stores, port + N, 0, MOST_BYTES), peak(program, layout, stores, port + N, MOST_BYTES, MOST_BYTES)
+        disk = make(program, folder, M, N, BLOCK, STRIPES, records=16000)
+        peak(program, disk, MOST_BYTES, 2**18)
+        return peak(program, disk, 0, MOST_BYTES), peak(program, disk, MOST_BYTES, MOST_BYTES)
 
 
 def main(words):
