@@ -4,11 +4,11 @@
     bench/local/beside.py PROGRAM FOLDER
 
 run.py runs it, over two file systems. The stores lie in new folders in FOLDER. m = 4, n = 6, a block has 4,096 bytes, a request of NBD 256 KiB, and a command of
-`local` is a whole stripe. Each round measures all rows in turn, so that the two sides of a ratio are of the same minute; the medians of seven rounds are printed, and
-in brackets the least and the most. What each row is docs/performance.md says.
+`local` is a whole stripe. Each measurement moves 16 MiB. Each round makes all of them in turn, so that the two sides of a ratio are of the same few seconds. Printed are
+medians of nine rounds and, in brackets, the least and the most. Since other work on the machine only slows a round down, the ratio of the fastest rounds of both sides
+is printed too, and last that of the processor times of the process `brick`; what the client takes is not in that one. What each row is docs/performance.md says.
 
-The start of `brick` is left out of all, and nbdcopy's start only where its first request is. A row's last ratio is that of the processor times that the process
-`brick` took, which other work on the machine hardly changes; what the client takes is not in it.
+The start of `brick` is left out of all, and nbdcopy's start only where its first request is.
 """
 
 import collections
@@ -20,14 +20,13 @@ import tempfile
 
 from disks import commander, make, run_timed, served, take_priority
 
-ROUNDS = 7
+ROUNDS = 9
 M, N, BLOCK = 4, 6, 4096
 DATA = M * BLOCK
 COPIED, REQUEST = 16 * 2**20, 256 * 2**10
 STRIPES = COPIED // DATA
-# The stripes that are written or read again and again, and how many commands and requests do that: of both as many bytes.
+# The stripes that are written or read again and again, of which as many bytes are moved as a copy has.
 AGAIN = 64
-COMMANDS, REQUESTS = 2000, 125
 # Bytes that are written to the file system, and removed, before anything is measured: memory that this machine never used may cost more at its first use.
 TOUCHED = 256 * 2**20
 
@@ -80,7 +79,7 @@ def local_again(program, place, write):
     with tempfile.TemporaryDirectory(dir=place) as folder:
         run = commander(program, folder, make(program, folder, M, N, BLOCK, AGAIN), M, N, BLOCK, AGAIN)
         run(True, AGAIN)
-        return local_rate(run, write, COMMANDS)
+        return local_rate(run, write, STRIPES)
 
 
 def local_disk(program, place, write):
@@ -102,9 +101,8 @@ def nbd_again(program, place, write):
             told, processor = attend(program, disk, CLIENT.format(port=disk[2], request=REQUEST, again=AGAIN * DATA, write=write, requests=requests))
             return float(told), processor
 
-    (_, start_processor), (seconds, processor) = session(0), session(REQUESTS)
-    size = REQUESTS * REQUEST
-    return Rate(size / seconds, (processor - start_processor) / size)
+    (_, start_processor), (seconds, processor) = session(0), session(COPIED // REQUEST)
+    return Rate(COPIED / seconds, (processor - start_processor) / COPIED)
 
 
 def nbd_copies(program, place, write, size):
@@ -152,18 +150,24 @@ def told(values, form):
     return f"{statistics.median(values):{form}} ({min(values):{form}} to {max(values):{form}})"
 
 
+def row(pairs):
+    """What is told of the rates of `nbd` and of `local` in each round."""
+    nbds, locals_ = zip(*pairs)
+    rates = (told([rate.speed / 1e6 for rate in side], ".0f") for side in (nbds, locals_))
+    fastest = max(rate.speed for rate in nbds) / max(rate.speed for rate in locals_)
+    ratio, processor = (told(them, ".2f") for them in zip(*[(nbd.speed / local.speed, local.cost / nbd.cost) for nbd, local in pairs]))
+    return *rates, ratio, f"{fastest:.2f}", processor
+
+
 def beside(program, place):
     """Prints the rows over the file system of a folder."""
     with tempfile.TemporaryFile(dir=place) as file:
         for _ in range(TOUCHED // 2**20):
             file.write(bytes(2**20))
-    print("operation | nbd over | local over | nbd, MB/s | local, MB/s | ratio | by processor time", flush=True)
+    print("operation | nbd over | local over | nbd, MB/s | local, MB/s | ratio | of the fastest | by processor time", flush=True)
     for write in (True, False):
         for rounds in zip(*[list(measure(program, place, write)) for _ in range(ROUNDS)]):
-            name, pairs = rounds[0][0], [(nbd, local) for _, nbd, local in rounds]
-            rates = [told([rate.speed / 1e6 for rate in side], ".0f") for side in zip(*pairs)]
-            ratios = [told(them, ".2f") for them in ([nbd.speed / local.speed for nbd, local in pairs], [local.cost / nbd.cost for nbd, local in pairs])]
-            print("write" if write else "read", name, *rates, *ratios, sep=" | ", flush=True)
+            print("write" if write else "read", rounds[0][0], *row([rates for _, *rates in rounds]), sep=" | ", flush=True)
 
 
 def main(words):
