@@ -5,6 +5,7 @@ pub mod GoingOn
 pub mod States
 pub mod Tables
 pub mod Replied
+pub mod OpenTables
 pub mod Ticks
 pub mod Taught
 pub mod Resending
@@ -21,6 +22,7 @@ pub mod Starts
 pub mod Learning
 pub mod Sent
 pub mod Shown
+pub mod Handled
 pub mod Turns
 pub mod Beside
 pub mod ScrubsBeside

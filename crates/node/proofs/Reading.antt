@@ -1,10 +1,11 @@
 -- What a reply to the read of a synchronisation comes to.
-use Rattle.std.proofs.Common.{◌≡◌, ◌≤◌, ℕ, Bool, cond, List, [], ◌∷◌, ◌++◌, length, Option, Some, None, refl, sym, ◌∙◌, ap, arith}
+use Rattle.std.proofs.Common.{◌≡◌, ◌≤◌, ℕ, Bool, cond, List, [], ◌∷◌, ◌++◌, length, Option, Some, None, refl, sym, ◌∙◌, ap, subst, arith}
 use Rattle.std.specs.Option.{option_map}
 use Rattle.fab_base.specs.declared.answers.Answer.{Answer}
 use Rattle.fab_base.specs.declared.answers.Cause.{Cause}
 use Rattle.fab_base.specs.declared.stamps.Stamp.{Stamp}
-use Rattle.fab_base.specs.Layouts.{Layout}
+use Rattle.fab_base.specs.declared.member_lists.View.{View}
+use Rattle.fab_base.specs.Layouts.{Group, Layout}
 use Rattle.messages.specs.declared.packets.Packet.{Packet}
 use Rattle.stripe_code.specs.Codes.{coding}
 use Rattle.protocol.specs.declared.tellings.Answered.{Answered}
@@ -12,6 +13,7 @@ use Rattle.protocol.specs.declared.tellings.Told.TheVariants.{Closed}
 use Rattle.protocol.specs.Coordinators.{Coordinator, Next, Ignores, Waits, Sends, Makes, Ends}
 use Rattle.protocol.specs.Jobs.{abort_cause, job_after}
 use Rattle.protocol.specs.Nodes.{Node, NodeStep, put, carried_out, carried_read, collect_packets, job_goes, read_closed, seen_told, then_does, with_known}
+use Rattle.view_sync.specs.Jobs.{Synchronising}
 use Rattle.node.specs.declared.call_sources.CallSource.{CallSource}
 use Rattle.node.specs.declared.jobs.Followed.{Followed}
 use Rattle.node.specs.declared.jobs.OpenJob.{OpenJob}
@@ -20,10 +22,10 @@ use Rattle.node.specs.declared.jobs.ReadTurn.TheVariants as turn
 use Rattle.node.specs.declared.operations.Operation.{Operation}
 use Rattle.node.specs.declared.outs.Tellings.{Tellings}
 use Rattle.node.specs.Decisions.{CarriesOut, KeepsCall, NeverEnds, answers_in, left_by, left_open, or_waits, told_in}
-use Rattle.node.specs.Jobs.{GoesOn, MakesFrom, cause_in, ended_by, followed_step, job_at, job_of, reading_of, sends_first, then_told, with_reading}
-use Rattle.node.specs.Operations.{coordinator_of}
+use Rattle.node.specs.Jobs.{GoesOn, IsJobOf, MakesFrom, cause_in, ended_by, followed_step, job_at, job_of, reading_of, sends_first, then_told, with_reading}
+use Rattle.node.specs.Operations.{coordinator_of, shown_of}
 use Rattle.node.specs.Outcomes.{Outcome, told_list}
-use Rattle.node.specs.Reads.{IsPrepared, turn_step}
+use Rattle.node.specs.Reads.{IsPrepared, IsSameRead, turn_step}
 use Rattle.node.proofs.Beside.{eq_same, put_twice}
 use Rattle.node.proofs.Following.{followed_after}
 use Rattle.node.proofs.Replied.{busy_after, does, does_answer, does_node, does_report, does_send, does_tell, waits_is}
@@ -72,6 +74,30 @@ told_once c (Makes d) seq = omega arith
 told_once c (Ends answer None stored) seq = omega arith
 told_once c (Ends answer (Some v) stored) seq = omega arith
 
+-- ---- what it is then
+
+-- a read that has not answered keeps its call
+keeps_seq : (before after : Operation) (answers : List Answered) → answers ≡ [] → KeepsCall answers before after
+    → (coordinator_of after).call.seq ≡ (coordinator_of before).call.seq
+keeps_seq before after [] none keeps = keeps
+keeps_seq before after (answered ∷ answers) none keeps = absurd cc
+
+-- so it is the same read, of the same synchronisation
+pub same_read : (layout : Layout) (before after : OpenJob) (answers : List Answered) → after.job ≡ before.job → after.view ≡ before.view
+    → (coordinator_of after.read).group ≡ (coordinator_of before.read).group → (shown_of after.read).block ≡ (shown_of before.read).block
+    → KeepsCall answers before.read after.read → answers ≡ [] → IsSameRead layout before after
+same_read layout before after answers job view group block keeps none =
+    record {
+      group = ap (λ (j : Synchronising). j.group) job;
+      seq = keeps_seq before.read after.read answers none keeps;
+      of = λ of. record {
+        job_is = subst (λ (g : Group). IsJobOf layout after.job after.view g) (sym group)
+            (subst (λ (v : View). IsJobOf layout after.job v (coordinator_of before.read).group) (sym view)
+            (subst (λ (j : Synchronising). IsJobOf layout j before.view (coordinator_of before.read).group) (sym job) of.job_is));
+        is_operation = block ∙ of.is_operation;
+      };
+    }
+
 module _ (layout : Layout) (at : CallSource) (before : OpenJob) (node : Node) (makes : MakesFrom at node)
     (free : node.calls (coordinator_of before.read).call.seq ≡ None) where
   abbrev c : Coordinator
@@ -98,10 +124,6 @@ module _ (layout : Layout) (at : CallSource) (before : OpenJob) (node : Node) (m
       → left_by (or_waits c next) ≡ Some (coordinator_of after)
   left_of next after answers none left = left ∙ ap (λ (l : List Answered). option_map coordinator_of (left_open l after)) none
 
-  keeps_seq : (after : Operation) (answers : List Answered) → answers ≡ [] → KeepsCall answers before.read after → (coordinator_of after).call.seq ≡ c.call.seq
-  keeps_seq after [] none keeps = keeps
-  keeps_seq after (answered ∷ answers) none keeps = absurd cc
-
   -- it goes on
   pub goes_so : (next : Next) (after : OpenJob) (known : ℕ) (outs : Outcome) → after.job ≡ before.job → after.view ≡ before.view
       → CarriesOut layout before.read after.read at.stamps.known known (or_waits c next) outs → outs.answers ≡ []
@@ -110,7 +132,7 @@ module _ (layout : Layout) (at : CallSource) (before : OpenJob) (node : Node) (m
       let me = at.me in
       let nothing : answers_in c.call.seq (or_waits c next) ≡ [] = sym carried.answers ∙ none in
       let left = left_of next after.read outs.answers none carried.left in
-      let seq : c.call.seq ≡ (coordinator_of after.read).call.seq = sym (keeps_seq after.read outs.answers none carried.keeps) in
+      let seq : c.call.seq ≡ (coordinator_of after.read).call.seq = sym (keeps_seq before.read after.read outs.answers none carried.keeps) in
       let calls : put (put node.calls c.call.seq (Some c)) c.call.seq (left_by (or_waits c next))
       ≡ put node.calls (coordinator_of after.read).call.seq (Some (coordinator_of after.read)) =
       put_twice node.calls c.call.seq (Some c) (left_by (or_waits c next)) ∙ (λ i. put node.calls (seq i) (left i)) in

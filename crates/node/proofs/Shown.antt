@@ -34,7 +34,7 @@ use Rattle.node.proofs.Requests.{is_me, live_seen, shown_before, shown_after, fo
 abbrev pub refused : (T : Type 0) → ReplicaFault → Result T ReplicaFault
 refused T fault = Err fault
 
-abbrev failed : (T : Type 0) → NodeFault → Result T NodeFault
+abbrev pub failed : (T : Type 0) → NodeFault → Result T NodeFault
 failed T fault = Err fault
 
 module _ {D : Type 0} (d : on_disk.Ghosts D) where

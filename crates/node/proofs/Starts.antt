@@ -1,8 +1,9 @@
 -- What a brick shows as it starts.
-use Rattle.std.proofs.Common.{◌≡◌, ℕ, ◌+◌, List, inl, inr, ⊎_elim, refl, sym, ◌∙◌, ap, arith}
+use Rattle.std.proofs.Common.{◌≡◌, ◌⊎◌, ℕ, ◌+◌, List, inl, inr, ⊎_elim, refl, sym, ◌∙◌, ap, subst, arith}
 use Rattle.fab_base.specs.declared.identities.BrickId.{BrickId}
 use Rattle.fab_base.specs.Layouts.{Layout}
 use Rattle.fab_disk.specs.declared.disk.Disk as on_disk
+use Rattle.fab_disk.specs.Disk.{IsUntouched}
 use Rattle.fab_disk.specs.Changing.{End, Cut, NotBegun}
 use Rattle.fab_disk.proofs.Moments.{widened}
 use Rattle.frame_store.specs.declared.shapes.Shape.{Shape}
@@ -16,12 +17,12 @@ use Rattle.brick_state.specs.States.{StateOf, booted, live}
 use Rattle.brick_store.specs.declared.faults.OpenFault.{OpenFault}
 use Rattle.brick_store.specs.declared.faults.OpenFault.TheVariants as faults
 use Rattle.brick_store.specs.Bricks.{Brick}
-use Rattle.brick_store.specs.Images.{StandsFor}
+use Rattle.brick_store.specs.Images.{IsFound, StandsFor}
 use Rattle.brick_store.specs.Openings as stores
 use Rattle.brick_store.specs.Openings.{IsCounted, Opens}
 use Rattle.brick_store.proofs.OpeningLaws.{counted_is}
 use Rattle.protocol.specs.Nodes.{Node, restarted}
-use Rattle.replica.specs.Parts.{part_in, learnt_in, ballots_in, live_at}
+use Rattle.replica.specs.Parts.{ListsStand, part_in, learnt_in, ballots_in, live_at}
 use Rattle.node.specs.declared.tasks.Tasks.{Tasks}
 use Rattle.node.specs.Openings.{OpensBrick, stopped_by}
 use Rattle.node.specs.States.{KeptParts, fresh_node, parts_in}
@@ -117,3 +118,37 @@ module _ {D : Type 0} (d : on_disk.Ghosts D) (layout : Layout) (me : BrickId) (o
           never = λ sound is. absurd cc;
         };
       }
+
+-- a store of a shape that is the brick's
+module _ {D : Type 0} (d : on_disk.Ghosts D) (layout : Layout) (me : BrickId) (old : D) (shape : Shape) (same : shape ≡ shape_at layout me) where
+  pub opens_at : (new last : D) (end : End) → new ≡ last → Opens d shape old last end → OpensBrick d layout me old new end
+  opens_at new last end is opens =
+      opens_so d layout me old new end
+      (subst (λ (disk : D). Opens d (shape_at layout me) old disk end) (sym is) (subst (λ (s : Shape). Opens d s old last end) same opens))
+
+  pub counted_at : (st : StateOf Version) → (d.tells → IsCounted shape (d.seen old) st) → d.tells → IsCounted (shape_at layout me) (d.seen old) st
+  counted_at st = subst (λ (s : Shape). d.tells → IsCounted s (d.seen old) st) same
+
+  -- the brick has no store that it may run on
+  abbrev pub HasNone : D → Type 0
+  HasNone new =
+      (IsNoStore (shape_at layout me) (d.seen old) × IsUntouched d.seen d.may_leave d.moment d.left_since old new)
+      ⊎ ((st : StateOf Version) × IsFound (shape_at layout me) st (d.seen old) × (ListsStand layout st → ⊥))
+
+  -- for none was found
+  module _ (fault : OpenFault) (new : D) (opens : Opens d shape old new (stores.stopped_by fault))
+      (none : fault ≡ faults.NotAStore → d.tells → IsNoStore shape (d.seen old)) where
+    none_here : fault ≡ faults.NotAStore → d.tells → IsNoStore (shape_at layout me) (d.seen old)
+    none_here = subst (λ (s : Shape). fault ≡ faults.NotAStore → d.tells → IsNoStore s (d.seen old)) same none
+
+    pub refused_at : OpensBrick d layout me old new (stopped_by fault)
+    refused_at = refused_so d layout me old new fault (subst (λ (s : Shape). Opens d s old new (stores.stopped_by fault)) same opens) none_here
+
+    pub none_found : fault ≡ faults.NotAStore → d.tells → HasNone new
+    none_found is told = inl (none_here is told, opens.not_begun (ap stores.stopped_by is))
+
+  -- or its lists may not keep the layout's groups
+  pub lists_fall : (new : D) (st : StateOf Version) → (d.tells → IsCounted shape (d.seen old) st) → (ListsStand layout st → ⊥) → d.tells → HasNone new
+  lists_fall new st found fall told =
+      let counted = counted_at st found told in
+      inr (counted.before, counted.found, λ first. fall (subst (λ (now : StateOf Version). ListsStand layout now) (sym counted.counted) first))

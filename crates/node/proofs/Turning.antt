@@ -29,13 +29,13 @@ use Rattle.node.specs.Outcomes.{Outcome}
 use Rattle.node.specs.Reads.{HasCountedRead}
 use Rattle.node.specs.Scrubs.{HasCountedScrub, IsScrubAside, scrub_coordinator_of, scrub_seq, scrub_shown, scrubbing_in, with_scrubbing, without_reply}
 use Rattle.node.specs.States.{KeptParts, StepsAs, IsSameWork, IsWorkOf, state_in, state_with}
-use Rattle.node.specs.Tasks.{AreSameTasks, CountsRead, CountsScrub, IsAside, IsJobAt, IsJobIn, IsScrubIn, read_seq, step_on, tasks_in}
+use Rattle.node.specs.Tasks.{AreSameTasks, AreTasksOf, CountsRead, CountsScrub, IsAside, IsJobAt, IsJobIn, IsScrubIn, read_seq, step_on, tasks_in}
 use Rattle.coord_phase.proofs.Answered.{taken_back as back_as_before}
 use Rattle.node.proofs.Beside.{beside, calls_apart, none_reads, replied_beside}
 use Rattle.node.proofs.ScrubsBeside.{beside_scrub, calls_apart_scrub, replied_beside_scrub}
 use Rattle.node.proofs.Counting.{taken_back}
 use Rattle.node.proofs.Tables.{is_at_number}
-use Rattle.node.proofs.Underway.{KeepsFree, apart_so, at_call, job_kept, no_parts, replied_free, scrub_apart_so, scrub_kept, steps_beside, steps_beside_scrub}
+use Rattle.node.proofs.Underway.{KeepsFree, apart_so, at_call, job_kept, no_parts, replied_free, same_parts, scrub_apart_so, scrub_kept, steps_beside, steps_beside_scrub}
 
 -- ---- an operation or the proposal
 
@@ -287,3 +287,11 @@ scrub_back from message before mid held taken counts is shown lagging kept =
 pub alone : (layout : Layout) (calls : OpenCalls) (job : Option OpenJob) (scrub : Option OpenScrub) → IsScrubIn layout calls job scrub → IsScrubIn layout calls None scrub
 alone layout calls job None is = tt
 alone layout calls job (Some held) is = record { scrub_is = is.scrub_is; made = is.made; apart = is.apart; aside = tt }
+
+-- all that is under way is of the same brick, where the work is, and the synchronisation has ended
+pub same_ended : (layout : Layout) (before : Tasks) (after : OpenWork) → IsSameWork layout before.work after
+    → (AreTasksOf layout before → IsScrubIn layout after.calls before.job before.scrub)
+    → AreSameTasks layout before (record { work = after; job = None; scrub = before.scrub })
+same_ended layout before after same scrub_is =
+    same_parts layout before (record { work = after; job = None; scrub = before.scrub }) same (λ of. tt)
+    (λ of. alone layout after.calls before.job before.scrub (scrub_is of))

@@ -16,13 +16,16 @@ use Rattle.node.specs.declared.jobs.OpenJob.{OpenJob}
 use Rattle.node.specs.declared.open_calls.OpenCalls.{OpenCalls}
 use Rattle.node.specs.declared.open_work.OpenWork.{OpenWork}
 use Rattle.node.specs.declared.operations.Operation.{Operation}
+use Rattle.node.specs.declared.proposals.Proposals.{Proposals}
 use Rattle.node.specs.declared.scrubs.OpenScrub.{OpenScrub}
+use Rattle.node.specs.declared.tasks.Tasks.{Tasks}
 use Rattle.node.specs.Jobs.{Reading, reading_in, with_reading}
 use Rattle.node.specs.Operations.{coordinator_of}
 use Rattle.node.specs.Outcomes.{Outcome}
+use Rattle.node.specs.Proposals.{AreProposalsOf}
 use Rattle.node.specs.Scrubs.{IsScrubAside, Scrubbing, scrub_seq, scrubbing_in, with_scrubbing}
-use Rattle.node.specs.States.{AreCallsOf, KeptParts, StepsAs, state_in, state_with}
-use Rattle.node.specs.Tasks.{IsAside, IsJobIn, IsScrubIn, read_seq}
+use Rattle.node.specs.States.{AreCallsOf, AreSameCalls, IsSameWork, KeptParts, StepsAs, state_in, state_with}
+use Rattle.node.specs.Tasks.{AreSameTasks, AreTasksOf, IsAside, IsJobIn, IsScrubIn, read_seq}
 use Rattle.node.proofs.Beside.{ApartFrom, beside}
 use Rattle.node.proofs.ScrubsBeside.{ScrubApart, beside_scrub}
 
@@ -118,6 +121,39 @@ scrub_kept layout before after job (Some held) keeps is =
       apart = unmapped (get nat_cmp after.calls.operations (scrub_seq held)) (kept.free (ap (option_map coordinator_of) is.apart));
       aside = is.aside;
     }
+
+-- the work is of the same brick, where its calls are, beside proposals on the bricks of the layout still
+pub same_work : (layout : Layout) (work : OpenWork) (calls : OpenCalls) (proposals : Proposals) → AreSameCalls layout work.calls calls
+    → (AreProposalsOf layout work.proposals → AreProposalsOf layout proposals) → IsSameWork layout work (record { calls = calls; proposals = proposals })
+same_work layout work calls proposals same left =
+    record { me = same.me; boot = same.boot; of = λ of. record { calls = same.of of.calls; proposing = left of.proposing } }
+
+-- so it is where its calls changed once more
+pub same_calls_then : (layout : Layout) (before after : OpenWork) (calls : OpenCalls) → IsSameWork layout before after → AreSameCalls layout after.calls calls
+    → IsSameWork layout before (record { calls = calls; proposals = after.proposals })
+same_calls_then layout before after calls first last =
+    record {
+      me = last.me ∙ first.me;
+      boot = last.boot ∙ first.boot;
+      of = λ of. let work_is = first.of of in record { calls = last.of work_is.calls; proposing = work_is.proposing };
+    }
+
+-- all that is under way is of the same brick, where its parts are
+pub same_parts : (layout : Layout) (before after : Tasks) → IsSameWork layout before.work after.work
+    → (AreTasksOf layout before → IsJobIn layout after.work.calls after.job)
+    → (AreTasksOf layout before → IsScrubIn layout after.work.calls after.job after.scrub) → AreSameTasks layout before after
+same_parts layout before after work job scrub =
+    record { me = work.me; boot = work.boot; of = λ of. record { work_is = work.of of.work_is; job_is = job of; scrub_is = scrub of } }
+
+-- so it is where the work is, and gives no operation the call of the read or of the scrub
+pub same_tasks : (layout : Layout) (before : Tasks) (after : OpenWork) → IsSameWork layout before.work after
+    → ((held : OpenJob) → before.job ≡ Some held → KeepsFree (read_seq held) (state_in no_parts before.work) (state_in no_parts after))
+    → ((held : OpenScrub) → before.scrub ≡ Some held → KeepsFree (scrub_seq held) (state_in no_parts before.work) (state_in no_parts after))
+    → AreSameTasks layout before (record { work = after; job = before.job; scrub = before.scrub })
+same_tasks layout before after same free apart =
+    same_parts layout before (record { work = after; job = before.job; scrub = before.scrub }) same
+    (λ of. job_kept layout before.work after before.job free of.job_is)
+    (λ of. scrub_kept layout before.work after before.job before.scrub apart of.scrub_is)
 
 -- ---- replies
 

@@ -1,9 +1,8 @@
 -- The read goes on, or what was prepared comes after it.
-use Rattle.std.proofs.Common.{◌≡◌, ℕ, Bool, true, false, not, List, [], ◌∷◌, ◌++◌, length, Option, Some, None, is_some, option_to_list, refl, sym, ◌∙◌, ap, subst, arith}
+use Rattle.std.proofs.Common.{◌≡◌, ℕ, Bool, true, false, not, [], ◌∷◌, ◌++◌, length, Option, Some, None, is_some, option_to_list, refl, sym, ◌∙◌, ap, subst, arith}
 use Rattle.fab_base.specs.declared.answers.Answer.{Answer}
 use Rattle.fab_base.specs.declared.answers.Cause.{Cause}
 use Rattle.fab_base.specs.declared.stamps.Stamp.{Stamp}
-use Rattle.fab_base.specs.Layouts.{Group}
 use Rattle.messages.specs.declared.calls.Call.{Call}
 use Rattle.messages.specs.declared.packets.Message.{Message}
 use Rattle.messages.specs.declared.packets.Message.TheVariants as message
@@ -11,20 +10,20 @@ use Rattle.messages.specs.declared.replies.Reply.{Reply}
 use Rattle.stripe_code.specs.Codes.{block_code, coding}
 use Rattle.protocol.specs.declared.tellings.Answered.{Answered}
 use Rattle.protocol.specs.Coordinators as machine
-use Rattle.protocol.specs.Coordinators.{Coordinator}
 use Rattle.protocol.specs.declared.tellings.Told.TheVariants.{Closed}
 use Rattle.protocol.specs.Jobs.{abort_cause}
-use Rattle.protocol.specs.Nodes.{carried_read, fresh_stamp}
+use Rattle.protocol.specs.Nodes.{Node, carried_read, fresh_stamp}
 use Rattle.coord_phase.specs.Decisions.{decided_on}
 use Rattle.coord_phase.specs.Messages.{packets_from}
 use Rattle.node.specs.declared.jobs.OpenJob.{OpenJob}
 use Rattle.node.specs.declared.jobs.Prepared.{Prepared}
-use Rattle.node.specs.Decisions.{CarriesOut, KeepsCall, or_waits}
-use Rattle.node.specs.Jobs.{GoesOn, IsJobOf, cause_in, ended_by, job_of, reading_of, with_reading}
+use Rattle.node.specs.declared.jobs.ReadTurn.TheVariants as turn
+use Rattle.node.specs.Decisions.{CarriesOut, or_waits}
+use Rattle.node.specs.Jobs.{GoesOn, MakesFrom, cause_in, ended_by, job_of, reading_of, with_reading}
 use Rattle.node.specs.Operations.{coordinator_of, shown_of}
 use Rattle.node.specs.Outcomes.{Outcome}
-use Rattle.node.specs.Reads.{IsPrepared, MayFollow}
-use Rattle.node.proofs.Reading.{ended_goes, ends_in, ends_so, goes_so, told_once, unanswered}
+use Rattle.node.specs.Reads.{IsPrepared, MayFollow, read_step, turn_step}
+use Rattle.node.proofs.Reading.{ended_goes, ends_in, ends_so, goes_so, same_read, told_once, unanswered}
 use Rattle.node.proofs.jobs.OpenJob.on_reply.Goals as goal
 use Rattle.node.proofs.jobs.OpenJob.on_reply.Goals.{After-is_none, In_ok-outs}
 
@@ -38,6 +37,10 @@ one_answered : (o : Option Answered) (b : Bool) → is_some o ≡ not b → b �
 one_answered None b is none = absurd cc
 one_answered (Some x) b is none = (x, refl)
 
+-- what the message lets the read decide
+abbrev decides : In_ok-outs → machine.Next
+decides c = decided_on c.fresh_stamp-fresh.result (shown_of c.args.self.now.read) c.args.from c.args.message.now
+
 -- what the machine's read decides on a reply
 abbrev decided_by : In_ok-outs → Call → Reply → machine.Next
 decided_by c call reply =
@@ -45,9 +48,8 @@ decided_by c call reply =
     (fresh_stamp c.args.at.me (coordinator_of c.args.self.now.read).stamp.view c.args.at.now c.args.at.stamps.boot c.args.at.stamps.known)
     (coordinator_of c.args.self.now.read) c.args.from call reply
 
--- is what it lets this one decide
-decided_so : (c : In_ok-outs) (call : Call) (reply : Reply) → c.args.message.now ≡ message.Reply call reply
-    → decided_on c.fresh_stamp-fresh.result (shown_of c.args.self.now.read) c.args.from c.args.message.now ≡ decided_by c call reply
+-- is that
+decided_so : (c : In_ok-outs) (call : Call) (reply : Reply) → c.args.message.now ≡ message.Reply call reply → decides c ≡ decided_by c call reply
 decided_so c call reply is =
     let op = c.args.self.now.read in
     let k = coordinator_of op in
@@ -68,40 +70,42 @@ carried_so c call reply is =
     (or_waits (coordinator_of c.args.self.now.read) n) c.in_ok-outs.outs)
     (decided_so c call reply is) (c.in_ok-outs.ensures.step c.args.layout.now c.requires.of.is_operation)
 
--- it has answered, where it is over
+-- where it is not over, it has answered nothing
+none_so : (c : After-is_none) → c.is_none.result ≡ true → c.in_ok-outs.outs.answers ≡ []
+none_so c none = sym (ap (λ (o : Outcome). o.answers) c.outs.view_is) ∙ none_answered c.outs.inside.answer c.is_none.result c.is_none.ensures none
+
+-- where it is, it has answered
 one_so : (c : After-is_none) → c.is_none.result ≡ false → (x : Answered) × (c.in_ok-outs.outs.answers ≡ x ∷ [])
 one_so c some =
     let one = one_answered c.outs.inside.answer c.is_none.result c.is_none.ensures some in
     (one.0, sym (ap (λ (o : Outcome). o.answers) c.outs.view_is) ∙ one.1)
 
+-- what goes on then
+abbrev after : In_ok-outs → OpenJob
+after c = record { job = c.args.self.now.job; view = c.args.self.now.view; read = c.on_reply.new.self }
+
+-- as the machine's read does
+goes_step : (c : In_ok-outs) → c.in_ok-outs.outs.answers ≡ [] → (node : Node) (call : Call) (reply : Reply) → c.args.message.now ≡ message.Reply call reply
+    → MakesFrom c.args.at node → node.calls (coordinator_of c.args.self.now.read).call.seq ≡ None
+    → read_step c.args.layout.now c.args.at c.args.self.now node c.args.from call reply
+    ≡ turn_step c.args.at.me (after c) node (turn.Goes c.in_ok-outs.outs c.on_reply.new.stamps.known)
+goes_step c none node call reply is makes free =
+    goes_so c.args.layout.now c.args.at c.args.self.now node makes free (decided_by c call reply) (after c) c.on_reply.new.stamps.known c.in_ok-outs.outs
+    refl refl (carried_so c call reply is) none
+
 pub returns-then-is_none-clause-turn : goal.returns-then-is_none-clause-turn
 returns-then-is_none-clause-turn c =
     let d = (goal.at.returns-then-is_none-clause-turn c).In_ok-outs in
-    let layout = c.args.layout.now in
-    let before = c.args.self.now in
-    let outs = c.in_ok-outs.outs in
-    let after : OpenJob = record { job = before.job; view = before.view; read = c.on_reply.new.self } in
-    let none : outs.answers ≡ [] =
-    sym (ap (λ (o : Outcome). o.answers) c.outs.view_is) ∙ none_answered c.outs.inside.answer c.is_none.result c.is_none.ensures c.if-is_none.true in
-    let carried = c.in_ok-outs.ensures.step layout c.requires.of.is_operation in
-    record {
-      group = refl;
-      step = λ node call reply is makes free.
-          goes_so layout c.args.at before node makes free (decided_by d call reply) after c.on_reply.new.stamps.known outs refl refl (carried_so d call reply is) none;
-      left = record {
-        group = refl;
-        seq = subst (λ (answers : List Answered). KeepsCall answers before.read after.read) none carried.keeps;
-        of = λ of. record {
-          job_is = subst (λ (g : Group). IsJobOf layout before.job before.view g) (sym c.in_ok-outs.ensures.group) of.job_is;
-          is_operation = carried.block ∙ of.is_operation;
-        };
-      };
-    }
+    let none = none_so (goal.at.returns-then-is_none-clause-turn c).After-is_none c.if-is_none.true in
+    let carried = c.in_ok-outs.ensures.step c.args.layout.now c.requires.of.is_operation in
+    let same = same_read c.args.layout.now c.args.self.now (after d) c.in_ok-outs.outs.answers refl refl c.in_ok-outs.ensures.group carried.block
+    carried.keeps none in
+    record { group = refl; step = goes_step d none; left = same }
 
 pub end-next-requires-clause-one : goal.end-next-requires-clause-one
 end-next-requires-clause-one c =
-    let k = coordinator_of c.args.self.now.read in
-    let once = told_once k (decided_on c.fresh_stamp-fresh.result (shown_of c.args.self.now.read) c.args.from c.args.message.now) k.call.seq in
+    let read = coordinator_of c.args.self.now.read in
+    let once = told_once read (decides (goal.at.end-next-requires-clause-one c).In_ok-outs) read.call.seq in
     let same = ap length (c.in_ok-outs.ensures.step c.args.layout.now c.requires.of.is_operation).told in
     omega (arith, once, same)
 
@@ -144,11 +148,11 @@ returns-clause-turn c =
 
 pub unreachable-requires : goal.unreachable-requires
 unreachable-requires c =
-    let k = coordinator_of c.args.self.now.read in
-    let next = decided_on c.fresh_stamp-fresh.result (shown_of c.args.self.now.read) c.args.from c.args.message.now in
+    let read = coordinator_of c.args.self.now.read in
     let never = subst (λ (o : Option Prepared). MayFollow c.args.layout.now c.args.self.now c.args.at c.args.from c.args.message.now o) c.in_default.is
     c.in_ok-prepared.ensures in
     let some = one_so (goal.at.unreachable-requires c).After-is_none c.if-is_none.false in
     let both : [] ≡ some.0 ∷ [] =
-    sym ((c.in_ok-outs.ensures.step c.args.layout.now c.requires.of.is_operation).answers ∙ unanswered k next k.call.seq (never c.fresh_stamp-fresh.result)) ∙ some.1 in
+    sym ((c.in_ok-outs.ensures.step c.args.layout.now c.requires.of.is_operation).answers
+    ∙ unanswered read (decides (goal.at.unreachable-requires c).In_ok-outs) read.call.seq (never c.fresh_stamp-fresh.result)) ∙ some.1 in
     cc

@@ -4,7 +4,7 @@ use Rattle.protocol.specs.Nodes.{heard}
 use Rattle.stripe_code.specs.Codes.{coding}
 use Rattle.protocol.specs.Nodes.{Node, NodeStep, replied_at, with_round}
 use Rattle.node.specs.States.{StepsAs, parts_in}
-use Rattle.node.specs.Running.{Running, running, state_of, ImageShows}
+use Rattle.node.specs.Running.{IsBrickOf, ImageShows, Running, running, state_of}
 use Rattle.node.proofs.Hearing.{heard_untaught}
 use Rattle.node.proofs.KeptBricks.{stays_brick}
 use Rattle.node.proofs.Views.{still_shows}
@@ -24,15 +24,15 @@ shown_still g c =
     → ImageShows n.layout n.me (state_of (running x.layout c.on_reply.new.self x.store)) image)
     c.self.view_is (still_shows x.layout x.tasks c.on_reply.new.self x.store x.tasks.work.calls.me)
 
+-- it is a brick of its layout still
+brick_so : (g : Over) (c : After-on_reply g) → IsBrickOf c.self.inside.layout c.self.inside.store.shape c.self.inside.store.state c.on_reply.new.self
+brick_so g c = stays_brick _ _ c.on_reply.new.self c.self.inside.store c.self.inside.store c.self.invariant c.on_reply.ensures.same refl refl
+
 pub invariant_of-self : goal.invariant_of-self
-invariant_of-self g c =
-    let x = c.self.inside in
-    stays_brick x.layout x.tasks c.on_reply.new.self x.store x.store c.self.invariant c.on_reply.ensures.same refl refl
+invariant_of-self g c = brick_so g (goal.at.invariant_of-self g c).After-on_reply
 
 pub invariant_of-self-2 : goal.invariant_of-self-2
-invariant_of-self-2 g c =
-    let now = c.self.inside in
-    stays_brick now.layout now.tasks c.on_reply.new.self now.store now.store c.self.invariant c.on_reply.ensures.same refl refl
+invariant_of-self-2 g c = brick_so g (goal.at.invariant_of-self-2 g c).After-on_reply
 
 pub returns-in_err-on_reply-clause-err : goal.returns-in_err-on_reply-clause-err
 returns-in_err-on_reply-clause-err g c =

@@ -8,7 +8,6 @@ use Rattle.stripe_code.specs.Codes.{coding}
 use Rattle.node.proofs.nodes.Node.on_message.Goals as goal
 
 pub returns-then-is_halted : goal.returns-then-is_halted
-unfolding received requested absorbed
 returns-then-is_halted g c =
     let old = c.args.self.now in
     let change =

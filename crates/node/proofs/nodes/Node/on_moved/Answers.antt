@@ -2,17 +2,12 @@
 use Rattle.std.proofs.Common.{◌≡◌, Option, None, false, true, Result, Err, refl, sym, ◌∙◌, ap, subst}
 use Rattle.std.proofs.lemmas.Bool.{true≢false}
 use Rattle.fab_base.specs.declared.identities.BrickId.{BrickId}
-use Rattle.fab_disk.specs.Changing.{Whole, Stands}
-use Rattle.fab_disk.specs.Disk.{IsUntouched}
-use Rattle.frame_store.specs.declared.shapes.Shape.{Shape}
 use Rattle.messages.specs.declared.packets.Message.{Message}
 use Rattle.messages.specs.declared.packets.Message.TheVariants as message
 use Rattle.stripe_code.specs.Codes.{coding}
 use Rattle.protocol.specs.Nodes.{Node, heard, replied_at}
 use Rattle.replica.specs.declared.faults.ReplicaFault.{ReplicaFault}
 use Rattle.replica.specs.declared.faults.ReplicaFault.TheVariants as replica
-use Rattle.replica.specs.Handling.{KeepsAll}
-use Rattle.replica.specs.Calls.{message_calls}
 use Rattle.replica.specs.Reactions.{IsStep}
 use Rattle.node.specs.declared.faults.NodeFault.{NodeFault}
 use Rattle.node.specs.declared.outs.Outs.{Outs}
@@ -20,13 +15,12 @@ use Rattle.node.specs.declared.faults.NodeFault.TheVariants.{Halted}
 use Rattle.node.specs.Faults.{halted_after}
 use Rattle.node.specs.Tasks.{AreSameTasks, counts_at}
 use Rattle.node.specs.States.{StepsAs, parts_in}
-use Rattle.node.specs.Running.{Running, running, state_of, shape_at, ImageShows}
+use Rattle.node.specs.Running.{Running, running, state_of}
 use Rattle.node.specs.Teaching.{is_taught}
 use Rattle.node.proofs.CountsHere.{taught_counts}
+use Rattle.node.proofs.Handled.{handled_change, handled_step, handled_still, refused_change}
 use Rattle.node.proofs.KeptBricks.{follows_brick, halted_fault, halts_as, stays_brick}
 use Rattle.node.proofs.Learning.{learns_so}
-use Rattle.node.proofs.Requests.{is_me, follows_still}
-use Rattle.node.proofs.Shown.{shown_so, change_so, refused_step}
 use Rattle.node.proofs.States.{on_err}
 use Rattle.node.proofs.Steps.{steps_so, stays_so}
 use Rattle.node.proofs.Views.{same_kept}
@@ -70,11 +64,10 @@ taken_same g c =
 
 pub invariant_of-self-in-Ok : goal.invariant_of-self-in-Ok
 invariant_of-self-in-Ok g c =
-    let x = c.self.inside in
-    let from = c.args.packet.now.from in
-    let handles = (c.in-Ok.ensures from).handles in
-    follows_brick x.layout x.tasks c.finish.new.self x.store c.learn.new.store c.self.invariant
-    (done_same g (goal.at.invariant_of-self-in-Ok g c).After-finish) handles.shape from (message.Learn c.args.call.group c.args.view) None handles.ok
+    let handles = (c.in-Ok.ensures c.args.self.now.me).handles in
+    follows_brick _ _ c.finish.new.self c.self.inside.store c.learn.new.store c.self.invariant
+    (done_same g (goal.at.invariant_of-self-in-Ok g c).After-finish) handles.shape c.args.self.now.me (message.Learn c.args.call.group c.args.view) None
+    handles.ok
 
 pub returns-in-Ok-clause-step : goal.returns-in-Ok-clause-step
 returns-in-Ok-clause-step g c =
@@ -87,10 +80,10 @@ returns-in-Ok-clause-step g c =
     let reply = c.args.reply.now in
     let view = c.args.view in
     let me = x.tasks.work.calls.me in
+    let teach = message.Learn call.group view in
     let same = done_same g (goal.at.returns-in-Ok-clause-step g c).After-finish in
-    let here = subst (λ (brick : BrickId). IsStep x.layout brick me (message.Learn call.group view) x.store.state None new.state)
-    (is_me x.layout x.tasks x.store from (message.Learn call.group view) c.self.invariant.shape_is) (c.in-Ok.ensures me).handles.ok in
-    let follows = subst (λ (brick : BrickId). IsStep x.layout brick brick (message.Learn call.group view) x.store.state None new.state) (sym same.me) here in
+    let follows = subst (λ (brick : BrickId). IsStep x.layout brick brick teach x.store.state None new.state) (sym same.me)
+    (handled_step g.D.Disk x.layout x.tasks me teach x.store new _ c.self.view_is c.self.invariant None (c.in-Ok.ensures me).handles) in
     let taught = subst (λ (n : Running g.row.D.Denot). is_taught n.layout (state_of n) from call reply ≡ true) (sym c.self.view_is) c.requires.taught in
     let steps = steps_so x.layout x.tasks tasks x.store c.self.invariant.boot
     (λ (s : Node). replied_at (coding x.layout) me now from s call reply (s.calls call.seq)) c.finish.result same.boot
@@ -102,42 +95,16 @@ returns-in-Ok-clause-step g c =
 
 pub returns-in-Ok-clause-still : goal.returns-in-Ok-clause-still
 returns-in-Ok-clause-still g c =
-    let d = g.D.Disk in
-    let x = c.self.inside in
-    let store = c.learn.new.store in
-    let me = c.args.self.now.me in
-    let teach = message.Learn c.args.call.group c.args.view in
-    let shape = c.self.invariant.shape_is in
-    let handles = (c.in-Ok.ensures me).handles in
-    let is = subst (λ (brick : BrickId). IsStep x.layout brick me teach x.store.state None store.state) (is_me x.layout x.tasks x.store me teach shape) handles.ok in
-    subst (λ (n : Running g.row.D.Denot). message_calls n.layout n.me me (shape_at n.layout n.me) n.brick.listed (state_of n) teach ≡ 0
-    → (store.state ≡ n.brick.state) × IsUntouched d.seen d.may_leave d.moment d.left_since n.brick.disk store.disk) c.self.view_is
-    (λ none. handles.still x.layout
-    (subst (λ (s : Shape). KeepsAll x.layout s.block x.store.state store.state) (sym shape)
-    (follows_still x.layout x.tasks x.store me teach store None is
-    (subst (λ (s : Shape). message_calls x.layout x.tasks.work.calls.me me s x.store.listed (state_of (running x.layout x.tasks x.store)) teach ≡ 0)
-    (sym shape) none))))
+    handled_still g.D.Disk _ _ c.args.self.now.me (message.Learn c.args.call.group c.args.view) c.self.inside.store c.learn.new.store _ c.self.view_is
+    c.self.invariant None (c.in-Ok.ensures c.args.self.now.me).handles
 
 pub returns-in-Ok-clause-change : goal.returns-in-Ok-clause-change
 returns-in-Ok-clause-change g c =
-    let d = g.D.Disk in
-    let x = c.self.inside in
-    let node = c.args.self.now in
-    let tasks = c.finish.new.self in
-    let store = c.learn.new.store in
-    let learnt = c.in-Ok.ensures node.me in
     let e = goal.at.returns-in-Ok-clause-change g c in
-    let made = change_so d x.layout x.tasks node.me (message.Learn c.args.call.group c.args.view) x.store store node Whole c.self.view_is c.self.invariant
-    (λ told. learnt.handles.stood told (runs_so g e.After-learn)) learnt.change in
-    record {
-      stood = c.requires.stands;
-      change = made.change;
-      listed = made.listed;
-      stands = λ whole told.
-          subst (λ (n : Running g.row.D.Denot). Stands d (ImageShows n.layout n.me (state_of (running x.layout tasks store))) store.disk) c.self.view_is
-          (subst (λ (me : BrickId). Stands d (ImageShows x.layout me (state_of (running x.layout tasks store))) store.disk) (done_same g e.After-finish).me
-          (shown_so d x.layout tasks store store.disk (invariant_of-self-in-Ok g c) (learnt.handles.stands told)));
-    }
+    let learnt = c.in-Ok.ensures c.args.self.now.me in
+    handled_change g.D.Disk _ _ c.args.self.now.me (message.Learn c.args.call.group c.args.view) c.self.inside.store c.learn.new.store _ c.self.view_is
+    c.self.invariant None c.finish.new.self learnt.handles learnt.change c.requires.stands (runs_so g e.After-learn) (done_same g e.After-finish).me
+    (invariant_of-self-in-Ok g c)
 
 pub returns-in-Ok-clause-halts : goal.returns-in-Ok-clause-halts
 returns-in-Ok-clause-halts g c = (c.in-Ok.ensures c.args.packet.now.from).handles.halts ∙ runs_so g (goal.at.returns-in-Ok-clause-halts g c).After-learn
@@ -169,13 +136,11 @@ returns-in-Err-clause-same g c =
 
 pub returns-in-Err-clause-change : goal.returns-in-Err-clause-change
 returns-in-Err-clause-change g c =
-    let x = c.self.inside in
-    let was = c.args.self.now in
-    let refused = c.in-Err.ensures was.me in
-    refused_step g.D.Disk Outs (Option Message) c.in-Err.fault (Err c.from.result) _ _ was (running x.layout c.take_back.new.self c.learn.new.store)
-    (ap (λ (e : NodeFault). (let r : Result Outs NodeFault = Err e in r)) c.from.ensures) c.requires.stands
-    (change_so g.D.Disk x.layout x.tasks was.me (message.Learn c.args.call.group c.args.view) x.store c.learn.new.store was _ c.self.view_is c.self.invariant
-    (λ told. refused.handles.stood told (runs_so g (goal.at.returns-in-Err-clause-change g c).After-learn)) refused.change)
+    let learnt = c.in-Err.ensures c.args.self.now.me in
+    refused_change g.D.Disk _ _ c.args.self.now.me (message.Learn c.args.call.group c.args.view) c.self.inside.store c.learn.new.store _ c.self.view_is
+    c.self.invariant Outs c.in-Err.fault (Err c.from.result) c.take_back.new.self learnt.handles learnt.change c.requires.stands
+    (runs_so g (goal.at.returns-in-Err-clause-change g c).After-learn)
+    (ap (λ (e : NodeFault). (let r : Result Outs NodeFault = Err e in r)) c.from.ensures)
 
 pub returns-in-Err-clause-not_halted : goal.returns-in-Err-clause-not_halted
 returns-in-Err-clause-not_halted g c = λ is.

@@ -1,31 +1,43 @@
 -- A reply is counted or left out; and the view that it teaches is learnt.
-use Rattle.std.proofs.Common.{◌≡◌, Option, None, Ok, refl, sym, ◌∙◌, ap, subst}
+use Rattle.std.proofs.Common.{◌≡◌, Option, None, Result, Ok, refl, sym, ◌∙◌, ap, subst}
 use Rattle.std.specs.Result.{OnOk, IfOk}
 use Rattle.fab_disk.specs.Disk.{IsUntouched}
 use Rattle.brick_store.specs.Bricks.{Brick}
 use Rattle.brick_store.specs.Calls.{Append, calls_for}
 use Rattle.messages.specs.declared.packets.Message.TheVariants as message
 use Rattle.replica.specs.Calls.{learnt_append, message_append}
-use Rattle.protocol.specs.Nodes.{Node, NodeStep, node_learnt}
+use Rattle.stripe_code.specs.Codes.{coding}
+use Rattle.protocol.specs.Nodes.{Node, NodeStep, heard, node_learnt, received}
 use Rattle.coord_phase.specs.Messages.{packets_from}
+use Rattle.node.specs.declared.faults.NodeFault.{NodeFault}
+use Rattle.node.specs.declared.outs.Outs.{Outs}
 use Rattle.node.specs.Ends.{end_of}
 use Rattle.node.specs.Outcomes.{Outcome}
-use Rattle.node.specs.Running.{state_of, shape_at}
+use Rattle.node.specs.Running.{Running, state_of, shape_at}
 use Rattle.node.specs.States.{StepsAs}
 use Rattle.node.proofs.Hearing.{heard_left, absorbed_untaught, absorbed_left, absorbed_taught, learnt_none}
 use Rattle.node.proofs.Learning.{received_reply, append_reply, change_replied}
 use Rattle.node.proofs.Moments.{untouched_same}
 use Rattle.node.proofs.Shown.{step_still}
 use Rattle.node.proofs.States.{on_ok}
+use Rattle.node.proofs.nodes.Node.on_reply.Given.{Over}
 use Rattle.node.proofs.nodes.Node.on_reply.Goals as goal
+use Rattle.node.proofs.nodes.Node.on_reply.Goals.{After-view_told}
+
+-- a step on the reply that is heard is one on the packet
+received_so : (g : Over) (c : After-view_told g) (result : Result Outs NodeFault) (after : Running g.row.D.Denot) → (let old = c.args.self.now in
+    IfOk result (StepsAs old.me (state_of after) (heard (coding old.layout) old.me c.args.now c.args.packet.now.from (state_of old) c.args.call
+    c.args.reply.now)) → IfOk result (StepsAs old.me (state_of after) (received (coding old.layout) old.me c.args.now (state_of old) c.args.packet.now)))
+received_so g c result after =
+    let old = c.args.self.now in
+    subst (λ (step : NodeStep). IfOk result (StepsAs old.me (state_of after) step))
+    (sym (received_reply old.layout old.me c.args.now (state_of old) c.args.packet.now c.args.call c.args.reply.now c.requires.reply))
 
 -- ---- a reply that teaches no view
 
 pub returns-in_default-clause-step : goal.returns-in_default-clause-step
 returns-in_default-clause-step g c =
-    let old = c.args.self.now in
-    subst (λ (step : NodeStep). IfOk c.count.result (StepsAs old.me (state_of c.count.new.self) step))
-    (sym (received_reply old.layout old.me c.args.now (state_of old) c.args.packet.now c.args.call c.args.reply.now c.requires.reply)) c.count.ensures.step
+    received_so g (goal.at.returns-in_default-clause-step g c).After-view_told c.count.result c.count.new.self c.count.ensures.step
 
 pub returns-in_default-clause-still : goal.returns-in_default-clause-still
 returns-in_default-clause-still g c = λ none.
@@ -85,11 +97,7 @@ pub on_moved-requires-clause-taught : goal.on_moved-requires-clause-taught
 on_moved-requires-clause-taught g c = sym (c.if-not-is_taught_by.ensures c.args.reply.now c.requires.reply (sym c.in-Some.ensures))
 
 pub returns-clause-step : goal.returns-clause-step
-returns-clause-step g c =
-    let was = c.args.self.now in
-    subst (λ (step : NodeStep). IfOk c.on_moved.result (StepsAs was.me (state_of c.on_moved.new.self) step))
-    (sym (received_reply was.layout was.me c.args.now (state_of was) c.args.packet.now c.args.call c.args.reply.now c.requires.reply))
-    c.on_moved.ensures.step
+returns-clause-step g c = received_so g (goal.at.returns-clause-step g c).After-view_told c.on_moved.result c.on_moved.new.self c.on_moved.ensures.step
 
 pub returns-clause-still : goal.returns-clause-still
 returns-clause-still g c = λ none.

@@ -1,8 +1,8 @@
 -- The new operation is the machine's, and its number was free.
-use Rattle.std.proofs.Common.{◌≡◌, ◌+◌, Some, length, refl, sym, ◌∙◌, ap, subst, rules}
+use Rattle.std.proofs.Common.{◌≡◌, ◌+◌, Some, length, refl, sym, ◌∙◌, ap, rules}
 use Rattle.std.specs.Option.{option_map}
 use Rattle.std.specs.Ordering.{nat_cmp}
-use Rattle.std.specs.BTreeMap.{get, btree_map_len}
+use Rattle.std.specs.BTreeMap.{get}
 use Rattle.fab_base.specs.declared.identities.CallId.{CallId}
 use Rattle.fab_base.specs.declared.stamps.Stamp.{Stamp}
 use Rattle.protocol.specs.Coordinators.{Coordinator}
@@ -12,23 +12,18 @@ use Rattle.coord_phase.specs.Operations as phased
 use Rattle.coord_phase.specs.Operations.{group_in_view, first_op}
 use Rattle.node.specs.declared.operations.Operation.{Operation}
 use Rattle.node.specs.Operations.{coordinator_of}
-use Rattle.node.specs.States.{OtherParts, state_with, IsAt}
+use Rattle.node.specs.States.{state_with, IsAt}
 use Rattle.node.proofs.States.{same_states, on_err}
-use Rattle.node.proofs.Tables.{shown_after, same_calls, each_after, each_same}
+use Rattle.node.proofs.OpenTables.{same_put, same_seen}
+use Rattle.node.proofs.Tables.{shown_after, same_calls, each_same}
 use Rattle.node.proofs.Sent.{made_is}
 use Rattle.node.proofs.open_calls.OpenCalls.begin.Goals as goal
 
 pub returns-in_err-keep_open-in-Ok-clause-err : goal.returns-in_err-keep_open-in-Ok-clause-err
-unfolding state_with
 returns-in_err-keep_open-in-Ok-clause-err c =
-    let now = c.keep_open.new.values in
     let entries = c.in_err-keep_open-in-Ok.ensures.err in
-    let same : (parts : OtherParts) → record (state_with parts c.args.self.now) {
-      busy = btree_map_len now;
-      calls = λ k. option_map coordinator_of (get nat_cmp now k);
-    } ≡ state_with parts c.args.self.now =
-    λ parts. same_states _ _ refl refl refl refl (ap length entries) refl (λ g e. refl) (λ g. refl) (λ g. refl) (λ g e s. refl) (λ k. ap (option_map coordinator_of) (same_calls c.args.self.now.operations now entries k)) refl refl refl in
-    on_err _ same
+    on_err _ (same_seen c.args.self.now _ refl refl (ap length entries)
+    (λ k. ap (option_map coordinator_of) (same_calls c.args.self.now.operations c.keep_open.new.values entries k)))
 
 pub returns-in_err-keep_open-in-Ok-clause-same : goal.returns-in_err-keep_open-in-Ok-clause-same
 returns-in_err-keep_open-in-Ok-clause-same c = record {
@@ -67,22 +62,13 @@ returns-in_ok-keep_open-in-Ok-clause-begun c = λ parts.
 
 pub returns-in_ok-keep_open-in-Ok-clause-same : goal.returns-in_ok-keep_open-in-Ok-clause-same
 returns-in_ok-keep_open-in-Ok-clause-same c =
-    let layout = c.args.layout.now in
-    let begun : Operation = c.in-Ok.operation in
-    let last = c.args.self.now.seq + 1 in
-    let at : IsAt layout last begun =
-    record {
-      seq = ap (λ (op : phased.Operation). op.state.call.seq) c.in-Ok.ensures.operation;
-      is_operation = ap (λ (op : phased.Operation). op.block) c.in-Ok.ensures.operation;
-    } in
-    record {
-      me = refl;
-      boot = refl;
-      of = λ of.
-          each_after (λ k (op : Operation). IsAt layout k op) c.args.self.now.operations c.keep_open.new.values last
-          (Some begun) c.in_ok-keep_open-in-Ok.ensures.opened.calls of
-          (λ op is. let same : begun ≡ op = cc in subst (λ (o : Operation). IsAt layout last o) same at);
-    }
+    let operation = c.in-Ok.ensures.operation in
+    same_put c.args.self.now _ (c.args.self.now.seq + 1) (Some c.in-Ok.operation) c.in_ok-keep_open-in-Ok.ensures.opened.calls c.args.layout.now
+    c.in-Ok.operation refl refl refl
+    (λ of. record {
+      seq = ap (λ (op : phased.Operation). op.state.call.seq) operation;
+      is_operation = ap (λ (op : phased.Operation). op.block) operation;
+    })
 
 pub returns-in-Err : goal.returns-in-Err
 returns-in-Err c = search rules

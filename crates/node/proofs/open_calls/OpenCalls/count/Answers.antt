@@ -1,17 +1,9 @@
 -- The operation has counted the message, or is as it was.
-use Rattle.std.proofs.Common.{◌≡◌, ℕ, nat_eq, Option, Some, Result, Ok, Err, refl, sym, ◌∙◌, ap, subst, rules}
-use Rattle.std.specs.Option.{option_map}
-use Rattle.std.specs.Ordering.{nat_cmp}
-use Rattle.std.specs.BTreeMap.{get}
+use Rattle.std.proofs.Common.{Option, Some, Result, Ok, Err, refl, sym, subst, rules}
 use Rattle.std.specs.Result.{OnOk, OnErr}
-use Rattle.protocol.specs.Coordinators.{Coordinator}
 use Rattle.node.specs.declared.operations.Operation.{Operation}
 use Rattle.node.specs.Moves.{WaitsOn}
-use Rattle.node.specs.Operations.{coordinator_of}
-use Rattle.node.specs.States.{state_with}
-use Rattle.node.proofs.Replied.{put_held}
-use Rattle.node.proofs.States.{same_states}
-use Rattle.node.proofs.Tables.{shown_after}
+use Rattle.node.proofs.OpenTables.{same_but_one}
 use Rattle.node.proofs.open_calls.OpenCalls.count.Goals as goal
 
 -- what holds where a call is made holds with what it ensures there
@@ -46,18 +38,9 @@ returns-clause-counted c =
     c.count.ensures.counted
 
 pub returns-clause-err : goal.returns-clause-err
-unfolding state_with
 returns-clause-err c =
-    let m = c.args.self.now.operations in
-    let after : Operation = c.count.new.self in
-    let now = c.get_mut.follows.lender after in
-    let written = c.get_mut.follows.holds after in
-    let f = λ (q : ℕ). option_map coordinator_of (get nat_cmp m q) in
+    let put = c.get_mut.follows.holds c.count.new.self in
     on_refused c.count.result
-    (λ same parts.
-    let held : f c.args.seq ≡ Some (coordinator_of after) =
-    ap (option_map coordinator_of) (sym c.in-Some.ensures.value) ∙ ap (λ (k : Coordinator). Some k) (sym same) in
-    same_states _ _ refl refl refl refl written.2 refl (λ g e. refl) (λ g. refl) (λ g. refl) (λ g e s. refl)
-    (λ k. shown_after coordinator_of m now c.args.seq (Some after) (written.3 (search rules)).0 k
-    ∙ sym (put_held f c.args.seq (Some (coordinator_of after)) k (nat_eq k c.args.seq) held refl)) refl refl refl)
+    (λ same. same_but_one c.args.self.now _ c.args.seq (Some c.count.new.self) (put.3 (search rules)).0 c.in-Some.open.now c.count.new.self
+    refl (sym c.in-Some.ensures.value) same refl refl put.2)
     c.count.ensures.same

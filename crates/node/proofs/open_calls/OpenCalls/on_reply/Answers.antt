@@ -1,5 +1,5 @@
 -- Which of the machine's cases a reply is.
-use Rattle.std.proofs.Common.{◌≡◌, ℕ, cond, nat_eq, List, Option, Some, refl, sym, ◌∙◌, ap, subst, rules}
+use Rattle.std.proofs.Common.{◌≡◌, ℕ, cond, List, Option, Some, refl, sym, ◌∙◌, ap, subst, rules}
 use Rattle.std.specs.Option.{option_map}
 use Rattle.std.specs.Ordering.{nat_cmp}
 use Rattle.std.specs.BTreeMap.{get, is_at, btree_map_len}
@@ -16,49 +16,28 @@ use Rattle.node.specs.declared.operations.Operation.{Operation}
 use Rattle.node.specs.Operations.{shown_of, coordinator_of}
 use Rattle.node.specs.Outcomes.{Outcome}
 use Rattle.node.specs.Decisions.{or_waits, known_by, left_by, left_open, CarriesOut}
-use Rattle.node.specs.States.{OtherParts, state_with, IsAt}
+use Rattle.node.specs.States.{state_with, IsAt}
 use Rattle.node.proofs.States.{steps_as, same_states, on_err}
-use Rattle.node.proofs.Tables.{shown_after, each_after}
-use Rattle.node.proofs.Replied.{put_held, replied_is, busy_after, does_node, does_send, does_tell, does_answer, does_report, calls_left, at_if_open}
+use Rattle.node.proofs.OpenTables.{same_but_one, same_left, same_put}
+use Rattle.node.proofs.Tables.{shown_after}
+use Rattle.node.proofs.Replied.{replied_is, busy_after, does_node, does_send, does_tell, does_answer, does_report, calls_left, at_if_open}
 use Rattle.node.proofs.open_calls.OpenCalls.on_reply.Goals as goal
 use Rattle.node.proofs.open_calls.OpenCalls.on_reply.Goals.{After-close_answered}
 
 pub returns-in_err-outs-clause-err : goal.returns-in_err-outs-clause-err
-unfolding state_with
 returns-in_err-outs-clause-err c =
-    let after = c.on_reply.new.self in
-    let written = c.get_mut.follows.holds after in
-    let f = λ (q : ℕ). option_map coordinator_of (get nat_cmp c.args.self.now.operations q) in
-    let held : f c.args.call.seq ≡ Some (coordinator_of after) =
-    ap (option_map coordinator_of) (sym c.in-Some.ensures.value) ∙ ap (λ (k : Coordinator). Some k) (sym c.in_err-outs.ensures.same) in
-    let now = c.get_mut.follows.lender after in
-    let same : (parts : OtherParts) → record (state_with parts c.args.self.now) {
-      busy = btree_map_len now;
-      calls = λ k. option_map coordinator_of (get nat_cmp now k);
-    } ≡ state_with parts c.args.self.now =
-    λ parts. same_states _ _ refl refl refl refl written.2 refl (λ g e. refl) (λ g. refl) (λ g. refl) (λ g e s. refl)
-    (λ k. shown_after coordinator_of c.args.self.now.operations now c.args.call.seq (Some after) (written.3 (search rules)).0 k
-    ∙ sym (put_held f c.args.call.seq (Some (coordinator_of after)) k (nat_eq k c.args.call.seq) held refl)) refl refl refl in
-    on_err _ same
+    let written = c.get_mut.follows.holds c.on_reply.new.self in
+    on_err _ (same_but_one c.args.self.now _ c.args.call.seq (Some c.on_reply.new.self) (written.3 (search rules)).0 c.in-Some.open.now c.on_reply.new.self
+    refl (sym c.in-Some.ensures.value) c.in_err-outs.ensures.same refl refl written.2)
 
 pub returns-in_err-outs-clause-same : goal.returns-in_err-outs-clause-same
-returns-in_err-outs-clause-same c = λ layout. record {
-  me = refl;
-  boot = refl;
-  of = λ of.
-      let seq = c.args.call.seq in
-      let after = c.on_reply.new.self in
-      let written = c.get_mut.follows.holds after in
-      let was = of seq c.in-Some.open.now (sym c.in-Some.ensures.value) in
-      let at : IsAt layout seq after =
-      record {
-        seq = ap (λ (k : Coordinator). k.call.seq) c.in_err-outs.ensures.same ∙ was.seq;
-        is_operation = c.in_err-outs.ensures.block ∙ was.is_operation;
-      } in
-      each_after (λ k (operation : Operation). IsAt layout k operation) c.args.self.now.operations (c.get_mut.follows.lender after) seq (Some after)
-      (written.3 (search rules)).0 of
-      (λ operation is. let same : after ≡ operation = cc in subst (λ (o : Operation). IsAt layout seq o) same at);
-}
+returns-in_err-outs-clause-same c = λ layout.
+    same_put c.args.self.now _ c.args.call.seq (Some c.on_reply.new.self) ((c.get_mut.follows.holds c.on_reply.new.self).3 (search rules)).0 layout
+    c.on_reply.new.self refl refl refl
+    (λ of. let was = of c.args.call.seq c.in-Some.open.now (sym c.in-Some.ensures.value) in record {
+      seq = ap (λ (k : Coordinator). k.call.seq) c.in_err-outs.ensures.same ∙ was.seq;
+      is_operation = c.in_err-outs.ensures.block ∙ was.is_operation;
+    })
 
 -- the operations that are open then
 left_so : (c : After-close_answered)
@@ -126,18 +105,11 @@ returns c =
           });
       few = c.in_ok-outs.ensures.few;
       err = tt;
-      same = λ layout. record {
-        me = refl;
-        boot = c.on_reply.ensures.boot ∙ c.after_reply-stamps.ensures.boot;
-        of = λ of.
-            let seq = c.args.call.seq in
-            let was : Operation = c.in-Some.open.now in
-            let now : Operation = c.on_reply.new.self in
-            let answers = c.in_ok-outs.outs.answers in
-            let at : IsAt layout seq was = of seq was (sym c.in-Some.ensures.value) in
-            let carried = c.in_ok-outs.ensures.step layout at.is_operation in
-            each_after (λ k (operation : Operation). IsAt layout k operation) c.args.self.now.operations c.close_answered.new.values seq (left_open answers now)
-            (left_so (goal.at.returns c).After-close_answered).0 of
-            (λ operation is. at_if_open layout seq was now operation answers at carried.keeps carried.block is);
-      };
+      same = λ layout.
+          same_left c.args.self.now _ c.args.call.seq (left_open c.in_ok-outs.outs.answers c.on_reply.new.self)
+          (left_so (goal.at.returns c).After-close_answered).0 layout refl (c.on_reply.ensures.boot ∙ c.after_reply-stamps.ensures.boot)
+          (λ of operation is.
+          let was = of c.args.call.seq c.in-Some.open.now (sym c.in-Some.ensures.value) in
+          let carried = c.in_ok-outs.ensures.step layout was.is_operation in
+          at_if_open layout c.args.call.seq c.in-Some.open.now c.on_reply.new.self operation c.in_ok-outs.outs.answers was carried.keeps carried.block is);
     }

@@ -13,11 +13,12 @@ use Rattle.node.specs.declared.open_work.OpenWork.{OpenWork}
 use Rattle.node.specs.declared.operations.Operation.{Operation}
 use Rattle.node.specs.Moves.{EndsIfOpen, HasCounted, WaitsOn, counts_with, ended_step, step_on}
 use Rattle.node.specs.Proposals.{GoesAs}
-use Rattle.node.specs.States.{KeptParts, state_in, state_with}
+use Rattle.node.specs.States.{IsAt, IsSameWork, KeptParts, state_in, state_with}
 use Rattle.node.proofs.Hearing.{none_of}
 use Rattle.node.proofs.Turns.{there, goes_is, ends_step, waits_decided, waits_step}
+use Rattle.node.proofs.Underway.{same_work}
 use Rattle.node.proofs.open_work.OpenWork.hear_moved.Goals as goal
-use Rattle.node.proofs.open_work.OpenWork.hear_moved.Goals.{After-ended_by}
+use Rattle.node.proofs.open_work.OpenWork.hear_moved.Goals.{After-count, After-ended_by}
 
 pub returns-then-not-is_open-clause-turn : goal.returns-then-not-is_open-clause-turn
 unfolding state_with
@@ -54,58 +55,59 @@ waits_so : (c : After-ended_by) → EndsIfOpen (get nat_cmp c.args.self.now.call
     → EndsOrWaits (coordinator_of (held_op c).0) c.args.packet.now.from c.args.view None
 waits_so c = subst (λ (o : Option Operation). EndsIfOpen o c.args.packet.now.from c.args.view None) (held_op c).1
 
+-- it is of the layout
+at_held : (c : After-ended_by) → IsAt c.args.layout.now c.args.call.seq (held_op c).0
+at_held c = c.requires.of.calls c.args.call.seq (held_op c).0 (held_op c).1
+
+-- the machine's step is that on the reply which tells the view
+step_so : (c : After-ended_by) (done : KeptParts → NodeStep)
+    → ((now : ℕ) (kept : KeptParts) → step_on c.args.layout.now now c.args.packet.now.from c.args.call (Moved c.args.view (Some c.requires.moved.0))
+    c.args.self.now kept ≡ done kept)
+    → (now : ℕ) (kept : KeptParts) → step_on c.args.layout.now now c.args.packet.now.from c.args.call c.args.reply.now c.args.self.now kept ≡ done kept
+step_so c done =
+    subst (λ (r : Reply). (now : ℕ) (kept : KeptParts) → step_on c.args.layout.now now c.args.packet.now.from c.args.call r c.args.self.now kept ≡ done kept)
+    (sym c.requires.moved.1)
+
 pub returns-in-Some-clause-turn : goal.returns-in-Some-clause-turn
 returns-in-Some-clause-turn c =
     let d = (goal.at.returns-in-Some-clause-turn c).After-ended_by in
-    let work = c.args.self.now in
-    let from = c.args.packet.now.from in
-    let call = c.args.call in
-    let op : Operation = (held_op d).0 in
-    let held = (held_op d).1 in
-    let ends = subst (λ (o : Option Operation). EndsIfOpen o from c.args.view (Some c.in-Some.answer)) held c.in-Some.ensures in (
-      refl,
-      sym c.is_open.ensures ∙ c.if-not-is_open.false,
-      subst (λ (r : Reply). (now : ℕ) (kept : KeptParts) → step_on c.args.layout.now now from call r work kept ≡ ended_step (state_in kept work) call.seq c.in-Some.answer)
-          (sym c.requires.moved.1)
-          (ends_step c.args.layout.now work from call op held (c.requires.of.calls call.seq op held) c.args.view c.requires.moved.0 (counted_so d) c.in-Some.answer ends),
-    )
+    let op = held_op d in
+    let ends = subst (λ (o : Option Operation). EndsIfOpen o c.args.packet.now.from c.args.view (Some c.in-Some.answer)) op.1 c.in-Some.ensures in
+    let step = step_so d (λ kept. ended_step (state_in kept c.args.self.now) c.args.call.seq c.in-Some.answer)
+    (ends_step c.args.layout.now c.args.self.now c.args.packet.now.from c.args.call op.0 op.1 (at_held d) c.args.view c.requires.moved.0 (counted_so d)
+    c.in-Some.answer ends) in
+    (refl, sym c.is_open.ensures ∙ c.if-not-is_open.false, step)
 
 pub count-requires : goal.count-requires
 count-requires c =
     let d = (goal.at.count-requires c).After-ended_by in
     let held = held_op d in
+    let decided = waits_decided c.args.layout.now c.args.self.now c.args.packet.now.from c.args.call held.0 held.1 (at_held d) c.args.view c.requires.moved.0
+    (counted_so d) (waits_so d c.in_default.ensures) in
     record {
       waits = subst (λ (o : Option Operation). WaitsOn o c.args.packet.now.from c.args.packet.now.message) (sym held.1)
-          (subst (λ (m : Message). WaitsOn (Some held.0) c.args.packet.now.from m) (sym (said_is d)) (
-            counted_so d,
-            waits_decided c.args.layout.now c.args.self.now c.args.packet.now.from c.args.call held.0 held.1
-                (c.requires.of.calls c.args.call.seq held.0 held.1) c.args.view c.requires.moved.0 (counted_so d) (waits_so d c.in_default.ensures),
-          ));
+          (subst (λ (m : Message). WaitsOn (Some held.0) c.args.packet.now.from m) (sym (said_is d)) (counted_so d, decided));
     }
 
 pub returns-clause-turn : goal.returns-clause-turn
 returns-clause-turn c =
     let d = (goal.at.returns-clause-turn c).After-ended_by in
     let before = c.args.self.now in
-    let held = held_op d in
     let call = c.args.call in
     let after : OpenWork = record { calls = c.count.new.self; proposals = before.proposals } in
-    let has = subst (λ (m : Message). HasCounted call.seq c.args.packet.now.from m before.calls after.calls) c.requires.reply c.in_ok-count.ensures.counted in (
-      has,
-      refl,
-      subst (λ (r : Reply). (now : ℕ) (kept : KeptParts) → step_on c.args.layout.now now c.args.packet.now.from call r before kept ≡ no_step (state_in kept after))
-          (sym c.requires.moved.1)
-          (waits_step c.args.layout.now before c.args.packet.now.from call held.0 held.1 (c.requires.of.calls call.seq held.0 held.1) c.args.view
-          c.requires.moved.0 (counted_so d) (waits_so d c.in_default.ensures) after
-          (subst (λ (r : Reply). HasCounted call.seq c.args.packet.now.from (message.Reply call r) before.calls after.calls) c.requires.moved.1 has) refl),
-    )
+    let has = subst (λ (m : Message). HasCounted call.seq c.args.packet.now.from m before.calls after.calls) c.requires.reply c.in_ok-count.ensures.counted in
+    let step = step_so d (λ kept. no_step (state_in kept after))
+    (waits_step c.args.layout.now before c.args.packet.now.from call (held_op d).0 (held_op d).1 (at_held d) c.args.view c.requires.moved.0 (counted_so d)
+    (waits_so d c.in_default.ensures) after
+    (subst (λ (r : Reply). HasCounted call.seq c.args.packet.now.from (message.Reply call r) before.calls after.calls) c.requires.moved.1 has) refl) in
+    (has, refl, step)
+
+-- the work is of the same brick, whether it was counted or not
+same_so : (c : After-count) → IsSameWork c.args.layout.now c.args.self.now (record { calls = c.count.new.self; proposals = c.args.self.now.proposals })
+same_so c = same_work c.args.layout.now c.args.self.now c.count.new.self c.args.self.now.proposals (c.count.ensures.same c.args.layout.now) (λ on. on)
 
 pub returns-in_err-count-clause-same : goal.returns-in_err-count-clause-same
-returns-in_err-count-clause-same c =
-    let same = c.count.ensures.same c.args.layout.now in
-    record { me = same.me; boot = same.boot; of = λ of. record { calls = same.of of.calls; proposing = of.proposing } }
+returns-in_err-count-clause-same c = same_so (goal.at.returns-in_err-count-clause-same c).After-count
 
 pub returns-clause-same : goal.returns-clause-same
-returns-clause-same c =
-    let is = c.count.ensures.same c.args.layout.now in
-    record { me = is.me; boot = is.boot; of = λ of. record { calls = is.of of.calls; proposing = of.proposing } }
+returns-clause-same c = same_so (goal.at.returns-clause-same c).After-count

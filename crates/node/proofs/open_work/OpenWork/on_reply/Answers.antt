@@ -3,37 +3,27 @@ use Rattle.std.proofs.Common.{◌≡◌, ℕ, Option, refl, sym, ◌∙◌, ap, 
 use Rattle.std.specs.Option.{option_map}
 use Rattle.std.specs.Ordering.{nat_cmp}
 use Rattle.std.specs.BTreeMap.{get}
-use Rattle.fab_base.specs.Layouts.{Layout}
 use Rattle.stripe_code.specs.Codes.{coding}
 use Rattle.protocol.specs.Nodes.{Node, NodeStep, known_after, replied_at, with_known, with_round}
 use Rattle.protocol.specs.Proposals.{Proposal, round_after, round_heard}
 use Rattle.coord_phase.specs.Messages.{packets_from}
-use Rattle.node.specs.declared.open_calls.OpenCalls.{OpenCalls}
-use Rattle.node.specs.declared.open_work.OpenWork.{OpenWork}
 use Rattle.node.specs.declared.operations.Operation.{Operation}
 use Rattle.node.specs.declared.proposals.OpenProposal.{OpenProposal}
-use Rattle.node.specs.declared.proposals.Proposals.{Proposals}
 use Rattle.node.specs.Operations.{coordinator_of}
 use Rattle.node.specs.Outcomes.{Outcome}
 use Rattle.node.specs.Proposals.{IsUnderWayOn, proposal_in}
-use Rattle.node.specs.States.{AreSameCalls, IsSameWork, OtherParts, StepsAs, parts_with, state_in, state_with}
+use Rattle.node.specs.States.{OtherParts, StepsAs, parts_with, state_in, state_with}
 use Rattle.node.proofs.Hearing.{none_of}
+use Rattle.node.proofs.Underway.{same_work}
 use Rattle.node.proofs.open_work.OpenWork.on_reply.Goals as goal
-
--- the calls are of the same brick, and so is what they stand beside, if the proposal is under way on the bricks of the layout still
-same_so : (layout : Layout) (work : OpenWork) (calls : OpenCalls) (proposals : Proposals) → AreSameCalls layout work.calls calls
-    → (IsUnderWayOn layout.bricks work.proposals.under_way → IsUnderWayOn layout.bricks proposals.under_way)
-    → IsSameWork layout work (record { calls = calls; proposals = proposals })
-same_so layout work calls proposals same left =
-    record { me = same.me; boot = same.boot; of = λ of. record { calls = same.of of.calls; proposing = left of.proposing } }
 
 pub returns-in_err-outs-clause-same : goal.returns-in_err-outs-clause-same
 returns-in_err-outs-clause-same c =
-    same_so c.args.layout.now c.args.self.now c.on_reply.new.self c.args.self.now.proposals (c.on_reply.ensures.same c.args.layout.now) (λ left. left)
+    same_work c.args.layout.now c.args.self.now c.on_reply.new.self c.args.self.now.proposals (c.on_reply.ensures.same c.args.layout.now) (λ left. left)
 
 pub returns-then-is_open-clause-same : goal.returns-then-is_open-clause-same
 returns-then-is_open-clause-same c =
-    same_so c.args.layout.now c.args.self.now c.on_reply.new.self c.heard.new.self (c.on_reply.ensures.same c.args.layout.now)
+    same_work c.args.layout.now c.args.self.now c.on_reply.new.self c.heard.new.self (c.on_reply.ensures.same c.args.layout.now)
     (subst (λ (held : Option OpenProposal). IsUnderWayOn c.args.layout.now.bricks held) (sym c.heard.ensures.under_way))
 
 pub returns-then-is_open-clause-step : goal.returns-then-is_open-clause-step
@@ -79,5 +69,5 @@ returns-clause-step c = λ kept.
 
 pub returns-clause-same : goal.returns-clause-same
 returns-clause-same c =
-    same_so c.args.layout.now c.args.self.now c.heard-2.new.self c.go_on.new.self (c.heard-2.ensures.same c.args.layout.now)
+    same_work c.args.layout.now c.args.self.now c.heard-2.new.self c.go_on.new.self (c.heard-2.ensures.same c.args.layout.now)
     (λ was. subst (λ (held : Option OpenProposal). IsUnderWayOn c.args.layout.now.bricks held) (sym c.go_on.ensures.under_way) c.in_ok-heard.ensures.left)

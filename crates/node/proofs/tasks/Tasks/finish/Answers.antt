@@ -1,11 +1,11 @@
 -- What is still to be done is the machine's, beside the synchronisation or of it.
-use Rattle.std.proofs.Common.{None, sym, ◌∙◌, subst}
+use Rattle.std.proofs.Common.{None, refl, sym, subst}
 use Rattle.node.specs.declared.tasks.TaskTurn.{TaskTurn}
 use Rattle.node.specs.declared.tasks.Tasks.{Tasks}
 use Rattle.node.specs.Jobs.{FollowsFrom}
 use Rattle.node.specs.States.{StepsAs}
 use Rattle.node.specs.Tasks.{IsTaskTurn, step_on, tasks_in}
-use Rattle.node.proofs.Turning.{alone, turn_apart, turn_free, turn_same, turn_steps}
+use Rattle.node.proofs.Turning.{same_ended, same_then, turn_apart, turn_free, turn_same, turn_steps}
 use Rattle.node.proofs.Underway.{no_parts}
 use Rattle.node.proofs.tasks.Tasks.finish.Goals as goal
 
@@ -26,16 +26,10 @@ returns-in-Work-clause-same c = λ layout now from call reply before seq is firs
 
 pub returns-in-Follows-clause-same : goal.returns-in-Follows-clause-same
 returns-in-Follows-clause-same c = λ layout now from call reply before seq is first.
-    let mid = c.args.self.now in
-    let turn_is = subst (λ (turn : TaskTurn). IsTaskTurn layout now from call reply before turn mid) c.in-Follows.is is in
-    let last = c.take_up.ensures.same layout
-    (subst (λ (t : Tasks). FollowsFrom layout t.work.calls.seq c.in-Follows.group c.in-Follows.next) (sym turn_is.0) turn_is.2) in
-    record {
-      me = last.me ∙ first.me;
-      boot = last.boot ∙ first.boot;
-      of = λ of. let mid_is = first.of of in
-          last.of (record { work_is = mid_is.work_is; job_is = tt; scrub_is = alone layout mid.work.calls mid.job mid.scrub mid_is.scrub_is });
-    }
+    let turn_is = subst (λ (turn : TaskTurn). IsTaskTurn layout now from call reply before turn c.args.self.now) c.in-Follows.is is in
+    let ended = same_ended layout c.args.self.now c.args.self.now.work (record { me = refl; boot = refl; of = λ of. of }) (λ of. of.scrub_is) in
+    same_then layout before (record c.args.self.now { job = None }) c.take_up.new.self (same_then layout before c.args.self.now _ first ended)
+    (c.take_up.ensures.same layout (subst (λ (t : Tasks). FollowsFrom layout t.work.calls.seq c.in-Follows.group c.in-Follows.next) (sym turn_is.0) turn_is.2))
 
 pub returns-in-EndsScrub-clause-step : goal.returns-in-EndsScrub-clause-step
 returns-in-EndsScrub-clause-step c = λ layout now from call reply before seq is kept.

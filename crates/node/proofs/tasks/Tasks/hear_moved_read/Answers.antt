@@ -16,7 +16,7 @@ use Rattle.node.specs.declared.jobs.Followed.{Followed}
 use Rattle.node.specs.declared.jobs.OpenJob.{OpenJob}
 use Rattle.node.specs.declared.outs.Tellings.{Tellings}
 use Rattle.node.specs.declared.tasks.Tasks.{Tasks}
-use Rattle.node.specs.Jobs.{FollowsFrom, followed_step, reading_of, then_told, with_reading}
+use Rattle.node.specs.Jobs.{FollowsFrom, MakesFrom, followed_step, reading_of, then_told, with_reading}
 use Rattle.node.specs.Operations.{shown_of}
 use Rattle.node.specs.Reads.{HasCountedRead, MovesOn}
 use Rattle.node.specs.Scrubs.{scrubbing_in, with_scrubbing}
@@ -78,6 +78,11 @@ free_so c kept =
     calls_apart_scrub (scrubbing_in c.args.self.now.scrub) (state_in kept c.args.self.now.work).calls (read_seq c.in-Some.open) (scrub_apart c)
     ∙ read_free c.args.layout.now c.args.self.now.work c.in-Some.open kept (at_brick c)
 
+-- the machine's next call comes from there
+makes_so : (c : In_ok-told) (kept : KeptParts) → MakesFrom (next_at c.args.self.now c.args.now) (unread c kept)
+unfolding state_with
+makes_so c kept = record { boot = refl; seq = refl; known = refl }
+
 -- so is the machine's step
 step_beside : (c : In_ok-told) (kept : KeptParts)
     → step_on c.args.layout.now c.args.now c.args.packet.now.from c.args.call (Moved c.args.view (Some c.requires.moved.0)) c.args.self.now kept
@@ -105,7 +110,6 @@ waits_so c =
     c.in_default-2.is c.in_ok-told.ensures
 
 pub returns-in-Some-2-clause-turn : goal.returns-in-Some-2-clause-turn
-unfolding state_with
 returns-in-Some-2-clause-turn c =
     let e = (goal.at.returns-in-Some-2-clause-turn c).In-Some-2 in
     let d = (goal.at.returns-in-Some-2-clause-turn c).In_ok-told in
@@ -122,7 +126,7 @@ returns-in-Some-2-clause-turn c =
           ≡ then_told told (followed_step me c.group.result (tasks_in kept (record before { job = None })) next)) (sym c.requires.moved.1)
           (λ kept. step_beside d kept
           ∙ replied_ends layout c.in-Some.open (at_brick d).open_is c.args.packet.now.from c.args.call c.args.view c.requires.moved.0 (counted_so d) (next_at c.args.self.now c.args.now)
-          (unread d kept) (record { boot = refl; seq = refl; known = refl }) (free_so d kept) me c.args.now (same_call d) refl refl is.0 is.1 told next is.2 is.3
+          (unread d kept) (makes_so d kept) (free_so d kept) me c.args.now (same_call d) refl refl is.0 is.1 told next is.2 is.3
           ∙ ap (λ (g : GroupId). then_told told (followed_step me g (unread d kept) next)) (sym c.group.ensures)),
     )
 
@@ -146,7 +150,6 @@ count-requires-clause-waits c =
     (counted_so (goal.at.count-requires-clause-waits c).In_ok-told) (waits_so e))
 
 pub returns-clause-turn : goal.returns-clause-turn
-unfolding state_with
 returns-clause-turn c =
     let e = (goal.at.returns-clause-turn c).In_default-2 in
     let d = (goal.at.returns-clause-turn c).In_ok-told in
@@ -162,7 +165,7 @@ returns-clause-turn c =
           → (kept : KeptParts) → step_on c.args.layout.now c.args.now from call r was kept ≡ no_step (tasks_in kept after)) (sym c.requires.moved.1)
           (λ seen kept. step_beside d kept
           ∙ replied_waits c.args.layout.now held (at_brick d).open_is from call c.args.view c.requires.moved.0 (counted_so d) (next_at c.args.self.now c.args.now) (unread d kept)
-          (record { boot = refl; seq = refl; known = refl }) (free_so d kept) was.work.calls.me c.args.now (same_call d) refl refl (waits_so e) now seen
+          (makes_so d kept) (free_so d kept) was.work.calls.me c.args.now (same_call d) refl refl (waits_so e) now seen
           ∙ ap no_step (sym (swapped (scrubbing_in was.scrub) (reading_of now) (state_in kept was.work)
           (subst (ScrubApart (scrubbing_in was.scrub)) (sym (ap (λ (k : machine.Coordinator). k.call.seq) seen.now_is
           ∙ ap (λ (k : Call). k.seq) (call_heard (shown_of held.read) from (message.Reply call (Moved c.args.view (Some c.requires.moved.0)))))) (scrub_apart d)))))

@@ -18,7 +18,7 @@ use Rattle.node.specs.declared.tasks.Tasks.{Tasks}
 use Rattle.node.specs.Jobs.{reading_in, with_reading}
 use Rattle.node.specs.Outcomes.{Outcome}
 use Rattle.node.specs.Scrubs.{HasCountedScrub, MovesScrub, Scrubbing, scrub_seq, scrub_shown, scrubbing_of, with_scrubbing}
-use Rattle.node.specs.States.{KeptParts, StepsAs, state_in, state_with}
+use Rattle.node.specs.States.{KeptParts, StepsAs, state_in}
 use Rattle.node.specs.Tasks.{ApartFromJob, IsScrubAt, IsScrubIn, read_seq, step_on, tasks_in}
 use Rattle.node.proofs.Beside.{none_reads}
 use Rattle.node.proofs.ScrubCalls.{counts_scrub, eq_so, only_same, read_other, same_scrub, scrub_as_before, scrub_free, scrub_moved_ends, scrub_moved_waits, scrub_waits_so, scrubs_call}
@@ -69,7 +69,6 @@ waits_so : (c : In_default-moved) → MovesScrub c.in-Some.open c.args.packet.no
 waits_so c = subst (MovesScrub c.in-Some.open c.args.packet.now.from c.args.view) c.in_default-moved.is c.moved.ensures
 
 pub returns-in-Some-moved-clause-turn : goal.returns-in-Some-moved-clause-turn
-unfolding state_with
 returns-in-Some-moved-clause-turn c =
     let d = (goal.at.returns-in-Some-moved-clause-turn c).After-moved in
     let layout = c.args.layout.now in
@@ -106,7 +105,6 @@ count-requires-clause-waits c =
     (scrub_waits_so c.args.layout.now c.in-Some.open (at_brick d).scrub_is c.args.packet.now.from c.args.call c.args.view c.requires.moved.0 (counted_so d) (waits_so (goal.at.count-requires-clause-waits c).In_default-moved))
 
 pub returns-clause-turn : goal.returns-clause-turn
-unfolding state_with
 returns-clause-turn c =
     let d = (goal.at.returns-clause-turn c).After-moved in
     let was = c.args.self.now in

@@ -1,5 +1,5 @@
 -- The read of the synchronisation goes on, or ends.
-use Rattle.std.proofs.Common.{◌≡◌, ℕ, Option, Some, refl, sym, ◌∙◌, ap, subst, arith}
+use Rattle.std.proofs.Common.{◌≡◌, ℕ, Option, Some, None, refl, sym, ◌∙◌, ap, subst, arith}
 use Rattle.std.specs.Ordering.{nat_cmp}
 use Rattle.std.specs.BTreeMap.{get}
 use Rattle.fab_base.specs.declared.identities.BrickId.{BrickId}
@@ -8,7 +8,7 @@ use Rattle.stripe_code.specs.Codes.{coding}
 use Rattle.protocol.specs.Nodes.{Node, NodeStep, known_after, replied_at, with_known, with_round}
 use Rattle.node.specs.declared.jobs.OpenJob.{OpenJob}
 use Rattle.node.specs.declared.jobs.ReadTurn.{ReadTurn}
-use Rattle.node.specs.declared.open_work.OpenWork.{OpenWork}
+use Rattle.node.specs.declared.tasks.Tasks.{Tasks}
 use Rattle.node.specs.Jobs.{FollowsFrom, followed_step, reading_of, then_told, with_reading}
 use Rattle.node.specs.Reads.{IsReadTurn, IsSameRead, LeftSo, turn_step}
 use Rattle.node.specs.Scrubs.{scrubbing_in, with_scrubbing}
@@ -17,9 +17,10 @@ use Rattle.node.specs.Tasks.{IsJobAt, IsJobIn, IsScrubIn, read_seq, tasks_in}
 use Rattle.node.proofs.ReadReplies.{read_free, reads_call, turn_is}
 use Rattle.node.proofs.ScrubCalls.{aside_next, scrub_heard, scrub_other, scrub_stays}
 use Rattle.node.proofs.ScrubsBeside.{ScrubApart, calls_apart_scrub, swapped}
-use Rattle.node.proofs.Turning.{alone}
+use Rattle.node.proofs.Turning.{same_ended, same_then}
+use Rattle.node.proofs.Underway.{same_calls_then, same_parts}
 use Rattle.node.proofs.tasks.Tasks.on_read_reply.Goals as goal
-use Rattle.node.proofs.tasks.Tasks.on_read_reply.Goals.{In-Ends, In-Goes, In_ok-turn}
+use Rattle.node.proofs.tasks.Tasks.on_read_reply.Goals.{After-knows, In-Ends, In-Goes, In_ok-turn}
 
 -- the read is of the brick
 at_brick : (c : In_ok-turn) → IsJobAt c.args.layout.now c.args.self.now.work.calls c.in-Some.open
@@ -38,8 +39,7 @@ unread c kept = with_scrubbing (scrubbing_in c.args.self.now.scrub) (state_in ke
 -- it, once it knows the time and the round of a ballot that the reply makes known
 abbrev later : In_ok-turn → KeptParts → Node
 later c kept =
-    let node : Node = with_round (unread c kept) c.args.reply.now in
-    with_known node (known_after (state_in kept c.args.self.now.work).known c.args.reply.now)
+    with_known (with_round (unread c kept) c.args.reply.now) (known_after c.args.self.now.work.calls.stamps.known c.args.reply.now)
 
 -- what the reply comes to is the machine's step
 step_is : (c : In_ok-turn) (kept : KeptParts) (turned : ReadTurn) → c.in_ok-turn.turn ≡ turned
@@ -74,23 +74,30 @@ goes_on : (c : In-Goes) → IsSameRead c.args.layout.now c.in-Some.open c.on_rep
 goes_on c =
     subst (λ (t : ReadTurn). LeftSo c.args.layout.now c.in-Some.open c.source_after-at.result t c.on_reply.new.self) c.in-Goes.is c.in_ok-turn.ensures.turn.left
 
+-- what is under way then
+abbrev after : After-knows → Tasks
+after c = record {
+  work = record { calls = c.knows.new.self; proposals = c.heard.new.self.proposals };
+  job = Some c.on_reply.new.self;
+  scrub = c.args.self.now.scrub;
+}
+
 pub returns-in-Goes-clause-step : goal.returns-in-Goes-clause-step
-unfolding state_with
 returns-in-Goes-clause-step c = λ kept.
     let e = (goal.at.returns-in-Goes-clause-step c).In-Goes in
     let d = (goal.at.returns-in-Goes-clause-step c).In_ok-turn in
     let was = c.args.self.now in
     let s = scrubbing_in was.scrub in
     let now : OpenJob = c.on_reply.new.self in
-    let work : OpenWork = record { calls = c.knows.new.self; proposals = c.heard.new.self.proposals } in
-    subst (λ (step : NodeStep). StepsAs was.work.calls.me (tasks_in kept (record { work = work; job = Some now; scrub = was.scrub })) step c.in-Goes.outs)
+    let tasks = after (goal.at.returns-in-Goes-clause-step c).After-knows in
+    subst (λ (step : NodeStep). StepsAs was.work.calls.me (tasks_in kept tasks) step c.in-Goes.outs)
     (sym (step_is d kept _ c.in-Goes.is))
     (record {
       packets = refl;
       told = refl;
       answers = refl;
       reports = refl;
-      state_is = swapped s (reading_of now) (state_in kept work) (subst (ScrubApart s) (sym (goes_on e).seq) (scrub_apart d))
+      state_is = swapped s (reading_of now) (state_in kept tasks.work) (subst (ScrubApart s) (sym (goes_on e).seq) (scrub_apart d))
           ∙ ap (λ (n : Node). with_reading (Some (reading_of now)) (with_scrubbing s n))
           (c.knows.ensures.state (parts_with kept c.heard.new.self.proposals) ∙ ap (λ (n : Node). with_known n c.in-Goes.known) (c.heard.ensures.state kept));
     })
@@ -98,32 +105,22 @@ returns-in-Goes-clause-step c = λ kept.
 pub returns-in-Goes-clause-same : goal.returns-in-Goes-clause-same
 returns-in-Goes-clause-same c =
     let e = (goal.at.returns-in-Goes-clause-same c).In-Goes in
+    let d = (goal.at.returns-in-Goes-clause-same c).In_ok-turn in
     let layout = c.args.layout.now in
     let calls = c.args.self.now.work.calls in
-    let after : OpenJob = c.on_reply.new.self in
-    let heard = c.heard.ensures.same layout in
-    let knows = c.knows.ensures.same layout in
-    let at = at_brick (goal.at.returns-in-Goes-clause-same c).In_ok-turn in
     let operations = c.knows.ensures.operations ∙ c.heard.ensures.operations in
     let last = c.knows.ensures.seq ∙ c.heard.ensures.seq in
     let seq = (goes_on e).seq in
-    let made = at.made in
-    record {
-      me = knows.me ∙ heard.me;
-      boot = knows.boot ∙ heard.boot;
-      of = λ of.
-          let work_is = heard.of of.work_is in
-          record {
-            work_is = record { calls = knows.of work_is.calls; proposing = work_is.proposing };
-            job_is = record {
-              open_is = (goes_on e).of at.open_is;
-              made = omega (arith, last, seq, made);
-              apart = (λ i. get nat_cmp (operations i) (seq i)) ∙ at.apart;
-            };
-            scrub_is = scrub_stays layout calls c.knows.new.self c.in-Some.open after c.args.self.now.scrub operations last seq
-                (subst (λ (job : Option OpenJob). IsScrubIn layout calls job c.args.self.now.scrub) c.in-Some.is of.scrub_is);
-          };
-    }
+    let made = (at_brick d).made in
+    same_parts layout c.args.self.now (after (goal.at.returns-in-Goes-clause-same c).After-knows)
+    (same_calls_then layout c.args.self.now.work c.heard.new.self c.knows.new.self (c.heard.ensures.same layout) (c.knows.ensures.same layout))
+    (λ of. record {
+      open_is = (goes_on e).of (at_brick d).open_is;
+      made = omega (arith, last, seq, made);
+      apart = (λ i. get nat_cmp (operations i) (seq i)) ∙ (at_brick d).apart;
+    })
+    (λ of. scrub_stays layout calls c.knows.new.self c.in-Some.open c.on_reply.new.self c.args.self.now.scrub operations last seq
+    (subst (λ (job : Option OpenJob). IsScrubIn layout calls job c.args.self.now.scrub) c.in-Some.is of.scrub_is))
 
 -- what comes after the read follows from the last call
 follows_so : (c : In-Ends) → FollowsFrom c.args.layout.now c.heard.new.self.calls.seq c.group-group.result c.in-Ends.next
@@ -134,7 +131,6 @@ follows_so c =
     c.in_ok-turn.ensures.turn.left).0)
 
 pub returns-in-Ends-clause-step : goal.returns-in-Ends-clause-step
-unfolding state_with
 returns-in-Ends-clause-step c = λ kept.
     let d = (goal.at.returns-in-Ends-clause-step c).In_ok-turn in
     let me = c.args.self.now.work.calls.me in
@@ -149,27 +145,23 @@ returns-in-Ends-clause-step c = λ kept.
     ∙ sym (step_is d kept _ c.in-Ends.is))
     steps
 
+-- the scrub is of the brick still, once the reply is heard
+scrub_stays_so : (c : In-Ends) → IsScrubIn c.args.layout.now c.heard.new.self.calls c.args.self.now.job c.args.self.now.scrub
+scrub_stays_so c =
+    scrub_heard c.args.layout.now c.args.self.now.work.calls c.heard.new.self.calls c.args.self.now.job c.args.self.now.scrub c.heard.ensures.operations
+    c.heard.ensures.seq c.requires.of.scrub_is
+
 pub take_up-requires-clause-from : goal.take_up-requires-clause-from
 take_up-requires-clause-from c = (c.args.layout.now, follows_so (goal.at.take_up-requires-clause-from c).In-Ends)
 
 pub take_up-requires-clause-apart : goal.take_up-requires-clause-apart
 take_up-requires-clause-apart c =
     aside_next c.args.layout.now c.heard.new.self.calls c.args.self.now.job c.args.self.now.scrub
-    (scrub_heard c.args.layout.now c.args.self.now.work.calls c.heard.new.self.calls c.args.self.now.job c.args.self.now.scrub c.heard.ensures.operations
-    c.heard.ensures.seq c.requires.of.scrub_is)
+    (scrub_stays_so (goal.at.take_up-requires-clause-apart c).In-Ends)
 
 pub returns-in-Ends-clause-same : goal.returns-in-Ends-clause-same
 returns-in-Ends-clause-same c =
-    let heard = c.heard.ensures.same c.args.layout.now in
-    let same = c.take_up.ensures.same c.args.layout.now (follows_so (goal.at.returns-in-Ends-clause-same c).In-Ends) in
-    record {
-      me = same.me ∙ heard.me;
-      boot = same.boot ∙ heard.boot;
-      of = λ of. same.of (record {
-        work_is = heard.of of.work_is;
-        job_is = tt;
-        scrub_is = alone c.args.layout.now c.heard.new.self.calls c.args.self.now.job c.args.self.now.scrub
-            (scrub_heard c.args.layout.now c.args.self.now.work.calls c.heard.new.self.calls c.args.self.now.job c.args.self.now.scrub c.heard.ensures.operations
-            c.heard.ensures.seq of.scrub_is);
-      });
-    }
+    let e = (goal.at.returns-in-Ends-clause-same c).In-Ends in
+    same_then c.args.layout.now c.args.self.now (record { work = c.heard.new.self; job = None; scrub = c.args.self.now.scrub }) c.take_up.new.self
+    (same_ended c.args.layout.now c.args.self.now c.heard.new.self (c.heard.ensures.same c.args.layout.now) (λ of. scrub_stays_so e))
+    (c.take_up.ensures.same c.args.layout.now (follows_so e))

@@ -11,9 +11,10 @@ use Rattle.node.specs.States.{StepsAs, state_in, state_with}
 use Rattle.node.specs.Tasks.{IsAside, read_seq, tasks_in}
 use Rattle.node.proofs.Beside.{beside, calls_apart, none_reads, replied_beside}
 use Rattle.node.proofs.ScrubsBeside.{beside_scrub, calls_apart_scrub, replied_beside_scrub}
-use Rattle.node.proofs.Underway.{KeepsFree, apart_so, at_call, job_kept, no_parts, replied_free, same_free, scrub_apart_so, scrub_kept, steps_beside, steps_beside_scrub}
+use Rattle.node.proofs.Underway.{KeepsFree, apart_so, at_call, no_parts, replied_free, same_free, same_tasks, scrub_apart_so, steps_beside, steps_beside_scrub}
 use Rattle.node.proofs.Undertaken.{at_either}
 use Rattle.node.proofs.tasks.Tasks.on_reply.Goals as goal
+use Rattle.node.proofs.tasks.Tasks.on_reply.Goals.{After-on_reply}
 
 pub returns-clause-step : goal.returns-clause-step
 unfolding state_with
@@ -45,35 +46,27 @@ returns-clause-step c = λ kept.
     (steps_beside me r (state_in kept c.on_reply.new.self) step outs is)))
     (c.on_reply.ensures.step kept)
 
-pub returns-clause-same : goal.returns-clause-same
+-- no operation gets the call of another
+free_so : (c : After-on_reply) (seq : ℕ) → nat_eq seq c.args.call.seq ≡ false
+    → KeepsFree seq (state_in no_parts c.args.self.now.work) (state_in no_parts c.on_reply.new.self)
 unfolding state_with
-returns-clause-same c =
-    let tasks = c.args.self.now in
-    let layout = c.args.layout.now in
-    let call = c.args.call in
-    let me = tasks.work.calls.me in
-    let after = c.on_reply.new.self in
-    let before : Node = state_in no_parts tasks.work in
-    let node : Node = with_round before c.args.reply.now in
-    let same = c.on_reply.ensures.same in
-    let aside = c.reads.ensures.aside c.if-reads.false in
-    let apart = c.is_scrub.ensures.aside c.if-is_scrub.false in
-    let free : (seq : ℕ) → nat_eq seq call.seq ≡ false → KeepsFree seq before (state_in no_parts after) =
-    λ seq other. at_either c.on_reply.result (c.on_reply.ensures.step no_parts) c.on_reply.ensures.err
+free_so c seq other =
+    let work = c.args.self.now.work in
+    let reply = c.args.reply.now in
+    let before : Node = state_in no_parts work in
+    let node : Node = with_round before reply in
+    at_either c.on_reply.result (c.on_reply.ensures.step no_parts) c.on_reply.ensures.err
     (λ outs is.
     let kept = subst (λ (n : Node). KeepsFree seq node n) (sym is.state_is)
-    (replied_free layout me c.args.now c.args.packet.now.from node call c.args.reply.now (before.calls call.seq) seq refl refl other
-    (at_call layout tasks.work.calls call.seq c.requires.of.work_is.calls)) in
+    (replied_free c.args.layout.now work.calls.me c.args.now c.args.packet.now.from node c.args.call reply (before.calls c.args.call.seq) seq refl refl other
+    (at_call c.args.layout.now work.calls c.args.call.seq c.requires.of.work_is.calls)) in
     record { later = kept.later; free = kept.free })
-    (λ is. same_free seq before (state_in no_parts after) (is no_parts)) in
-    record {
-      me = same.me;
-      boot = same.boot;
-      of = λ of. record {
-        work_is = same.of of.work_is;
-        job_is = job_kept layout tasks.work after tasks.job
-            (λ held e. free (read_seq held) (subst (λ (job : Option OpenJob). IsAside job call.seq) e aside)) of.job_is;
-        scrub_is = scrub_kept layout tasks.work after tasks.job tasks.scrub
-            (λ held e. free (scrub_seq held) (subst (λ (scrub : Option OpenScrub). IsScrubAside scrub call.seq) e apart)) of.scrub_is;
-      };
-    }
+    (λ is. same_free seq before (state_in no_parts c.on_reply.new.self) (is no_parts))
+
+pub returns-clause-same : goal.returns-clause-same
+returns-clause-same c =
+    let free = free_so (goal.at.returns-clause-same c).After-on_reply in
+    let seq = c.args.call.seq in
+    same_tasks c.args.layout.now c.args.self.now c.on_reply.new.self c.on_reply.ensures.same
+    (λ held there. free (read_seq held) (subst (λ (job : Option OpenJob). IsAside job seq) there (c.reads.ensures.aside c.if-reads.false)))
+    (λ held there. free (scrub_seq held) (subst (λ (scrub : Option OpenScrub). IsScrubAside scrub seq) there (c.is_scrub.ensures.aside c.if-is_scrub.false)))

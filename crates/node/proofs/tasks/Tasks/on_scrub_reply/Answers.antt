@@ -14,6 +14,7 @@ use Rattle.node.specs.Tasks.{AreSameTasks, IsScrubAt, IsScrubIn, tasks_in}
 use Rattle.node.proofs.Beside.{none_reads}
 use Rattle.node.proofs.States.{on_err}
 use Rattle.node.proofs.ScrubCalls.{job_heard, none_reported, one_reported, read_other, replied_scrub, same_scrub, scrub_as_before, scrub_free, scrub_goes_on, scrubs_call}
+use Rattle.node.proofs.Underway.{same_calls_then, same_parts}
 use Rattle.node.proofs.tasks.Tasks.on_scrub_reply.Goals as goal
 use Rattle.node.proofs.tasks.Tasks.on_scrub_reply.Goals.{After-is_none, In_ok-outs}
 
@@ -79,7 +80,6 @@ step_so : (c : In_ok-outs) (work : OpenWork) (left : Option OpenScrub) (kept : K
     StepsAs me (tasks_in kept (record { work = work; job = tasks.job; scrub = left }))
     (replied_at (coding c.args.layout.now) me c.args.now c.args.packet.now.from (with_round (tasks_in kept tasks) c.args.reply.now) c.args.call c.args.reply.now
     ((tasks_in kept tasks).calls c.args.call.seq)) c.in_ok-outs.outs)
-unfolding state_with
 step_so c work left kept heard is =
     let tasks = c.args.self.now in
     let known = c.on_reply.new.stamps.known in
@@ -98,21 +98,13 @@ step_so c work left kept heard is =
 same_so : (c : After-is_none) (left : Option OpenScrub) → IsScrubIn c.args.layout.now c.knows.new.self c.args.self.now.job left
     → AreSameTasks c.args.layout.now c.args.self.now (record { work = work_after c; job = c.args.self.now.job; scrub = left })
 same_so c left scrub_is =
-    let layout = c.args.layout.now in
-    let heard = c.heard.ensures.same layout in
-    let knows = c.knows.ensures.same layout in
-    record {
-      me = knows.me ∙ heard.me;
-      boot = knows.boot ∙ heard.boot;
-      of = λ of.
-          let work_of = heard.of of.work_is in
-          record {
-            work_is = record { calls = knows.of work_of.calls; proposing = work_of.proposing };
-            job_is = job_heard layout c.args.self.now.work.calls c.knows.new.self c.args.self.now.job (c.knows.ensures.operations ∙ c.heard.ensures.operations)
-                (c.knows.ensures.seq ∙ c.heard.ensures.seq) of.job_is;
-            scrub_is = scrub_is;
-          };
-    }
+    let calls = c.args.self.now.work.calls in
+    let operations = c.knows.ensures.operations ∙ c.heard.ensures.operations in
+    same_parts c.args.layout.now c.args.self.now (record { work = work_after c; job = c.args.self.now.job; scrub = left })
+    (same_calls_then c.args.layout.now c.args.self.now.work c.heard.new.self c.knows.new.self (c.heard.ensures.same c.args.layout.now)
+    (c.knows.ensures.same c.args.layout.now))
+    (λ of. job_heard c.args.layout.now calls c.knows.new.self c.args.self.now.job operations (c.knows.ensures.seq ∙ c.heard.ensures.seq) of.job_is)
+    (λ of. scrub_is)
 
 -- where it is not over, nothing is reported
 none_so : (c : After-is_none) → c.is_none.result ≡ true → c.in_ok-outs.outs.reports ≡ []

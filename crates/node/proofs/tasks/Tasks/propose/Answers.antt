@@ -9,9 +9,10 @@ use Rattle.node.specs.States.{KeptParts, StepsAs, state_in, state_with}
 use Rattle.node.specs.Tasks.{read_seq}
 use Rattle.node.proofs.Beside.{beside, proposed_beside}
 use Rattle.node.proofs.ScrubsBeside.{beside_scrub, proposed_beside_scrub}
-use Rattle.node.proofs.Underway.{KeepsFree, job_kept, no_parts, same_free, scrub_kept, steps_beside, steps_beside_scrub}
+use Rattle.node.proofs.Underway.{KeepsFree, no_parts, same_free, same_tasks, steps_beside, steps_beside_scrub}
 use Rattle.node.proofs.Undertaken.{at_either, proposed_free}
 use Rattle.node.proofs.tasks.Tasks.propose.Goals as goal
+use Rattle.node.proofs.tasks.Tasks.propose.Goals.{After-propose}
 
 pub returns-clause-step : goal.returns-clause-step
 returns-clause-step c = λ parts learns.
@@ -30,28 +31,21 @@ returns-clause-step c = λ parts learns.
     (steps_beside_scrub me s (with_reading r (state_in parts after)) (beside r step) outs (steps_beside me r (state_in parts after) step outs is)))
     (c.propose.ensures.step parts learns)
 
-pub returns-clause-same : goal.returns-clause-same
+-- no operation gets a call
+free_so : (c : After-propose) (seq : ℕ) → KeepsFree seq (state_in no_parts c.args.self.now.work) (state_in no_parts c.propose.new.self)
 unfolding state_with
-returns-clause-same c =
-    let tasks = c.args.self.now in
-    let layout = c.args.layout.now in
-    let me = tasks.work.calls.me in
-    let after = c.propose.new.self in
+free_so c seq =
     let parts : KeptParts = record no_parts { learnt = λ g. record { view = c.args.view; synced = false } } in
-    let same = c.propose.ensures.same in
-    let free : (seq : ℕ) → KeepsFree seq (state_in no_parts tasks.work) (state_in no_parts after) =
-    λ seq. at_either c.propose.result (c.propose.ensures.step parts refl) c.propose.ensures.err
+    let node = state_in parts c.args.self.now.work in
+    at_either c.propose.result (c.propose.ensures.step parts refl) c.propose.ensures.err
     (λ outs is.
-    let kept = subst (λ (n : Node). KeepsFree seq (state_in parts tasks.work) n) (sym is.state_is)
-    (proposed_free layout me (state_in parts tasks.work) c.args.group c.args.members.now c.args.kept.now seq) in
+    let kept = subst (λ (n : Node). KeepsFree seq node n) (sym is.state_is)
+    (proposed_free c.args.layout.now c.args.self.now.work.calls.me node c.args.group c.args.members.now c.args.kept.now seq) in
     record { later = kept.later; free = kept.free })
-    (λ is. same_free seq (state_in no_parts tasks.work) (state_in no_parts after) (ap (state_in no_parts) is)) in
-    record {
-      me = same.me;
-      boot = same.boot;
-      of = λ of. record {
-        work_is = same.of of.work_is;
-        job_is = job_kept layout tasks.work after tasks.job (λ held e. free (read_seq held)) of.job_is;
-        scrub_is = scrub_kept layout tasks.work after tasks.job tasks.scrub (λ held e. free (scrub_seq held)) of.scrub_is;
-      };
-    }
+    (λ is. same_free seq (state_in no_parts c.args.self.now.work) (state_in no_parts c.propose.new.self) (ap (state_in no_parts) is))
+
+pub returns-clause-same : goal.returns-clause-same
+returns-clause-same c =
+    let free = free_so (goal.at.returns-clause-same c).After-propose in
+    same_tasks c.args.layout.now c.args.self.now c.propose.new.self c.propose.ensures.same (λ held there. free (read_seq held))
+    (λ held there. free (scrub_seq held))
