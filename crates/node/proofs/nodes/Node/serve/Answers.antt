@@ -46,7 +46,8 @@ returns-in_err-answer g c =
     let fault = err_from_is_err_and c.from_residual.result c.from_residual.ensures.1 in
     let err =
     on_err c.from_residual.result
-    (same_kept c.self.inside.layout c.self.inside.tasks c.self.inside.store c.handle.new.store handled.handles.refused ∙ ap (λ (n : Running g.row.D.Denot). state_of n) c.self.view_is) in
+    (same_kept c.self.inside.layout c.self.inside.tasks c.self.inside.store c.handle.new.store handled.handles.refused
+    ∙ ap (λ (n : Running g.row.D.Denot). state_of n) c.self.view_is) in
     let refused =
     refused_change g.D.Disk _ _ c.args.from c.args.message.now c.self.inside.store c.handle.new.store _ c.self.view_is c.self.invariant _
     c.in_err-answer.field-0.0 c.from_residual.result c.self.inside.tasks handled.handles handled.change c.requires.stands
