@@ -5,7 +5,7 @@
 
 run.py runs it, over two file systems. The stores lie in new folders in FOLDER. m = 4, n = 6, a block has 4,096 bytes, a request of NBD 256 KiB, and a command of
 `local` is a whole stripe. Each measurement moves 16 MiB. Each round makes all of them in turn, so that the two sides of a ratio are of the same few seconds. Printed are
-medians of nine rounds and, in brackets, the least and the most. Since other work on the machine only slows a round down, the ratio of the fastest rounds of both sides
+medians of 21 rounds and, in brackets, the least and the most. Since other work on the machine only slows a round down, the ratio of the fastest rounds of both sides
 is printed too, and last that of the processor times of the process `brick`; what the client takes is not in that one. What each row is docs/performance.md says.
 
 The start of `brick` is left out of all, and nbdcopy's start only where its first request is.
@@ -20,7 +20,7 @@ import tempfile
 
 from disks import commander, make, run_timed, served, take_priority
 
-ROUNDS = 9
+ROUNDS = 21
 M, N, BLOCK = 4, 6, 4096
 DATA = M * BLOCK
 COPIED, REQUEST = 16 * 2**20, 256 * 2**10
