@@ -18,7 +18,7 @@ ghost use Rattle.brick_store.specs.Steps.{RecordHasMembers};
 
 use crate::block_tables::BlockTable;
 use crate::readings::Folded;
-use crate::rewrites::frame_of;
+use crate::rewrites::{LISTED, frame_of};
 use brick_state::{Index, Record, ZERO_SLOT};
 use fab_base::{Bytes, NoMem};
 use frame_store::FrameList;
@@ -42,9 +42,6 @@ struct BroughtSoFar {
     blocks: BlockTable,
     frames: FrameList,
 }
-
-/// How many bytes the frame of a version has.
-const LISTED: usize = 41;
 
 /// How many records are taken before the memory of those that were is given back.
 const GIVEN_BACK: usize = 65_536;

@@ -21,7 +21,7 @@ use crate::faults::StoreFault;
 use crate::rewrites::live_frames;
 use brick_state::Index;
 use fab_disk::Disk;
-use frame_store::FrameStore;
+use frame_store::{FrameList, FrameStore};
 use std::alloc::Global;
 
 /// Syncs the disk and puts the frames of what the index keeps in the place of the list. At each moment each image opens as frames
@@ -86,7 +86,8 @@ pub fn make_appendable<D: Disk>(
     ensures fault { IsNotFull result }
 {
     if is_appendable(frames, whole, body) {
-        frames.reserve(&[], body)?;
+        let none = FrameList::new(alloc);
+        frames.reserve(&none, body)?;
         frames.sync()?;
         return Ok(());
     }

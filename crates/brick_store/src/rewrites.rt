@@ -14,8 +14,11 @@ ghost use Rattle.brick_store.specs.Sizes.{body_size, most, most_listed, most_of}
 
 use brick_state::{Index, Record};
 use fab_base::NoMem;
-use frame_store::Frame;
+use frame_store::{Frame, FrameList};
 use std::alloc::Global;
+
+/// How many bytes the frame of a version has.
+pub(crate) const LISTED: usize = 41;
 
 /// The frame of a record.
 pub fn frame_of(alloc: Global, item: &Record) -> Result<Frame, NoMem>
@@ -37,25 +40,25 @@ pub fn frame_of(alloc: Global, item: &Record) -> Result<Frame, NoMem>
 }
 
 /// The frames of the records that bring back what an index keeps.
-pub fn live_frames(alloc: Global, index: &Index) -> Result<Vec<Frame>, NoMem>
+pub fn live_frames(alloc: Global, index: &Index) -> Result<FrameList, NoMem>
     requires kept { IsKeptState (limits_of index.now) (state_of index.now) }
     requires members { AllByRecursion GroupHasMembers (state_of index.now).groups }
-    ensures read { IfOk result (λ frames. map record_of frames.items ≡ map Some (live_records (state_of index.now))) }
-    ensures size { IfOk result (λ frames. size_of frames.items ≤ most_listed (live (state_of index.now))) }
+    ensures read { IfOk result (λ frames. map record_of frames ≡ map Some (live_records (state_of index.now))) }
+    ensures size { IfOk result (λ frames. size_of frames ≤ most_listed (live (state_of index.now))) }
 {
     let records = index.records()?;
     frames_of(alloc, &records)
 }
 
-fn frames_of(alloc: Global, records: &[Record]) -> Result<Vec<Frame>, NoMem>
+fn frames_of(alloc: Global, records: &[Record]) -> Result<FrameList, NoMem>
     requires { AllByRecursion RecordHasMembers records.now }
-    ensures read { IfOk result (λ frames. map record_of frames.items ≡ map Some records.now) }
-    ensures size { IfOk result (λ frames. size_of frames.items ≤ most_of records.now) }
+    ensures read { IfOk result (λ frames. map record_of frames ≡ map Some records.now) }
+    ensures size { IfOk result (λ frames. size_of frames ≤ most_of records.now) }
 {
-    let mut frames = Vec::new(alloc);
+    let mut frames = FrameList::with_room(alloc, records.len().saturating_mul(LISTED))?;
     for item in records {
         let frame = frame_of(alloc, item)?;
-        frames.push(frame)?;
+        frames.push(&frame)?;
     }
     Ok(frames)
 }

@@ -116,7 +116,7 @@ fn start_over<D: Disk>(
 {
     let item = Record::Kept(Kept::Boot(index.boot() + 1));
     let frame = frame_of(alloc, &item)?;
-    frames.reserve_spelled(&listed, frame.body.len())?;
+    frames.reserve(&listed, frame.body.len())?;
     frames.sync()?;
     frames.bring_over(blocks, listed)?;
     append_count(frames, index, &item, frame)

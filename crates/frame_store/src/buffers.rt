@@ -5,7 +5,6 @@ ghost use Rattle.frame_store.specs.Layouts.{identity, header_rest};
 ghost use Rattle.frame_store.specs.Steps.{closing};
 ghost use Rattle.frame_store.specs.Listed.{frame_of, frame_rest, line_of, closed_list, spelled, size_of};
 
-use crate::frames::Frame;
 use crate::shapes::Shape;
 use std::alloc::AllocError;
 
@@ -96,35 +95,6 @@ pub(crate) fn put_line(line: &mut Vec<u8>, kind: u8, body: &[u8]) -> Result<(), 
     line.clear();
     line.reserve(body.len() + 6)?;
     put_rest(line, kind, body);
-    line.push(0).unwrap();
-    Ok(())
-}
-
-// How many bytes the frames are, with their gates.
-pub(crate) fn size_of(frames: &[Frame]) -> u64
-    requires { size_of frames.now < 2 ^ 32 }
-    ensures { result ≡ size_of frames.now }
-{
-    let mut size = 0;
-    for frame in frames {
-        size += 6 + frame.body.len() as u64;
-    }
-    size
-}
-
-// The frames with open gates, and a closed gate.
-pub(crate) fn put_list(line: &mut Vec<u8>, frames: &[Frame]) -> Result<(), AllocError>
-    requires short { size_of frames.now < 2 ^ 32 }
-    ensures made { OnOk result (line.new.items ≡ closed_list frames.now) }
-    ensures enough { size_of frames.now + 1 ≤ vec_capacity line.old → IsOk result }
-    ensures capacity { vec_capacity line.old ≤ vec_capacity line.new }
-{
-    line.clear();
-    line.reserve(size_of(frames) as usize + 1)?;
-    for frame in frames {
-        line.push(OPEN).unwrap();
-        put_rest(line, frame.kind, frame.body.as_slice());
-    }
     line.push(0).unwrap();
     Ok(())
 }

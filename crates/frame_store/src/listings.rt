@@ -38,14 +38,3 @@ impl Listing {
         Listing {}
     }
 }
-
-/// These frames, as proofs see them.
-pub(crate) fn listing_of(frames: &[Frame]) -> Listing
-    ensures { result.frames ≡ frames.now }
-{
-    let mut listing = Listing::new();
-    for frame in frames {
-        listing = Listing::with(&listing, &frame.kind, frame.body.as_slice());
-    }
-    listing
-}

@@ -35,6 +35,17 @@ impl Model for FrameList {
 }
 
 impl FrameList {
+    /// No frame yet.
+    pub fn new(alloc: Global) -> FrameList
+        ensures { result ≡ [] }
+    {
+        FrameList {
+            bytes: Vec::new(alloc),
+            count: 0,
+            listing: Listing::new(),
+        }
+    }
+
     /// No frame yet, and room for so many bytes.
     pub fn with_room(alloc: Global, bytes: usize) -> Result<FrameList, NoMem>
         ensures { IfOk result (λ list. list ≡ []) }

@@ -5,9 +5,8 @@ ghost use Rattle.fab_disk.specs.Changing.{Still};
 ghost use Rattle.fab_disk.specs.Disk.{KeepsRoom};
 ghost use Rattle.frame_store.specs.Listed.{frame_of, line_of, closed_list, size_of};
 
-use crate::buffers::{put_line, put_list, size_of};
+use crate::buffers::put_line;
 use crate::faults::FrameFault;
-use crate::frames::Frame;
 use crate::lists::FrameList;
 use crate::steps::reserve;
 use fab_disk::Disk;
@@ -39,36 +38,9 @@ pub(crate) fn stage<D: Disk>(
     Ok(())
 }
 
-// Makes ready to put frames in the place of the list by so many calls, and to write so many bytes of blocks before: the bytes of
-// the frames, and the disk's room.
+// Makes ready to put a list in the place of the one that is there by so many calls, and to write so many bytes of blocks before: the
+// list's bytes, and the disk's room.
 pub(crate) fn stage_list<D: Disk>(
-    disk: &mut D,
-    line: &mut Vec<u8>,
-    frames: &[Frame],
-    calls: usize,
-    blocks: usize,
-    end: u64,
-) -> Result<(), FrameFault>
-    requires end { end ≤ 2 ^ 48 }
-    requires short { size_of frames.now < 2 ^ 31 }
-    requires few { blocks ≤ 2 ^ 40 }
-    ensures line { OnOk result (line.new.items ≡ closed_list frames.now) }
-    ensures wide { vec_capacity line.old ≤ vec_capacity line.new }
-    ensures made { OnOk result (D.has_room disk.new calls (blocks + (size_of frames.now + 34)) end) }
-    ensures only { IsOkUnless result FrameFault.NoMemory }
-    ensures still { Still D.Disk disk.old disk.new ⊥ }
-    ensures room { KeepsRoom (D.has_room disk.old) (D.has_room disk.new) }
-    ensures enough { D.has_room disk.old calls (blocks + (size_of frames.now + 34)) end → size_of frames.now + 1 ≤ vec_capacity line.old
-        → IsOk result }
-{
-    let bytes = blocks + (size_of(frames) as usize + 34);
-    reserve(disk, calls, bytes, end)?;
-    put_list(line, frames)?;
-    Ok(())
-}
-
-// The same for a list that is spelled already.
-pub(crate) fn stage_spelled<D: Disk>(
     disk: &mut D,
     line: &mut Vec<u8>,
     list: &FrameList,

@@ -10,14 +10,14 @@ ghost use Rattle.frame_store.specs.Images.{IsNoStore, IsEmptyStore, HasSlot, Are
 ghost use Rattle.frame_store.specs.Ends.{end_of, ListChange, BringsOver};
 ghost use Rattle.frame_store.specs.Stores.{Shows, IsRead, IsSame, HasNow, HasCome, IsAnswer, HasRoom, HasRoomAhead, blocks_ahead};
 
-use crate::buffers::{closing, header_rest, shut_headers, size_of};
+use crate::buffers::{closing, header_rest, shut_headers};
 use crate::faults::{FrameFault, OpenFault};
 use crate::frames::Frame;
-use crate::listings::{Listing, listing_of};
+use crate::listings::Listing;
 use crate::lists::FrameList;
 use crate::reading::read_store;
 use crate::shapes::{Form, Half, Shape};
-use crate::staging::{Sizes, make_room, stage, stage_list, stage_spelled};
+use crate::staging::{Sizes, make_room, stage, stage_list};
 use crate::steps::{Placed, bring_gated, reserve, rewrite_gated, write_both_gated, write_gated};
 use crate::takers::TakesFrames;
 use fab_disk::{Armed, Disk, IoFault, Plan};
@@ -346,29 +346,31 @@ impl<D: Disk> FrameStore<D> {
     ///
     /// # Errors
     /// [`FrameFault::Halted`], [`FrameFault::Disk`]; [`FrameFault::NoMemory`], before the disk changed.
-    pub fn rewrite(&mut self, frames: Vec<Frame>) -> Result<(), FrameFault>
+    pub fn rewrite(&mut self, list: FrameList) -> Result<(), FrameFault>
         requires new { is_old self.old.shape ≡ false }
-        requires fits { size_of frames.items + 1 ≤ index_half_size self.old.shape }
+        requires fits { size_of list + 1 ≤ index_half_size self.old.shape }
         // One change of the list: each image shows it as it was before or as it is after.
-        ensures change { ListChange D.Disk 7 self.old frames.items None self.new.disk (end_of result) }
+        ensures change { ListChange D.Disk 7 self.old list None self.new.disk (end_of result) }
         // It stands in the other half, one generation later.
         ensures renewed { D.tells → OnOk result (IsRenewed self.old.shape (D.seen self.old.disk) (D.seen self.new.disk)) }
-        ensures ok { OnOk result (HasNow (frames.items) self.old self.new) }
+        ensures ok { OnOk result (HasNow list self.old self.new) }
         ensures answer { IsAnswer self.old.halted self.new.halted result }
         ensures refused { OnErr result (IsSame self.old self.new) }
         ensures no_call { result ≡ Err FrameFault.Halted → self.new ≡ self.old }
         ensures read { IsRead D.tells D.seen self.new }
         // Within what `reserve` made, memory is not refused, and what was made beyond this call is left.
-        ensures room { HasRoom D.has_room self.old 7 (size_of frames.items + 34) (size_of frames.items + 1)
+        ensures room { HasRoom D.has_room self.old 7 (size_of list + 34) (size_of list + 1)
             → result ≢ Err FrameFault.NoMemory }
         ensures left { OnOk result ((calls bytes written : ℕ) → HasRoom D.has_room self.old (calls + 7)
-            (bytes + (size_of frames.items + 34)) written → HasRoom D.has_room self.new calls bytes written) }
+            (bytes + (size_of list + 34)) written → HasRoom D.has_room self.new calls bytes written) }
     {
         if self.halted {
             return Err(FrameFault::Halted);
         }
         let end = self.shape.end();
-        stage_list(&mut self.disk, &mut self.line, &frames, 7, 0, end)?;
+        stage_list(&mut self.disk, &mut self.line, &list, 7, 0, end)?;
+        // (Its bytes are given back: the line has them too.)
+        let listing = list.into_listing();
         let other = self.half.other();
         let at = self.shape.half_at(other);
         let generation = self.generation.wrapping_add(1);
@@ -384,7 +386,7 @@ impl<D: Disk> FrameStore<D> {
                 self.used = bytes - 1;
                 self.size = self.size.max(at + bytes);
                 self.closed = true;
-                self.list = listing_of(&frames);
+                self.list = listing;
                 Ok(())
             }
             Err(fault) => {
@@ -420,7 +422,7 @@ impl<D: Disk> FrameStore<D> {
             return Err(FrameFault::Halted);
         }
         let end = self.shape.end();
-        stage_spelled(
+        stage_list(
             &mut self.disk,
             &mut self.line,
             &frames,
@@ -473,35 +475,7 @@ impl<D: Disk> FrameStore<D> {
     ///
     /// # Errors
     /// [`FrameFault::Halted`], [`FrameFault::Disk`]; [`FrameFault::NoMemory`].
-    pub fn reserve(&mut self, frames: &[Frame], body: usize) -> Result<(), FrameFault>
-        requires fits { Fits self.old.shape frames.now body }
-        ensures same { IsSame self.old self.new }
-        ensures still { Still D.Disk self.old.disk self.new.disk (result ≡ Err FrameFault.Disk) }
-        ensures certain { D.certain self.new.disk ≡ D.certain self.old.disk }
-        ensures answer { IsAnswer self.old.halted self.new.halted result }
-        ensures no_call { result ≡ Err FrameFault.Halted → self.new ≡ self.old }
-        ensures read { IsRead D.tells D.seen self.new }
-        ensures room { OnOk result (HasRoomAhead D.has_room self.new frames.now body) }
-    {
-        if self.halted {
-            return Err(FrameFault::Halted);
-        }
-        let sizes = Sizes {
-            blocks: self.blocks_ahead(frames.len()),
-            list: size_of(frames) as usize,
-            block: self.shape.block as usize,
-            body,
-        };
-        let calls = if self.shape.is_old() { 14 } else { 13 };
-        let end = self.shape.end();
-        make_room(&mut self.disk, &mut self.line, sizes, calls, end)
-    }
-
-    /// The same for a list that is spelled already.
-    ///
-    /// # Errors
-    /// [`FrameFault::Halted`], [`FrameFault::Disk`]; [`FrameFault::NoMemory`].
-    pub fn reserve_spelled(&mut self, list: &FrameList, body: usize) -> Result<(), FrameFault>
+    pub fn reserve(&mut self, list: &FrameList, body: usize) -> Result<(), FrameFault>
         requires fits { Fits self.old.shape list.now body }
         ensures same { IsSame self.old self.new }
         ensures still { Still D.Disk self.old.disk self.new.disk (result ≡ Err FrameFault.Disk) }

@@ -34,12 +34,14 @@ fn empty_frame(alloc: Global) -> Result<Frame, FrameFault>
     Ok(Frame { kind: 9, body })
 }
 
-fn two_frames(alloc: Global) -> Result<Vec<Frame>, FrameFault>
-    ensures { IfOk result (λ frames. size_of frames.items ≡ 12) }
+fn two_frames(alloc: Global) -> Result<FrameList, FrameFault>
+    ensures { IfOk result (λ list. size_of list ≡ 12) }
 {
-    let first = empty_frame(alloc)?;
-    let second = empty_frame(alloc)?;
-    Ok(vec![in alloc; first, second]?)
+    let frame = empty_frame(alloc)?;
+    let mut list = FrameList::new(alloc);
+    list.push(&frame)?;
+    list.push(&frame)?;
+    Ok(list)
 }
 
 /// Rewrites the list as two empty frames, on a disk that stops at one of its calls.
@@ -79,7 +81,7 @@ fn brought_disk(alloc: Global) -> Result<MemDisk> {
 fn bring_none<D: Disk>(alloc: Global, store: &mut FrameStore<D>) -> Result<(), FrameFault> {
     store.sync()?;
     if store.is_old() {
-        store.bring_over(&[], FrameList::with_room(alloc, 0)?)?;
+        store.bring_over(&[], FrameList::new(alloc))?;
     }
     Ok(())
 }

@@ -39,12 +39,12 @@ returns-in_err-reserve g c =
 
 -- what the answer of the list comes to, with the room that was made in memory
 made_so : (g : Over) (c : After-rewrite g) (result : Result (Unit {0}) FrameFault)
-    → ListAnswer g.D.Disk 7 c.in_ok-live.live.items None c.reserve.new.self c.rewrite.new.self result
+    → ListAnswer g.D.Disk 7 c.in_ok-live.live None c.reserve.new.self c.rewrite.new.self result
     → (let st = state_of c.args.index.now in
     Made g.D.Disk 7 None st st (λ bytes. bytes ≤ most_listed (live st)) c.args.frames.now c.rewrite.new.self (raised result))
 made_so g c result call =
     let reserved = c.in_ok-reserve.ensures in
-    reserved_made g.D.Disk g.met.D.Disk.only_now g.met.D.Disk.counts_now c.in_ok-live.live.items (state_of c.args.index.now) c.args.frames.now
+    reserved_made g.D.Disk g.met.D.Disk.only_now g.met.D.Disk.counts_now c.in_ok-live.live (state_of c.args.index.now) c.args.frames.now
     c.reserve.new.self c.rewrite.new.self _ result c.requires.store.may c.requires.store.indexed.kept c.in_ok-live.ensures.read c.in_ok-live.ensures.size
     reserved.same reserved.still reserved.read reserved.answer.halts call
 
@@ -62,14 +62,13 @@ room_so g c =
     let d = g.D.Disk in
     let mid = c.reserve.new.self in
     let new = c.rewrite.new.self in
-    let live = c.in_ok-live.live.items in
+    let live = c.in_ok-live.live in
     let call = c.in_ok-rewrite.ensures in
     let reserved = c.in_ok-reserve.ensures in
-    let size = ap size_of c.deref.ensures.value in
     let bytes = mid.shape.block + c.args.body + 7 in
     let before : HasRoom d.has_room mid (6 + 7) (bytes + (size_of live + 34)) (c.args.body + 6) =
-    room_less d.has_room g.met.D.Disk.room_for_less mid _ _ _ _ _ _ (omega arith) (omega (arith, size, ap (λ (s : Shape). s.block) reserved.same.shape))
-    (omega arith) (ahead_new d.has_room mid c.deref.result.now c.args.body (reserved_new c.args.frames.now mid c.requires.store.may.slotted reserved.same)
+    room_less d.has_room g.met.D.Disk.room_for_less mid _ _ _ _ _ _ (omega arith) (omega (arith, ap (λ (s : Shape). s.block) reserved.same.shape))
+    (omega arith) (ahead_new d.has_room mid live c.args.body (reserved_new c.args.frames.now mid c.requires.store.may.slotted reserved.same)
     reserved.room) in
     room_less d.has_room g.met.D.Disk.room_for_less new _ _ _ _ _ _ (omega arith) (omega (arith, ap (λ (s : Shape). s.block) call.ok.shape)) (omega arith)
     (call.left 6 bytes (c.args.body + 6) before)

@@ -1,5 +1,5 @@
 -- A list that can be appended to needs nothing but room in memory and a sync.
-use Rattle.std.proofs.Common.{rules, ◌≡◌, ◌≤◌, ◌∙◌, Bool, List, [], true, false, if◌then◌else◌, Ok, sym, ap, subst, arith}
+use Rattle.std.proofs.Common.{rules, ◌≡◌, ◌≤◌, ◌∙◌, Bool, List, true, false, if◌then◌else◌, Ok, sym, ap, subst, arith}
 use Rattle.std.proofs.lemmas.Result.{err_from_is_err_and}
 use Rattle.frame_store.specs.declared.faults.FrameFault.{FrameFault}
 use Rattle.frame_store.specs.declared.faults.FrameFault.TheVariants as frames
@@ -30,9 +30,10 @@ returns-then-is_appendable-clause-room g c =
     let mid = c.reserve.new.self in
     let made = c.in_ok-reserve.ensures in
     let call = c.in_ok-sync.ensures in
+    let none : size_of c.new-none.result ≡ 0 = ap size_of c.new-none.ensures in
     room_less g.D.Disk.has_room g.met.D.Disk.room_for_less c.sync.new.self _ _ _ _ _ _ (omega arith)
-    (omega (arith, ap (λ (s : Shape). s.block) call.same.shape)) (omega arith) (call.left 12 _ _
-    (ahead_new g.D.Disk.has_room mid [] c.args.body (reserved_new c.args.frames.now mid c.requires.held.slotted made.same) made.room))
+    (omega (arith, none, ap (λ (s : Shape). s.block) call.same.shape)) (omega (arith, none)) (call.left 12 _ _
+    (ahead_new g.D.Disk.has_room mid _ c.args.body (reserved_new c.args.frames.now mid c.requires.held.slotted made.same) made.room))
 
 pub returns-then-is_appendable-clause-listed : goal.returns-then-is_appendable-clause-listed
 returns-then-is_appendable-clause-listed g c =

@@ -31,9 +31,9 @@ use Rattle.brick_store.proofs.fresh_lists.renew.Goals.{After-rewrite}
 use Rattle.brick_store.proofs.fresh_lists.renew.Goals as goal
 
 -- the frames of the live records lead to the state
-leads : (g : Over) (c : After-rewrite g) → Leads (limits_of c.args.frames.now.shape) c.in_ok-live.live.items empty (state_of c.args.index.now)
+leads : (g : Over) (c : After-rewrite g) → Leads (limits_of c.args.frames.now.shape) c.in_ok-live.live empty (state_of c.args.index.now)
 leads g c =
-    live_lead (limits_of c.args.frames.now.shape) c.in_ok-live.live.items (state_of c.args.index.now) c.requires.held.kept c.in_ok-live.ensures.read
+    live_lead (limits_of c.args.frames.now.shape) c.in_ok-live.live (state_of c.args.index.now) c.requires.held.kept c.in_ok-live.ensures.read
 
 -- how the store was left by the sync
 synced : (g : Over) (c : After-rewrite g) → IsSynced g.D.Disk c.args.frames.now c.reserve.new.self c.sync.new.self
@@ -56,14 +56,14 @@ synced g c =
 -- the room that is left for the rewriting and for an append
 ahead : (g : Over) (c : After-rewrite g)
     → HasRoom g.D.Disk.has_room c.sync.new.self 12
-    (c.sync.new.self.shape.block + c.args.body + 7 + (size_of c.in_ok-live.live.items + 34))
-    (max (size_of c.in_ok-live.live.items + 1) (c.args.body + 6))
+    (c.sync.new.self.shape.block + c.args.body + 7 + (size_of c.in_ok-live.live + 34))
+    (max (size_of c.in_ok-live.live + 1) (c.args.body + 6))
 ahead g c =
     let made = c.in_ok-reserve.ensures in
     room_less g.D.Disk.has_room g.met.D.Disk.room_for_less c.sync.new.self _ _ _ _ _ _ (omega arith)
-    (omega (arith, ap size_of c.deref.ensures.value, ap (λ (s : Shape). s.block) c.in_ok-sync.ensures.same.shape))
-    (omega (arith, ap size_of c.deref.ensures.value))
-    (c.in_ok-sync.ensures.left 12 _ _ (ahead_new g.D.Disk.has_room c.reserve.new.self c.deref.result.now c.args.body
+    (omega (arith, ap (λ (s : Shape). s.block) c.in_ok-sync.ensures.same.shape))
+    (omega arith)
+    (c.in_ok-sync.ensures.left 12 _ _ (ahead_new g.D.Disk.has_room c.reserve.new.self c.in_ok-live.live c.args.body
     (reserved_new c.args.frames.now c.reserve.new.self c.requires.held.slotted made.same) made.room))
 
 -- ---- made ready, or not
@@ -99,17 +99,17 @@ returns-in_err-rewrite-clause-readies g c =
     let at = (goal.at.returns-in_err-rewrite-clause-readies g c).After-rewrite in
     let never = call.room (room_less g.D.Disk.has_room g.met.D.Disk.room_for_less held _ _ _ _ _ _ (omega arith) (omega arith) (omega arith) (ahead g at)) in
     let is : f ≡ frames.Disk = disk_failed f held.halted (synced g at).runs call.answer.only_then never in
-    let change = subst (λ (fault : FrameFault). ListChange g.D.Disk 7 held c.in_ok-live.live.items None c.rewrite.new.self.disk
+    let change = subst (λ (fault : FrameFault). ListChange g.D.Disk 7 held c.in_ok-live.live None c.rewrite.new.self.disk
     (lists.end_of (refused fault))) is call.change in
     let p = err_from_is_err_and c.from_residual-in_err-rewrite.result c.from_residual-in_err-rewrite.ensures.1 in
     rw (p.1, p.2, is) (rewritten_ready g.D.Disk g.met.D.Disk.only_now (state_of c.args.index.now) c.args.frames.now _ c.requires.held c.reserve.new.self held
-    c.rewrite.new.self.disk c.in_ok-live.live.items Cut (synced g at) (leads g at) (λ whole cut. cut refl) (λ is. absurd cc) change)
+    c.rewrite.new.self.disk c.in_ok-live.live Cut (synced g at) (leads g at) (λ whole cut. cut refl) (λ is. absurd cc) change)
 
 pub returns-clause-readies : goal.returns-clause-readies
 returns-clause-readies g c =
     let at = (goal.at.returns-clause-readies g c).After-rewrite in
     rewritten_ready g.D.Disk g.met.D.Disk.only_now (state_of c.args.index.now) c.args.frames.now _ c.requires.held c.reserve.new.self c.sync.new.self
-    c.rewrite.new.self.disk c.in_ok-live.live.items Whole (synced g at) (leads g at) (λ whole cut. whole refl) (λ is. absurd cc) c.in_ok-rewrite.ensures.change
+    c.rewrite.new.self.disk c.in_ok-live.live Whole (synced g at) (leads g at) (λ whole cut. whole refl) (λ is. absurd cc) c.in_ok-rewrite.ensures.change
 
 pub returns-clause-may : goal.returns-clause-may
 returns-clause-may g c =
@@ -130,7 +130,7 @@ pub returns-clause-room : goal.returns-clause-room
 returns-clause-room g c =
     let mid = c.sync.new.self in
     let call = c.in_ok-rewrite.ensures in
-    let before : HasRoom g.D.Disk.has_room mid (5 + 7) (mid.shape.block + c.args.body + 7 + (size_of c.in_ok-live.live.items + 34)) (c.args.body + 6) =
+    let before : HasRoom g.D.Disk.has_room mid (5 + 7) (mid.shape.block + c.args.body + 7 + (size_of c.in_ok-live.live + 34)) (c.args.body + 6) =
     room_less g.D.Disk.has_room g.met.D.Disk.room_for_less mid _ _ _ _ _ _ (omega arith) (omega arith) (omega arith)
     (ahead g (goal.at.returns-clause-room g c).After-rewrite) in
     room_less g.D.Disk.has_room g.met.D.Disk.room_for_less c.rewrite.new.self _ _ _ _ _ _ (omega arith)

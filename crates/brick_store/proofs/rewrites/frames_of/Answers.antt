@@ -28,10 +28,10 @@ loop-item-preserved c =
     let k = c.loop-item.item-index in
     let r = c.item-item.result in
     let frame = c.in_ok-frame.frame in
-    let done = c.loop-item.frames.items in
-    let now = c.push.new.self.items in
+    let done = c.loop-item.frames in
+    let now = c.push.new.self in
     let left = left_is rs k r c.loop-item-test.true c.item-item.is in
-    let pushed : now ≡ done ++ frame ∷ [] = c.in_ok-push.ensures.items in
+    let pushed : now ≡ done ++ frame ∷ [] = c.in_ok-push.ensures in
     let rest = map Some (drop (k + 1) rs) in
     let all = subst (λ (xs : List Record). AllByRecursion RecordHasMembers xs) left c.loop-item.invariant.members in
     record {

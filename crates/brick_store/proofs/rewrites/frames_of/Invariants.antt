@@ -8,7 +8,7 @@ use Rattle.brick_store.proofs.rewrites.frames_of.Given as goal
 
 abbrev pub invariant-loop-item : goal.invariant-loop-item
 invariant-loop-item l = record {
-  read : map record_of l.frames.items ++ map Some (drop l.item-index l.records) ≡ map Some l.records;
-  size : size_of l.frames.items + most_of (drop l.item-index l.records) ≤ most_of l.records;
+  read : map record_of l.frames ++ map Some (drop l.item-index l.records) ≡ map Some l.records;
+  size : size_of l.frames + most_of (drop l.item-index l.records) ≤ most_of l.records;
   members : AllByRecursion RecordHasMembers (drop l.item-index l.records);
 }

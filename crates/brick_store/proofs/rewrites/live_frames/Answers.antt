@@ -22,7 +22,7 @@ returns-clause-size c =
     let st = state_of c.args.index.now in
     let are : c.deref.result.now ≡ live_records st = c.deref.ensures.value ∙ c.in_ok-records.ensures in
     let few = live_most st c.requires.kept.all_groups in
-    if_ok c.frames_of.result (λ frames. size_of frames.items ≤ most_of c.deref.result.now) (λ frames. size_of frames.items ≤ 15690 + 41 * live st)
+    if_ok c.frames_of.result (λ frames. size_of frames ≤ most_of c.deref.result.now) (λ frames. size_of frames ≤ 15690 + 41 * live st)
     (λ frames h. omega (arith, h, ap most_of are, few)) c.frames_of.ensures.size
 
 pub frames_of-requires : goal.frames_of-requires

@@ -45,12 +45,12 @@ comes g c = record {
 }
 
 -- how it was left by the sync
-synced : (g : Over) (c : After-bring_over g) → IsSynced g.D.Disk c.args.frames.now c.reserve_spelled.new.self c.sync.new.self
+synced : (g : Over) (c : After-bring_over g) → IsSynced g.D.Disk c.args.frames.now c.reserve.new.self c.sync.new.self
 synced g c =
-    let made = c.in_ok-reserve_spelled.ensures in
+    let made = c.in_ok-reserve.ensures in
     let call = c.in_ok-sync.ensures in
     record {
-      same = same_both c.args.frames.now c.reserve_spelled.new.self c.sync.new.self made.same call.same;
+      same = same_both c.args.frames.now c.reserve.new.self c.sync.new.self made.same call.same;
       runs = call.answer.halts ∙ made.answer.halts ∙ c.requires.runs;
       still = made.still;
       content = call.content;
@@ -68,11 +68,11 @@ ahead : (g : Over) (c : After-bring_over g)
     (c.sync.new.self.shape.block + c.len.result + 7 + (length c.args.blocks.now + (size_of c.args.listed + 34)))
     (max (size_of c.args.listed + 1) (c.len.result + 6))
 ahead g c =
-    let made = c.in_ok-reserve_spelled.ensures in
+    let made = c.in_ok-reserve.ensures in
     let are = subst (λ (s : Shape). AreBlocks s (length c.args.listed) c.args.blocks.now) (sym made.same.shape) c.requires.blocks in
     room_less g.D.Disk.has_room g.met.D.Disk.room_for_less c.sync.new.self _ _ _ _ _ _ (omega arith)
     (omega (arith, ap (λ (s : Shape). s.block) c.in_ok-sync.ensures.same.shape)) (omega arith)
-    (c.in_ok-sync.ensures.left 13 _ _ (ahead_old g.D.Disk.has_room g.met.D.Disk.room_for_less c.reserve_spelled.new.self c.args.listed c.len.result
+    (c.in_ok-sync.ensures.left 13 _ _ (ahead_old g.D.Disk.has_room g.met.D.Disk.room_for_less c.reserve.new.self c.args.listed c.len.result
     c.args.blocks.now (subst (λ (s : Shape). is_old s ≡ true) (sym made.same.shape) c.requires.old) are made.room))
 
 -- once it was brought over, it can be changed
@@ -90,21 +90,21 @@ returns-in_err-frame-clause-starts g c =
     let p = err_from_is_err_and c.from_residual.result c.from_residual.ensures.1 in
     rw (p.1, p.2) (untouched_over g.D.Disk g.met.D.Disk.only_now g.met.D.Disk.counts_now c.args.frames.now c.requires.old)
 
-pub returns-in_err-reserve_spelled-clause-starts : goal.returns-in_err-reserve_spelled-clause-starts
-returns-in_err-reserve_spelled-clause-starts g c =
-    let f = c.in_err-reserve_spelled.field-0.0 in
-    let p = err_from_is_err_and c.from_residual-in_err-reserve_spelled.result c.from_residual-in_err-reserve_spelled.ensures.1 in
-    rw (p.1, p.2) (refused_over g.D.Disk g.met.D.Disk.only_now g.met.D.Disk.counts_now c.args.frames.now c.requires.old c.reserve_spelled.new.self.disk
-    (end_of (refused (fault_of f))) (refused f ≡ refused frames.Disk) (not_whole (fault_of f)) (cut_means f) c.in_err-reserve_spelled.ensures.still)
+pub returns-in_err-reserve-clause-starts : goal.returns-in_err-reserve-clause-starts
+returns-in_err-reserve-clause-starts g c =
+    let f = c.in_err-reserve.field-0.0 in
+    let p = err_from_is_err_and c.from_residual-in_err-reserve.result c.from_residual-in_err-reserve.ensures.1 in
+    rw (p.1, p.2) (refused_over g.D.Disk g.met.D.Disk.only_now g.met.D.Disk.counts_now c.args.frames.now c.requires.old c.reserve.new.self.disk
+    (end_of (refused (fault_of f))) (refused f ≡ refused frames.Disk) (not_whole (fault_of f)) (cut_means f) c.in_err-reserve.ensures.still)
 
 pub returns-in_err-sync-clause-starts : goal.returns-in_err-sync-clause-starts
 returns-in_err-sync-clause-starts g c =
     let f = c.in_err-sync.field-0.0 in
-    let made = c.in_ok-reserve_spelled.ensures in
+    let made = c.in_ok-reserve.ensures in
     let call = c.in_err-sync.ensures in
     let few = few_boots (cut_block c.args.frames.now.shape.block c.args.blocks.now) (state_of c.args.index.now) _ c.requires.state c.requires.boots in
     let p = err_from_is_err_and c.from_residual-in_err-sync.result c.from_residual-in_err-sync.ensures.1 in
-    rw (p.1, p.2) (sync_over g.D.Disk g.met.D.Disk.only_now g.met.D.Disk.counts_now c.args.frames.now c.requires.old c.reserve_spelled.new.self.disk _ made.still few
+    rw (p.1, p.2) (sync_over g.D.Disk g.met.D.Disk.only_now g.met.D.Disk.counts_now c.args.frames.now c.requires.old c.reserve.new.self.disk _ made.still few
     c.sync.new.self.disk f (λ told. c.requires.read told c.requires.runs) made.certain call.content call.certain call.crash call.time call.run
     (λ is. call.no_memory (ap (refused {E = FrameFault}) is))
     (λ is. halted_not (sym (call.answer.only_then (ap (refused {E = FrameFault}) is)) ∙ made.answer.halts ∙ c.requires.runs)) call.cause)

@@ -31,7 +31,7 @@ start_at : (g : Over) (c : After-deref g) → c.slot_at-start.result ≡ slot_at
 start_at g c = c.slot_at-start.ensures ∙ ap (λ (s : Shape). slot_at s 0) c.formed-shape.ensures
 
 line_is : (g : Over) (c : After-deref g) → c.deref.result.now ≡ closed_list c.args.frames
-line_is g c = c.deref.ensures.value ∙ c.in_ok-stage_spelled.ensures.line
+line_is g c = c.deref.ensures.value ∙ c.in_ok-stage_list.ensures.line
 
 -- blocks, list and header lie below the store's end
 within : (g : Over) (c : After-deref g) → Within c.self.inside.shape c.self.inside.half c.args.frames c.args.blocks.now
@@ -55,20 +55,20 @@ short g c =
 -- what the blocks and the list make of the store, however it ended
 made : (g : Over) (c : After-bring_gated g) (end : End)
     → BringRun g.D.Disk c.header_at-gate.result c.closing-shut.result.now c.slot_at-start.result c.args.blocks.now c.half_at-at.result
-    c.deref.result.now c.header_rest-rest.result c.stage_spelled.new.disk c.bring_gated.new.disk end
+    c.deref.result.now c.header_rest-rest.result c.stage_list.new.disk c.bring_gated.new.disk end
     → Comes g.D.Disk (other c.self.inside.half) (next_of c.self.inside.generation) (length c.deref.result.now - 1)
     (max c.self.inside.size (c.half_at-at.result + length c.deref.result.now)) c.args.frames c.args.blocks.now c.self.inside.shape
     c.args.self.now c.bring_gated.new.disk end
 made g c end run =
     let x = c.self.inside in
     came g.D.Disk g.met.D.Disk.only_now g.met.D.Disk.counts_now x.half x.generation x.other_shut x.used _ c.args.self.now
-    c.stage_spelled.new.disk c.bring_gated.new.disk end c.self.view_is c.self.invariant.0 c.self.invariant.1 c.if-self.false c.requires.old
-    c.stage_spelled.ensures.still c.args.frames c.args.blocks.now c.requires.fits c.requires.blocks (omega arith)
+    c.stage_list.new.disk c.bring_gated.new.disk end c.self.view_is c.self.invariant.0 c.self.invariant.1 c.if-self.false c.requires.old
+    c.stage_list.ensures.still c.args.frames c.args.blocks.now c.requires.fits c.requires.blocks (omega arith)
     c.header_at-gate.result c.slot_at-start.result c.half_at-at.result c.closing-shut.result.now c.header_rest-rest.result c.deref.result.now
     (c.header_at-gate.ensures ∙ ap header_at c.other-other.ensures) (c.slot_at-start.ensures ∙ ap (λ (s : Shape). slot_at s 0) c.formed-shape.ensures)
     (c.half_at-at.ensures ∙ ap (half_at c.formed-shape.result) c.other-other.ensures ∙ ap (λ (s : Shape). half_at s (other x.half)) c.formed-shape.ensures)
     c.closing-shut.ensures (c.header_rest-rest.ensures ∙ ap (λ (s : Shape). header_rest s (next_of x.generation)) c.formed-shape.ensures)
-    (c.deref.ensures.value ∙ c.in_ok-stage_spelled.ensures.line) run
+    (c.deref.ensures.value ∙ c.in_ok-stage_list.ensures.line) run
 
 -- the new list is laid in the other half of the index, and counted
 pub invariant_of-self-in-Ok : goal.invariant_of-self-in-Ok
@@ -111,18 +111,18 @@ pub returns-in-Err-clause-change : goal.returns-in-Err-clause-change
 returns-in-Err-clause-change g c =
     (made g (goal.at.returns-in-Err-clause-change g c).After-bring_gated _ c.in-Err.ensures.change).change
 
-pub returns-in_err-stage_spelled-clause-change : goal.returns-in_err-stage_spelled-clause-change
-returns-in_err-stage_spelled-clause-change g c =
+pub returns-in_err-stage_list-clause-change : goal.returns-in_err-stage_list-clause-change
+returns-in_err-stage_list-clause-change g c =
     let d = g.D.Disk in
     let s = c.args.self.now in
-    of_refused (BringsOver d s c.args.frames c.args.blocks.now c.stage_spelled.new.disk) c.from_residual.result (search rules)
-    (still d g.met.D.Disk.only_now (OpensAs s.shape s.frames true) _ (λ image is. inl is) s.disk c.stage_spelled.new.disk ⊥
-    (subst (λ (s : Held g.row.D.Denot). Still d s.disk c.stage_spelled.new.disk ⊥) c.self.view_is c.stage_spelled.ensures.still) 8
+    of_refused (BringsOver d s c.args.frames c.args.blocks.now c.stage_list.new.disk) c.from_residual.result (search rules)
+    (still d g.met.D.Disk.only_now (OpensAs s.shape s.frames true) _ (λ image is. inl is) s.disk c.stage_list.new.disk ⊥
+    (subst (λ (s : Held g.row.D.Denot). Still d s.disk c.stage_list.new.disk ⊥) c.self.view_is c.stage_list.ensures.still) 8
     (IsBroughtOver s.shape c.args.frames c.args.blocks.now))
 
 -- the blocks are few
-pub stage_spelled-requires-clause-few : goal.stage_spelled-requires-clause-few
-stage_spelled-requires-clause-few g c =
+pub stage_list-requires-clause-few : goal.stage_list-requires-clause-few
+stage_list-requires-clause-few g c =
     omega (arith, brought_few _ c.args.self.now c.args.frames c.args.blocks.now c.self.view_is c.self.invariant.0.limits c.requires.blocks)
 
 pub overflow_add-at : goal.overflow_add-at
@@ -152,9 +152,9 @@ bring_gated-requires g c =
       blocks = omega (arith, c.end-end.ensures, start_at g d, below.blocks_below);
       list = omega (arith, c.end-end.ensures, list_at g d, ap length (line_is g d), length-closed_list c.args.frames, below.list_below);
       rest = omega (arith, c.end-end.ensures, gate_is, header_within (other x.half), below.headers_below);
-      room = g.met.D.Disk.room_for_less c.stage_spelled.new.disk 8 (length c.args.blocks.now + (size_of c.args.frames + 34)) c.end-end.result 8
+      room = g.met.D.Disk.room_for_less c.stage_list.new.disk 8 (length c.args.blocks.now + (size_of c.args.frames + 34)) c.end-end.result 8
           (length c.closing-shut.result.now + (length c.args.blocks.now + (length c.deref.result.now + length c.header_rest-rest.result) + 1))
-          c.end-end.result (omega arith) (omega (arith, short g d)) (omega arith) c.in_ok-stage_spelled.ensures.made;
+          c.end-end.result (omega arith) (omega (arith, short g d)) (omega arith) c.in_ok-stage_list.ensures.made;
     }
 
 -- what room there was beyond the call is left
@@ -165,12 +165,12 @@ returns-in-Ok-clause-left g c = λ calls bytes written had.
     let room = length c.args.blocks.now + (size_of c.args.frames + 34) in
     let all = length c.closing-shut.result.now + (length c.args.blocks.now + (length c.deref.result.now + length c.header_rest-rest.result) + 1) in
     let before = subst (λ (s : Held g.row.D.Denot). HasRoom g.D.Disk.has_room s (calls + 8) (bytes + room) written) (sym c.self.view_is) had in
-    let less = g.met.D.Disk.room_for_less c.stage_spelled.new.disk (calls + 8) (bytes + room) end (calls + 8) (bytes + all) end (omega arith)
-    (omega (arith, short g d)) (omega arith) (c.stage_spelled.ensures.room (calls + 8) (bytes + room) end before.disk) in
+    let less = g.met.D.Disk.room_for_less c.stage_list.new.disk (calls + 8) (bytes + room) end (calls + 8) (bytes + all) end (omega arith)
+    (omega (arith, short g d)) (omega arith) (c.stage_list.ensures.room (calls + 8) (bytes + room) end before.disk) in
     let left = c.in-Ok.ensures.left calls bytes
-    (subst (λ (e : ℕ). g.D.Disk.has_room c.stage_spelled.new.disk (calls + 8) (bytes + all) e) (sym c.end-end.ensures) less) in
+    (subst (λ (e : ℕ). g.D.Disk.has_room c.stage_list.new.disk (calls + 8) (bytes + all) e) (sym c.end-end.ensures) less) in
     record {
       disk = subst (λ (e : ℕ). g.D.Disk.has_room c.bring_gated.new.disk calls bytes e) (c.end-end.ensures ∙ (within g d).end_is
           ∙ ap store_end (sym c.formed-shape.ensures)) left;
-      line = omega (arith, before.line, c.stage_spelled.ensures.wide);
+      line = omega (arith, before.line, c.stage_list.ensures.wide);
     }
