@@ -15,7 +15,6 @@ use Rattle.fab_disk.specs.Changing.{Stands}
 use Rattle.frame_store.specs.declared.shapes.Form.{Form}
 use Rattle.frame_store.specs.declared.shapes.Form.TheVariants.{New}
 use Rattle.frame_store.specs.Images.{OpensAs}
-use Rattle.frame_store.specs.declared.frames.Frame.{Frame}
 use Rattle.frame_store.specs.Layouts.{formed, is_old_form}
 use Rattle.frame_store.specs.Stores.{Held}
 use Rattle.frame_store.proofs.Openings.{opens_in_one_form}

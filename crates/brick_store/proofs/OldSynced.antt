@@ -6,20 +6,20 @@ use Rattle.frame_store.specs.declared.frames.Frame.{Frame}
 use Rattle.frame_store.specs.declared.shapes.Form.TheVariants.{New, Moved}
 use Rattle.frame_store.specs.declared.shapes.Shape.{Shape}
 use Rattle.frame_store.specs.Ends.{BringsOver}
-use Rattle.frame_store.specs.Images.{AreBlocks, IsBroughtOver, KeepsSlots, OpensAs}
-use Rattle.frame_store.specs.Layouts.{IsShape, formed, is_old}
+use Rattle.frame_store.specs.Images.{IsBroughtOver, KeepsSlots, OpensAs}
+use Rattle.frame_store.specs.Layouts.{formed}
 use Rattle.frame_store.specs.Stores.{HasCome, Held, IsRead}
 use Rattle.version_log.specs.Versions.{Version}
 use Rattle.brick_state.specs.Entries.{Entry}
-use Rattle.brick_state.specs.States.{StateOf, booted, empty}
+use Rattle.brick_state.specs.States.{StateOf, booted}
 use Rattle.brick_store.specs.declared.faults.StoreFault.{StoreFault}
 use Rattle.brick_store.specs.Blocks.{resolved}
 use Rattle.brick_store.specs.BringingOver.{IsAmong, LiesIn, cut_block}
 use Rattle.brick_store.specs.Ends.{StateChange, end_of}
-use Rattle.brick_store.specs.Images.{StandsFor, limits_of}
-use Rattle.brick_store.specs.OldLists.{old_state_in}
+use Rattle.brick_store.specs.Images.{StandsFor}
 use Rattle.brick_store.specs.Openings.{StartsOver}
-use Rattle.brick_store.specs.Standing.{AllSlots, Leads}
+use Rattle.brick_store.specs.ReadStores.{KeepsOldState, old_state_of}
+use Rattle.brick_store.specs.Standing.{AllSlots}
 use Rattle.brick_store.specs.Steps.{CanChange, LeadsTo}
 use Rattle.brick_store.proofs.BootCounts.{count_change, count_stands}
 use Rattle.brick_store.proofs.OldStarts.{after_over, bring_cut, count_over, few_boots, lies, may_over, moved_stands}
@@ -29,23 +29,13 @@ use Rattle.brick_store.proofs.StateChanges.{slots_after}
 use Rattle.brick_store.proofs.Stepping.{slots_same}
 use Rattle.brick_store.proofs.Synced.{IsSynced}
 
--- what an old store is brought over to: these frames and blocks stand for the state that its own frames make
-pub record ComesTo {D : Type 0} (old : Held D) (listed : List Frame) (blocks : List ℕ) (st : StateOf Entry) : Type 0 where
-  pub old_form : is_old old.shape ≡ true
-  pub shape : IsShape old.shape
-  pub are : AreBlocks old.shape (length listed) blocks
-  pub leads : Leads (limits_of old.shape) listed empty st
-  pub slots : AllSlots (IsAmong old.shape.block (length blocks)) st
-  pub state : resolved (cut_block old.shape.block blocks) st ≡ old_state_in old.shape.block old.shape.records old.frames
-  pub boots : st.boot < 4294967295
-
 on_each : {E P Q : Type 0} (r : Result (Unit {0}) E) → OnOk r P → (P → Q) → OnOk r Q
 on_each (Ok value) is then = then is
 on_each (Err fault) is then = tt
 
-module _ {D : Type 0} (old : Held D) (listed : List Frame) (blocks : List ℕ) (st : StateOf Entry) (to : ComesTo old listed blocks st) where
+module _ {D : Type 0} (old : Held D) (listed : List Frame) (blocks : List ℕ) (st : StateOf Entry) (to : KeepsOldState old listed blocks st) where
   abbrev before : StateOf Version
-  before = old_state_in old.shape.block old.shape.records old.frames
+  before = old_state_of old
 
   abbrev moved : Shape
   moved = formed Moved old.shape
@@ -111,7 +101,7 @@ module _ {D : Type 0} (old : Held D) (listed : List Frame) (blocks : List ℕ) (
       -- its bringing over was cut short
       pub cut_synced : (new : D) → BringsOver d held listed blocks new Cut → StartsOver d before old new Cut
       cut_synced new change =
-          bring_cut d only_now counts old to.old_form mid.disk _ synced.still few_before held.disk _ _ refl synced.time synced.crash synced.run
+          bring_cut d only_now counts old to.form mid.disk _ synced.still few_before held.disk _ _ refl synced.time synced.crash synced.run
           synced.cause old_stands (IsBroughtOver old.shape listed blocks) brought_stands new (brought new Cut change)
 
       -- it was brought over, and its opening was counted or that was cut short
@@ -119,7 +109,7 @@ module _ {D : Type 0} (old : Held D) (listed : List Frame) (blocks : List ℕ) (
           → BringsOver d held listed blocks over.disk Whole → after ≡ booted (st.boot + 1) st → StateChange d 4 over None st after new end
           → ((end ≡ Whole → ⊥) → (end ≡ Cut → ⊥) → ⊥) × (end ≡ NotBegun → ⊥) → StartsOver d before old new end
       count_synced over after new end came may change is count ends =
-          count_over d only_now counts old to.old_form mid.disk _ synced.still few_before held.disk _ _ refl synced.time synced.crash synced.run
+          count_over d only_now counts old to.form mid.disk _ synced.still few_before held.disk _ _ refl synced.time synced.crash synced.run
           synced.cause old_stands (IsBroughtOver old.shape listed blocks) brought_stands over.disk new end _ _ (brought over.disk Whole change)
           (count_change d moved st over (over_shape over came change) after (booted (st.boot + 1) st) new end is count)
           (λ told image at. subst (λ (s : StateOf Version). StandsFor (formed New old.shape) s image) to.state

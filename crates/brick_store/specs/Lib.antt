@@ -9,6 +9,7 @@ pub mod Images
 pub mod Bricks
 pub mod Standing
 pub mod Openings
+pub mod ReadStores
 pub mod Steps
 pub mod Calls
 pub mod Changes

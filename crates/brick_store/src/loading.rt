@@ -3,12 +3,11 @@
 ghost use Rattle.std.specs.Prelude.{◌≡◌, ◌≢◌, ◌-◌, ◌^◌, false, Err, IfOk, IsOk};
 ghost use Rattle.fab_disk.specs.Disk.{IsUntouched, Kept};
 ghost use Rattle.fab_disk.specs.Plan.{KeepsPlan};
-ghost use Rattle.frame_store.specs.Stores.{IsRead, IsSame};
-ghost use Rattle.frame_store.specs.Layouts.{IsShape, is_old};
+ghost use Rattle.frame_store.specs.Stores.{IsSame};
 ghost use Rattle.brick_state.specs.Indexes.{state_of};
 ghost use Rattle.brick_state.specs.Indexes as indexes;
-ghost use Rattle.brick_store.specs.Images.{limits_of};
-ghost use Rattle.brick_store.specs.Openings.{IsFold, IsLoaded};
+ghost use Rattle.brick_store.specs.Openings.{IsLoaded};
+ghost use Rattle.brick_store.specs.ReadStores.{IsFoldedFrom};
 
 use crate::block_tables::BlockTable;
 use crate::caches::read_blocks;
@@ -24,15 +23,8 @@ pub(crate) fn load<D: Disk>(
     alloc: Global,
     frames: &mut FrameStore<D>,
     folded: &Folded,
-    block: u16,
 ) -> Result<BlockTable, OpenFault>
-    requires shape { IsShape frames.old.shape }
-    requires new { is_old frames.old.shape ≡ false }
-    requires block { block ≡ frames.old.shape.block }
-    requires limits { indexes.limits_of folded.now.index ≡ limits_of frames.old.shape }
-    requires fold { IsFold (limits_of frames.old.shape) frames.old.frames (state_of folded.now.index) folded.now.whole }
-    requires runs { frames.old.halted ≡ false }
-    requires read { IsRead D.tells D.seen frames.old }
+    requires folded { IsFoldedFrom D.Disk false frames.old folded.now }
     ensures loaded { IfOk result (λ blocks. IsLoaded D.tells frames.old.shape frames.old.frames (D.seen frames.old.disk)
         (indexes.limits_of folded.now.index) (state_of folded.now.index) folded.now.whole blocks) }
     ensures same { IsSame frames.old frames.new }
@@ -48,5 +40,5 @@ pub(crate) fn load<D: Disk>(
     if folded.index.boot() == 4294967295 {
         return Err(OpenFault::Worn);
     }
-    read_blocks(alloc, frames, &folded.index, block)
+    read_blocks(alloc, frames, &folded.index, folded.sizes.block)
 }

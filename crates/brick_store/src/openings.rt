@@ -3,17 +3,15 @@
 ghost use Rattle.std.specs.Prelude.{◌≡◌, ◌≢◌, ◌+◌, ◌-◌, ◌<◌, ◌≤◌, ◌^◌, true, false, IfOk, IfErr};
 ghost use Rattle.fab_disk.specs.Changing.{Stands};
 ghost use Rattle.frame_store.specs.declared.shapes.Form.TheVariants.{New};
-ghost use Rattle.frame_store.specs.Layouts.{IsShape, shape_of, formed, is_old};
+ghost use Rattle.frame_store.specs.Layouts.{shape_of, formed};
 ghost use Rattle.frame_store.specs.Listed.{size_of};
-ghost use Rattle.frame_store.specs.Stores.{IsRead};
 ghost use Rattle.frame_store.specs.Images.{IsNoStore};
 ghost use Rattle.brick_state.specs.States.{booted, live};
-ghost use Rattle.brick_state.specs.Indexes.{state_of, limits_of};
 ghost use Rattle.brick_store.specs.Lengths.{IsAppended};
-ghost use Rattle.brick_store.specs.OldLists.{old_state_in};
 ghost use Rattle.brick_store.specs.Sizes.{boot_size};
 ghost use Rattle.brick_store.specs.Images.{StandsFor};
-ghost use Rattle.brick_store.specs.Openings.{disk_in, end_in, IsCounted, IsListedOnOpening, IsWornOut, Makes, Opens, StartsOver};
+ghost use Rattle.brick_store.specs.Openings.{disk_in, end_in, IsCounted, IsListedOnOpening, IsWornOut, Opens, StartsOver};
+ghost use Rattle.brick_store.specs.ReadStores.{IsFoldedFrom, old_state_of};
 
 use crate::faults::OpenFault;
 use crate::readings::Folded;
@@ -66,7 +64,7 @@ pub fn open_store<D: Disk>(
     if frames.is_old() {
         return open_over(alloc, frames, folded);
     }
-    match take_up(alloc, &mut frames, folded, block) {
+    match take_up(alloc, &mut frames, folded) {
         Ok(taken) => Ok(BrickStore {
             alloc,
             frames,
@@ -84,21 +82,15 @@ fn open_over<D: Disk>(
     frames: FrameStore<D>,
     folded: Folded,
 ) -> Result<BrickStore<D>, (OpenFault, D)>
-    requires shape { IsShape frames.shape }
-    requires old { is_old frames.shape ≡ true }
-    requires block { folded.sizes.block ≡ frames.shape.block }
-    requires records { folded.sizes.records ≡ frames.shape.records }
-    requires fold { Makes frames.shape.block frames.shape.records true frames.frames (limits_of folded.index) (state_of folded.index) folded.blocks folded.whole }
-    requires runs { frames.halted ≡ false }
-    requires read { IsRead D.tells D.seen frames }
+    requires folded { IsFoldedFrom D.Disk true frames folded }
     ensures shape { IfOk result (λ store. store.shape ≡ formed New frames.shape) }
     ensures runs { IfOk result (λ store. store.halted ≡ false) }
-    ensures state { let st = old_state_in frames.shape.block frames.shape.records frames.frames in IfOk result (λ store. store.state ≡ booted (st.boot + 1) st) }
-    ensures boots { IfOk result (λ store. (old_state_in frames.shape.block frames.shape.records frames.frames).boot < 2 ^ 32 - 1) }
+    ensures state { let st = old_state_of frames in IfOk result (λ store. store.state ≡ booted (st.boot + 1) st) }
+    ensures boots { IfOk result (λ store. (old_state_of frames).boot < 2 ^ 32 - 1) }
     ensures stands { IfOk result (λ store. D.tells → Stands D.Disk (StandsFor store.shape store.state) store.disk) }
-    ensures listed { IfOk result (λ store. IsAppended false (live (old_state_in frames.shape.block frames.shape.records frames.frames)) (size_of frames.frames) boot_size store.listed) }
-    ensures starts { StartsOver D.Disk (old_state_in frames.shape.block frames.shape.records frames.frames) frames (disk_in result) (end_in result) }
-    ensures worn { IfErr result (λ e. e.0 ≡ OpenFault.Worn → (old_state_in frames.shape.block frames.shape.records frames.frames).boot ≡ 2 ^ 32 - 1) }
+    ensures listed { IfOk result (λ store. IsAppended false (live (old_state_of frames)) (size_of frames.frames) boot_size store.listed) }
+    ensures starts { StartsOver D.Disk (old_state_of frames) frames (disk_in result) (end_in result) }
+    ensures worn { IfErr result (λ e. e.0 ≡ OpenFault.Worn → (old_state_of frames).boot ≡ 2 ^ 32 - 1) }
     ensures a_store { IfErr result (λ e. e.0 ≢ OpenFault.NotAStore) }
 {
     let mut frames = frames;

@@ -1,21 +1,20 @@
 //! Making an old store go on once it was read: it is brought over.
 
-ghost use Rattle.std.specs.Prelude.{◌≡◌, ◌≢◌, ◌+◌, ◌-◌, ◌<◌, ◌^◌, true, false, Err, IfOk, IsOk, OnOk, length};
-ghost use Rattle.frame_store.specs.Images.{AreBlocks};
+ghost use Rattle.std.specs.Prelude.{◌≡◌, ◌≢◌, ◌+◌, ◌-◌, ◌<◌, ◌^◌, true, false, Err, IfOk, IsOk, OnOk};
 ghost use Rattle.frame_store.specs.declared.shapes.Form.TheVariants.{Moved};
-ghost use Rattle.frame_store.specs.Layouts.{IsShape, formed, is_old};
-ghost use Rattle.frame_store.specs.Listed.{Fits, size_of};
+ghost use Rattle.frame_store.specs.Layouts.{formed};
+ghost use Rattle.frame_store.specs.Listed.{size_of};
 ghost use Rattle.frame_store.specs.Stores.{IsRead};
 ghost use Rattle.brick_state.specs.States.{booted, empty, live};
 ghost use Rattle.brick_state.specs.Indexes.{state_of};
 ghost use Rattle.brick_state.specs.Indexes as indexes;
 ghost use Rattle.brick_store.specs.Blocks.{cached, resolved};
-ghost use Rattle.brick_store.specs.BringingOver.{cut_block, IsAmong, LiesIn};
+ghost use Rattle.brick_store.specs.BringingOver.{LiesIn};
 ghost use Rattle.brick_store.specs.Ends.{end_of};
 ghost use Rattle.brick_store.specs.Images.{limits_of};
 ghost use Rattle.brick_store.specs.Lengths.{IsAppended};
-ghost use Rattle.brick_store.specs.OldLists.{old_state_in};
-ghost use Rattle.brick_store.specs.Openings.{Makes, StartsOver, opening_end};
+ghost use Rattle.brick_store.specs.Openings.{StartsOver, opening_end};
+ghost use Rattle.brick_store.specs.ReadStores.{IsFoldedFrom, KeepsOldState, old_state_of};
 ghost use Rattle.brick_store.specs.Sizes.{boot_size, framed};
 ghost use Rattle.brick_store.specs.Standing.{AllSlots, Leads, Standing};
 ghost use Rattle.brick_store.specs.Steps.{IsNotFull, IsSettled};
@@ -40,23 +39,16 @@ pub(crate) fn take_over<D: Disk>(
     frames: &mut FrameStore<D>,
     folded: Folded,
 ) -> Result<TakenUp, OpenFault>
-    requires shape { IsShape frames.old.shape }
-    requires old { is_old frames.old.shape ≡ true }
-    requires block { folded.sizes.block ≡ frames.old.shape.block }
-    requires records { folded.sizes.records ≡ frames.old.shape.records }
-    requires fold { Makes frames.old.shape.block frames.old.shape.records true frames.old.frames (indexes.limits_of folded.index) (state_of folded.index) folded.blocks folded.whole }
-    requires runs { frames.old.halted ≡ false }
-    requires read { IsRead D.tells D.seen frames.old }
+    requires folded { IsFoldedFrom D.Disk true frames.old folded }
     ensures standing { IfOk result (λ made. Standing D.tells D.seen D.may_leave frames.new made.index made.blocks made.zero) }
-    ensures state { let st = old_state_in frames.old.shape.block frames.old.shape.records frames.old.frames in
+    ensures state { let st = old_state_of frames.old in
         IfOk result (λ made. resolved (cached frames.old.shape.block made.blocks) (state_of made.index) ≡ booted (st.boot + 1) st) }
-    ensures listed { IsOk result → IsAppended false (live (old_state_in frames.old.shape.block frames.old.shape.records frames.old.frames)) (size_of frames.old.frames) boot_size
-        (size_of frames.new.frames) }
+    ensures listed { IsOk result → IsAppended false (live (old_state_of frames.old)) (size_of frames.old.frames) boot_size (size_of frames.new.frames) }
     ensures still_runs { IsOk result → frames.new.halted ≡ false }
     ensures shape { IsOk result → frames.new.shape ≡ formed Moved frames.old.shape }
-    ensures starts { StartsOver D.Disk (old_state_in frames.old.shape.block frames.old.shape.records frames.old.frames) frames.old frames.new.disk (opening_end result) }
-    ensures boots { IsOk result → (old_state_in frames.old.shape.block frames.old.shape.records frames.old.frames).boot < 2 ^ 32 - 1 }
-    ensures worn { result ≡ Err OpenFault.Worn → (old_state_in frames.old.shape.block frames.old.shape.records frames.old.frames).boot ≡ 2 ^ 32 - 1 }
+    ensures starts { StartsOver D.Disk (old_state_of frames.old) frames.old frames.new.disk (opening_end result) }
+    ensures boots { IsOk result → (old_state_of frames.old).boot < 2 ^ 32 - 1 }
+    ensures worn { result ≡ Err OpenFault.Worn → (old_state_of frames.old).boot ≡ 2 ^ 32 - 1 }
     ensures a_store { result ≢ Err OpenFault.NotAStore }
 {
     if folded.index.boot() == u32::MAX {
@@ -90,18 +82,10 @@ fn start_over<D: Disk>(
     blocks: &[u8],
     listed: FrameList,
 ) -> Result<(), StoreFault>
-    requires shape { IsShape frames.old.shape }
-    requires old { is_old frames.old.shape ≡ true }
     requires limits { indexes.limits_of index.old ≡ limits_of frames.old.shape }
     requires runs { frames.old.halted ≡ false }
     requires read { IsRead D.tells D.seen frames.old }
-    requires blocks { AreBlocks frames.old.shape (length listed) blocks.now }
-    requires fits { Fits frames.old.shape listed boot_size }
-    requires leads { Leads (limits_of frames.old.shape) listed empty (state_of index.old) }
-    requires slots { AllSlots (IsAmong frames.old.shape.block (length blocks.now)) (state_of index.old) }
-    requires state { resolved (cut_block frames.old.shape.block blocks.now) (state_of index.old)
-        ≡ old_state_in frames.old.shape.block frames.old.shape.records frames.old.frames }
-    requires boots { (state_of index.old).boot < 2 ^ 32 - 1 }
+    requires keeps { KeepsOldState frames.old listed blocks.now (state_of index.old) }
     ensures made { OnOk result (state_of index.new ≡ booted ((state_of index.old).boot + 1) (state_of index.old)) }
     ensures limits { indexes.limits_of index.new ≡ indexes.limits_of index.old }
     ensures leads { OnOk result (Leads (limits_of frames.old.shape) frames.new.frames empty (state_of index.new)) }
@@ -110,8 +94,7 @@ fn start_over<D: Disk>(
     ensures shape { OnOk result (frames.new.shape ≡ formed Moved frames.old.shape) }
     ensures runs { OnOk result (frames.new.halted ≡ false) }
     ensures settled { D.tells → OnOk result (IsSettled D.Disk frames.new) }
-    ensures starts { StartsOver D.Disk (old_state_in frames.old.shape.block frames.old.shape.records frames.old.frames) frames.old frames.new.disk
-        (end_of result) }
+    ensures starts { StartsOver D.Disk (old_state_of frames.old) frames.old frames.new.disk (end_of result) }
     ensures fault { IsNotFull result }
 {
     let item = Record::Kept(Kept::Boot(index.boot() + 1));

@@ -1,19 +1,17 @@
 //! Taking up the store that a list of frames makes.
 
 ghost use Rattle.std.specs.Prelude.{◌≡◌, ◌≢◌, ◌+◌, ◌-◌, ◌<◌, ◌^◌, false, Err, IfOk, IsOk};
-ghost use Rattle.frame_store.specs.Layouts.{IsShape, is_old};
 ghost use Rattle.frame_store.specs.Listed.{size_of};
-ghost use Rattle.frame_store.specs.Stores.{IsRead};
 ghost use Rattle.brick_state.specs.States.{booted, empty, live};
 ghost use Rattle.brick_state.specs.Indexes.{state_of};
-ghost use Rattle.brick_state.specs.Indexes as indexes;
 ghost use Rattle.brick_store.specs.Bricks.{start_fault_of};
 ghost use Rattle.brick_store.specs.Calls.{is_appendable};
 ghost use Rattle.brick_store.specs.Images.{limits_of};
 ghost use Rattle.brick_store.specs.Lengths.{IsAppended};
 ghost use Rattle.brick_store.specs.Sizes.{boot_size};
 ghost use Rattle.brick_store.specs.Standing.{AllSlots, IsStored, Standing};
-ghost use Rattle.brick_store.specs.Openings.{IsFold, is_whole, found_in, Starts, opening_end};
+ghost use Rattle.brick_store.specs.Openings.{is_whole, found_in, Starts, opening_end};
+ghost use Rattle.brick_store.specs.ReadStores.{IsFoldedFrom};
 
 use crate::block_tables::BlockTable;
 use crate::faults::{OpenFault, StoreFault};
@@ -50,15 +48,8 @@ pub(crate) fn take_up<D: Disk>(
     alloc: Global,
     frames: &mut FrameStore<D>,
     folded: Folded,
-    block: u16,
 ) -> Result<TakenUp, OpenFault>
-    requires shape { IsShape frames.old.shape }
-    requires new { is_old frames.old.shape ≡ false }
-    requires block { block ≡ frames.old.shape.block }
-    requires limits { indexes.limits_of folded.index ≡ limits_of frames.old.shape }
-    requires fold { IsFold (limits_of frames.old.shape) frames.old.frames (state_of folded.index) folded.whole }
-    requires runs { frames.old.halted ≡ false }
-    requires read { IsRead D.tells D.seen frames.old }
+    requires folded { IsFoldedFrom D.Disk false frames.old folded }
     ensures standing { IfOk result (λ made. Standing D.tells D.seen D.may_leave frames.new made.index made.blocks made.zero) }
     ensures state { IfOk result (λ made. state_of made.index ≡ booted ((found_in frames.old.shape frames.old.frames).boot + 1)
         (found_in frames.old.shape frames.old.frames)) }
@@ -74,8 +65,8 @@ pub(crate) fn take_up<D: Disk>(
     ensures worn { result ≡ Err OpenFault.Worn → (found_in frames.old.shape frames.old.frames).boot ≡ 2 ^ 32 - 1 }
     ensures a_store { D.tells → result ≢ Err OpenFault.NotAStore }
 {
-    let zero = Bytes::from_vec(vec![in alloc; 0u8; block as usize]?);
-    let blocks = load(alloc, frames, &folded, block)?;
+    let zero = Bytes::from_vec(vec![in alloc; 0u8; folded.sizes.block as usize]?);
+    let blocks = load(alloc, frames, &folded)?;
     let Folded {
         mut index,
         whole,

@@ -1,7 +1,7 @@
 -- An old store was brought over, or was refused.
 use Rattle.std.proofs.Common.{refl, sym, subst}
-use Rattle.brick_store.specs.OldLists.{old_state_in}
 use Rattle.brick_store.specs.Openings.{StartsOver, stopped_by}
+use Rattle.brick_store.specs.ReadStores.{old_state_of}
 use Rattle.brick_store.proofs.KeptLogs.{standing_stands}
 use Rattle.brick_store.proofs.openings.open_over.Goals as goal
 
@@ -14,5 +14,5 @@ returns-in-Ok-clause-stands g c = λ told.
 pub returns-in-Err-clause-starts : goal.returns-in-Err-clause-starts
 returns-in-Err-clause-starts g c =
     let held = c.args.frames in
-    subst (λ (last : g.row.D.Denot). StartsOver g.D.Disk (old_state_in held.shape.block held.shape.records held.frames) held last (stopped_by c.in-Err.fault))
+    subst (λ (last : g.row.D.Denot). StartsOver g.D.Disk (old_state_of held) held last (stopped_by c.in-Err.fault))
     (sym c.into_disk.ensures) c.in-Err.ensures.starts

@@ -1,5 +1,5 @@
 -- The store is brought over, and its opening is counted.
-use Rattle.std.proofs.Common.{None, ◌≡◌, ◌+◌, ℕ, List, max, true, false, OnOk, Result, Ok, Err, refl, sym, ap, subst, ◌∙◌, length, arith}
+use Rattle.std.proofs.Common.{None, ◌≡◌, ◌+◌, ℕ, max, true, false, OnOk, Result, Ok, Err, refl, sym, ap, subst, ◌∙◌, length, arith}
 use Rattle.std.proofs.lemmas.Result.{err_from_is_err_and}
 use Rattle.fab_disk.specs.Changing.{Whole}
 use Rattle.frame_store.specs.declared.faults.FrameFault.{FrameFault}
@@ -23,7 +23,7 @@ use Rattle.brick_store.proofs.BootCounts.{next_count}
 use Rattle.brick_store.proofs.Counting.{disk_failed}
 use Rattle.brick_store.proofs.HeldBlocks.{same_both}
 use Rattle.brick_store.proofs.OldStarts.{ahead_old, few_boots, refused_over, sync_over, untouched_over}
-use Rattle.brick_store.proofs.OldSynced.{ComesTo, count_synced, cut_synced, lie_counted, may_count}
+use Rattle.brick_store.proofs.OldSynced.{count_synced, cut_synced, lie_counted, may_count}
 use Rattle.brick_store.proofs.OpeningLaws.{tried_ends}
 use Rattle.brick_store.proofs.StateChanges.{cut_means, not_whole, settled_after}
 use Rattle.brick_store.proofs.Stepping.{refused, room_less}
@@ -31,18 +31,6 @@ use Rattle.brick_store.proofs.Synced.{IsSynced}
 use Rattle.brick_store.proofs.starts_over.start_over.Given.{Over}
 use Rattle.brick_store.proofs.starts_over.start_over.Goals.{After-bring_over}
 use Rattle.brick_store.proofs.starts_over.start_over.Goals as goal
-
--- what the store is brought over to
-comes : (g : Over) (c : After-bring_over g) → ComesTo c.args.frames.now c.args.listed c.args.blocks.now (state_of c.args.index.now)
-comes g c = record {
-  old_form = c.requires.old;
-  shape = c.requires.shape;
-  are = c.requires.blocks;
-  leads = c.requires.leads;
-  slots = c.requires.slots;
-  state = c.requires.state;
-  boots = c.requires.boots;
-}
 
 -- how it was left by the sync
 synced : (g : Over) (c : After-bring_over g) → IsSynced g.D.Disk c.args.frames.now c.reserve.new.self c.sync.new.self
@@ -69,18 +57,18 @@ ahead : (g : Over) (c : After-bring_over g)
     (max (size_of c.args.listed + 1) (c.len.result + 6))
 ahead g c =
     let made = c.in_ok-reserve.ensures in
-    let are = subst (λ (s : Shape). AreBlocks s (length c.args.listed) c.args.blocks.now) (sym made.same.shape) c.requires.blocks in
+    let are = subst (λ (s : Shape). AreBlocks s (length c.args.listed) c.args.blocks.now) (sym made.same.shape) c.requires.keeps.are in
     room_less g.D.Disk.has_room g.met.D.Disk.room_for_less c.sync.new.self _ _ _ _ _ _ (omega arith)
     (omega (arith, ap (λ (s : Shape). s.block) c.in_ok-sync.ensures.same.shape)) (omega arith)
     (c.in_ok-sync.ensures.left 13 _ _ (ahead_old g.D.Disk.has_room g.met.D.Disk.room_for_less c.reserve.new.self c.args.listed c.len.result
-    c.args.blocks.now (subst (λ (s : Shape). is_old s ≡ true) (sym made.same.shape) c.requires.old) are made.room))
+    c.args.blocks.now (subst (λ (s : Shape). is_old s ≡ true) (sym made.same.shape) c.requires.keeps.form) are made.room))
 
 -- once it was brought over, it can be changed
 may : (g : Over) (c : After-bring_over g) → HasCome c.args.listed c.sync.new.self c.bring_over.new.self
     → BringsOver g.D.Disk c.sync.new.self c.args.listed c.args.blocks.now c.bring_over.new.self.disk Whole
     → c.bring_over.new.self.halted ≡ c.sync.new.self.halted → CanChange g.D.Disk (state_of c.args.index.now) c.bring_over.new.self
 may g c came change halts =
-    may_count _ _ c.args.blocks.now _ (comes g c) g.D.Disk _ _ (synced g c) c.bring_over.new.self came change (halts ∙ (synced g c).runs)
+    may_count _ _ c.args.blocks.now _ c.requires.keeps g.D.Disk _ _ (synced g c) c.bring_over.new.self came change (halts ∙ (synced g c).runs)
     c.bring_over.ensures.read
 
 -- ---- refused
@@ -88,13 +76,13 @@ may g c came change halts =
 pub returns-in_err-frame-clause-starts : goal.returns-in_err-frame-clause-starts
 returns-in_err-frame-clause-starts g c =
     let p = err_from_is_err_and c.from_residual.result c.from_residual.ensures.1 in
-    rw (p.1, p.2) (untouched_over g.D.Disk g.met.D.Disk.only_now g.met.D.Disk.counts_now c.args.frames.now c.requires.old)
+    rw (p.1, p.2) (untouched_over g.D.Disk g.met.D.Disk.only_now g.met.D.Disk.counts_now c.args.frames.now c.requires.keeps.form)
 
 pub returns-in_err-reserve-clause-starts : goal.returns-in_err-reserve-clause-starts
 returns-in_err-reserve-clause-starts g c =
     let f = c.in_err-reserve.field-0.0 in
     let p = err_from_is_err_and c.from_residual-in_err-reserve.result c.from_residual-in_err-reserve.ensures.1 in
-    rw (p.1, p.2) (refused_over g.D.Disk g.met.D.Disk.only_now g.met.D.Disk.counts_now c.args.frames.now c.requires.old c.reserve.new.self.disk
+    rw (p.1, p.2) (refused_over g.D.Disk g.met.D.Disk.only_now g.met.D.Disk.counts_now c.args.frames.now c.requires.keeps.form c.reserve.new.self.disk
     (end_of (refused (fault_of f))) (refused f ≡ refused frames.Disk) (not_whole (fault_of f)) (cut_means f) c.in_err-reserve.ensures.still)
 
 pub returns-in_err-sync-clause-starts : goal.returns-in_err-sync-clause-starts
@@ -102,9 +90,9 @@ returns-in_err-sync-clause-starts g c =
     let f = c.in_err-sync.field-0.0 in
     let made = c.in_ok-reserve.ensures in
     let call = c.in_err-sync.ensures in
-    let few = few_boots (cut_block c.args.frames.now.shape.block c.args.blocks.now) (state_of c.args.index.now) _ c.requires.state c.requires.boots in
+    let few = few_boots (cut_block c.args.frames.now.shape.block c.args.blocks.now) (state_of c.args.index.now) _ c.requires.keeps.state c.requires.keeps.boots in
     let p = err_from_is_err_and c.from_residual-in_err-sync.result c.from_residual-in_err-sync.ensures.1 in
-    rw (p.1, p.2) (sync_over g.D.Disk g.met.D.Disk.only_now g.met.D.Disk.counts_now c.args.frames.now c.requires.old c.reserve.new.self.disk _ made.still few
+    rw (p.1, p.2) (sync_over g.D.Disk g.met.D.Disk.only_now g.met.D.Disk.counts_now c.args.frames.now c.requires.keeps.form c.reserve.new.self.disk _ made.still few
     c.sync.new.self.disk f (λ told. c.requires.read told c.requires.runs) made.certain call.content call.certain call.crash call.time call.run
     (λ is. call.no_memory (ap (refused {E = FrameFault}) is))
     (λ is. halted_not (sym (call.answer.only_then (ap (refused {E = FrameFault}) is)) ∙ made.answer.halts ∙ c.requires.runs)) call.cause)
@@ -124,7 +112,7 @@ returns-in_err-bring_over-clause-starts g c =
     let change = subst (λ (fault : FrameFault). BringsOver g.D.Disk held c.args.listed c.args.blocks.now c.bring_over.new.self.disk
     (lists.end_of (refused fault))) is call.change in
     let p = err_from_is_err_and c.from_residual-in_err-bring_over.result c.from_residual-in_err-bring_over.ensures.1 in
-    rw (p.1, p.2, is) (cut_synced _ _ _ _ (comes g at) g.D.Disk _ _ (synced g at) g.met.D.Disk.only_now g.met.D.Disk.counts_now
+    rw (p.1, p.2, is) (cut_synced _ _ _ _ c.requires.keeps g.D.Disk _ _ (synced g at) g.met.D.Disk.only_now g.met.D.Disk.counts_now
     c.bring_over.new.self.disk change)
 
 -- ---- the count
@@ -166,7 +154,7 @@ returns-clause-listed g c =
 pub returns-clause-lie : goal.returns-clause-lie
 returns-clause-lie g c = λ told.
     let at = (goal.at.returns-clause-lie g c).After-bring_over in
-    lie_counted _ _ _ _ (comes g at) g.D.Disk _ _ (synced g at) c.bring_over.new.self c.in_ok-bring_over.ensures.ok
+    lie_counted _ _ _ _ c.requires.keeps g.D.Disk _ _ (synced g at) c.bring_over.new.self c.in_ok-bring_over.ensures.ok
     c.in_ok-bring_over.ensures.change _ c.append_count.new.frames.disk c.append_count.result c.append_count.ensures.change told
 
 pub returns-clause-settled : goal.returns-clause-settled
@@ -181,7 +169,7 @@ returns-clause-starts g c =
     let call = c.in_ok-bring_over.ensures in
     let count = c.append_count.ensures in
     let at = (goal.at.returns-clause-starts g c).After-bring_over in
-    count_synced _ _ _ _ (comes g at) g.D.Disk _ _ (synced g at) g.met.D.Disk.only_now g.met.D.Disk.counts_now
+    count_synced _ _ _ _ c.requires.keeps g.D.Disk _ _ (synced g at) g.met.D.Disk.only_now g.met.D.Disk.counts_now
     c.bring_over.new.self _ c.append_count.new.frames.disk (end_of c.append_count.result) call.ok
     (may g at call.ok call.change call.answer.halts) call.change
     (next_count _ _ _ c.boot.ensures) count.change (tried_ends c.append_count.result count.step.only count.no_memory)

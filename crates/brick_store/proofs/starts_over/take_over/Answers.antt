@@ -20,8 +20,8 @@ use Rattle.brick_state.specs.KeptStates.{IsKeptState}
 use Rattle.brick_store.specs.Blocks.{cached, resolved}
 use Rattle.brick_store.specs.BringingOver.{IsAmong, IsBroughtTo, LiesIn, cut_block}
 use Rattle.brick_store.specs.BlockTables.{SlotBlocks}
-use Rattle.brick_store.specs.OldLists.{old_state_in}
 use Rattle.brick_store.specs.Openings.{StartsOver, memory_limits}
+use Rattle.brick_store.specs.ReadStores.{old_state_of}
 use Rattle.brick_store.specs.Standing.{AllSlots, IsCached}
 use Rattle.brick_store.proofs.OldStarts.{untouched_over}
 use Rattle.brick_store.proofs.OldTaken.{over_blocks, over_counted, over_fits, over_listed, over_stands}
@@ -47,50 +47,50 @@ boots_few block index st is few = omega (arith, few, boot-resolved block index, 
 -- what this store is brought over to
 over : (g : Over) (c : After-deref g)
     → IsBroughtTo c.args.frames.now.shape.block c.args.frames.now.shape.records
-    (old_state_in c.args.frames.now.shape.block c.args.frames.now.shape.records c.args.frames.now.frames) (indexes.limits_of c.in_ok-brought.brought.index)
+    (old_state_of c.args.frames.now) (indexes.limits_of c.in_ok-brought.brought.index)
     (state_of c.in_ok-brought.brought.index) c.in_ok-brought.brought.blocks c.in_ok-brought.brought.bytes.items c.in_ok-brought.brought.frames
 over g c =
-    in_shape c.args.frames.now.shape c.requires.block c.requires.records
-    (ap (λ (n : ℕ). resolved (cached n c.args.folded.blocks) (state_of c.args.folded.index)) c.requires.block ∙ sym c.requires.fold.1.found)
+    in_shape c.args.frames.now.shape c.requires.folded.block c.requires.folded.records
+    (ap (λ (n : ℕ). resolved (cached n c.args.folded.blocks) (state_of c.args.folded.index)) c.requires.folded.block ∙ sym c.requires.folded.fold.1.found)
     c.in_ok-brought.ensures.over
 
 few : (g : Over) (c : After-deref g)
-    → (old_state_in c.args.frames.now.shape.block c.args.frames.now.shape.records c.args.frames.now.frames).boot < 4294967295
+    → (old_state_of c.args.frames.now).boot < 4294967295
 few g c =
     let below : (state_of c.args.folded.index).boot < 4294967295 =
     (let other = c.if-boot.false in let same = c.boot.ensures in let fits = c.boot.type_inv in omega (arith, other, same, fits)) in
-    boots_few (cached c.args.frames.now.shape.block c.args.folded.blocks) (state_of c.args.folded.index) _ c.requires.fold.1.found below
+    boots_few (cached c.args.frames.now.shape.block c.args.folded.blocks) (state_of c.args.folded.index) _ c.requires.folded.fold.1.found below
 
 -- ---- refused
 
 pub returns-then-boot-clause-starts : goal.returns-then-boot-clause-starts
 returns-then-boot-clause-starts g c =
-    untouched_over g.D.Disk g.met.D.Disk.only_now g.met.D.Disk.counts_now c.args.frames.now c.requires.old
+    untouched_over g.D.Disk g.met.D.Disk.only_now g.met.D.Disk.counts_now c.args.frames.now c.requires.folded.form
 
 pub returns-then-boot-clause-worn : goal.returns-then-boot-clause-worn
 returns-then-boot-clause-worn g c =
-    let boot = ap (λ (s : StateOf Version). s.boot) c.requires.fold.1.found in
+    let boot = ap (λ (s : StateOf Version). s.boot) c.requires.folded.fold.1.found in
     let same = boot-resolved (cached c.args.frames.now.shape.block c.args.folded.blocks) (state_of c.args.folded.index) in
     search (rules, boot, same)
 
 pub returns-in_err-vec-clause-starts : goal.returns-in_err-vec-clause-starts
 returns-in_err-vec-clause-starts g c =
     let p = err_from_is_err_and c.from_residual.result c.from_residual.ensures.1 in
-    rw (p.1, p.2) (untouched_over g.D.Disk g.met.D.Disk.only_now g.met.D.Disk.counts_now c.args.frames.now c.requires.old)
+    rw (p.1, p.2) (untouched_over g.D.Disk g.met.D.Disk.only_now g.met.D.Disk.counts_now c.args.frames.now c.requires.folded.form)
 
 pub returns-in_err-brought-clause-starts : goal.returns-in_err-brought-clause-starts
 returns-in_err-brought-clause-starts g c =
     let p = err_from_is_err_and c.from_residual-in_err-brought.result c.from_residual-in_err-brought.ensures.1 in
-    rw (p.1, p.2) (untouched_over g.D.Disk g.met.D.Disk.only_now g.met.D.Disk.counts_now c.args.frames.now c.requires.old)
+    rw (p.1, p.2) (untouched_over g.D.Disk g.met.D.Disk.only_now g.met.D.Disk.counts_now c.args.frames.now c.requires.folded.form)
 
 -- ---- what it is brought over to
 
 pub bring_over-requires : goal.bring_over-requires
 bring_over-requires g c = record {
-  kept = subst (λ (n : ℕ). IsKeptState (memory_limits n) (state_of c.args.folded.index)) (sym c.requires.records) c.requires.fold.1.kept;
-  held = subst (λ (n : ℕ). AllSlots (IsCached n c.args.folded.blocks) (state_of c.args.folded.index)) (sym c.requires.block) c.requires.fold.1.held;
-  members = c.requires.fold.1.members;
-  limits = c.requires.fold.0 ∙ ap memory_limits (sym c.requires.records);
+  kept = subst (λ (n : ℕ). IsKeptState (memory_limits n) (state_of c.args.folded.index)) (sym c.requires.folded.records) c.requires.folded.fold.1.kept;
+  held = subst (λ (n : ℕ). AllSlots (IsCached n c.args.folded.blocks) (state_of c.args.folded.index)) (sym c.requires.folded.block) c.requires.folded.fold.1.held;
+  members = c.requires.folded.fold.1.members;
+  limits = c.requires.folded.fold.0 ∙ ap memory_limits (sym c.requires.folded.records);
 }
 
 -- ---- it is brought over
@@ -101,24 +101,26 @@ start_over-requires g c =
     let at = (goal.at.start_over-requires g c).After-deref in
     let over = over g at in
     record {
-      shape = c.requires.shape;
-      old = c.requires.old;
       limits = over.limits_are;
-      runs = c.requires.runs;
-      read = c.requires.read;
-      blocks = subst (λ (bytes : List ℕ). AreBlocks shape (length c.in_ok-brought.brought.frames) bytes) (sym c.deref.ensures.value)
-          (over_blocks shape _ _ _ _ _ _ over);
-      fits = over_fits shape _ _ _ _ _ _ over;
-      leads = over.leads;
-      slots = subst (λ (bytes : List ℕ). AllSlots (IsAmong shape.block (length bytes)) (state_of c.in_ok-brought.brought.index)) (sym c.deref.ensures.value)
-          over.among;
-      state = ap (λ (bytes : List ℕ). resolved (cut_block shape.block bytes) (state_of c.in_ok-brought.brought.index)) c.deref.ensures.value ∙ over.state;
-      boots = omega (
-        arith,
-        few g at,
-        boot-resolved (cut_block shape.block c.in_ok-brought.brought.bytes.items) (state_of c.in_ok-brought.brought.index),
-        ap (λ (s : StateOf Version). s.boot) over.state,
-      );
+      runs = c.requires.folded.runs;
+      read = c.requires.folded.read;
+      keeps = record {
+        shape = c.requires.folded.shape;
+        form = c.requires.folded.form;
+        are = subst (λ (bytes : List ℕ). AreBlocks shape (length c.in_ok-brought.brought.frames) bytes) (sym c.deref.ensures.value)
+            (over_blocks shape _ _ _ _ _ _ over);
+        fits = over_fits shape _ _ _ _ _ _ over;
+        leads = over.leads;
+        slots = subst (λ (bytes : List ℕ). AllSlots (IsAmong shape.block (length bytes)) (state_of c.in_ok-brought.brought.index)) (sym c.deref.ensures.value)
+            over.among;
+        state = ap (λ (bytes : List ℕ). resolved (cut_block shape.block bytes) (state_of c.in_ok-brought.brought.index)) c.deref.ensures.value ∙ over.state;
+        boots = omega (
+          arith,
+          few g at,
+          boot-resolved (cut_block shape.block c.in_ok-brought.brought.bytes.items) (state_of c.in_ok-brought.brought.index),
+          ap (λ (s : StateOf Version). s.boot) over.state,
+        );
+      };
     }
 
 -- ---- it was brought over, or that failed
@@ -127,9 +129,9 @@ pub returns-in-Ok-clause-standing : goal.returns-in-Ok-clause-standing
 returns-in-Ok-clause-standing g c =
     let old = c.args.frames.now in
     let here = c.in-Ok.ensures in
-    let zero_is : c.from_vec-zero.result ≡ replicate old.shape.block 0 = grind (arith, common_steps, c.requires.block) in
+    let zero_is : c.from_vec-zero.result ≡ replicate old.shape.block 0 = grind (arith, common_steps, c.requires.folded.block) in
     over_stands old.shape _ _ _ _ _ _ (over g (goal.at.returns-in-Ok-clause-standing g c).After-deref) g.D.Disk
-    c.start_over.new.frames c.start_over.new.index c.from_vec-zero.result here.shape c.requires.shape zero_is c.start_over.ensures.limits here.made here.leads
+    c.start_over.new.frames c.start_over.new.index c.from_vec-zero.result here.shape c.requires.folded.shape zero_is c.start_over.ensures.limits here.made here.leads
     here.settled
     (λ told. subst (λ (bytes : List ℕ). AllSlots (LiesIn (formed Moved old.shape) bytes (g.D.Disk.seen c.start_over.new.frames.disk))
     (state_of c.in_ok-brought.brought.index)) c.deref.ensures.value (here.lie told))
@@ -150,5 +152,5 @@ returns-in-Ok-clause-listed g c = λ ok.
 pub returns-in-Err-clause-starts : goal.returns-in-Err-clause-starts
 returns-in-Err-clause-starts g c =
     let old = c.args.frames.now in
-    rw c.refusal_of.ensures (subst (λ (end : End). StartsOver g.D.Disk (old_state_in old.shape.block old.shape.records old.frames) old
+    rw c.refusal_of.ensures (subst (λ (end : End). StartsOver g.D.Disk (old_state_of old) old
     c.start_over.new.frames.disk end) (start_ends c.in-Err.fault) c.in-Err.ensures.starts)

@@ -65,9 +65,9 @@ returns-in-Ok-clause-standing g c =
     let index = c.args.folded.index in
     let here = c.in-Ok.ensures in
     let shape : mid.shape ≡ old.shape = c.load.ensures.same.shape in
-    let zero_is : c.from_vec-zero.result ≡ replicate old.shape.block 0 = grind (arith, common_steps) in
+    let zero_is : c.from_vec-zero.result ≡ replicate old.shape.block 0 = grind (arith, common_steps, c.requires.folded.block) in
     standing_from d new c.start.new.index c.in_ok-blocks.blocks c.from_vec-zero.result old.shape old.frames (d.seen old.disk)
-    (indexes.limits_of index) (state_of index) c.args.folded.whole (c.start.ensures.shape ∙ shape) c.requires.shape c.requires.new c.in_ok-blocks.ensures.loaded
+    (indexes.limits_of index) (state_of index) c.args.folded.whole (c.start.ensures.shape ∙ shape) c.requires.folded.shape c.requires.folded.form c.in_ok-blocks.ensures.loaded
     zero_is c.start.ensures.limits here.made
     (subst (λ (s : Shape). Leads (limits_of s) new.frames empty (state_of c.start.new.index)) shape here.leads) here.settled
     (λ told. subst (λ (x : List ℕ). KeepsSlots old.shape None x (d.seen new.disk)) c.load.ensures.untouched.content
