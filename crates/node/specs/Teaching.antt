@@ -1,5 +1,5 @@
 -- What a brick sends to teach views.
-use Rattle.std.specs.Prelude.{Bool, nat_lt, ◌&&◌, if◌then◌else◌, List, [], ◌∷◌}
+use Rattle.std.specs.Prelude.{◌≡◌, Bool, true, nat_lt, ◌&&◌, if◌then◌else◌, Some, List, [], ◌∷◌}
 use Rattle.fab_base.specs.declared.identities.BrickId.{BrickId}
 use Rattle.fab_base.specs.declared.identities.GroupId.{GroupId}
 use Rattle.fab_base.specs.declared.member_lists.View.{View}
@@ -23,3 +23,8 @@ teaching group view messages = if nat_lt 1 view.number.0 then each_taught group 
 abbrev pub is_taught : Layout → Node → BrickId → Call → Reply → Bool
 is_taught layout node from call reply =
     may_teach layout (view_told reply) (group_of layout call.group.0) && counts_here layout from call reply node.proposal (node.calls call.seq)
+
+-- The reply tells this view, and teaches it.
+pub record Teaches (layout : Layout) (node : Node) (from : BrickId) (call : Call) (reply : Reply) (view : View) : Type 0 where
+  pub told : view_told reply ≡ Some view
+  pub counts : is_taught layout node from call reply ≡ true

@@ -24,11 +24,11 @@ ghost use Rattle.replica.specs.Calls.{message_append, message_calls};
 ghost use Rattle.coord_phase.specs.Messages.{packets_from};
 ghost use Rattle.node.specs.Calls.{packet_append, packet_calls};
 ghost use Rattle.node.specs.Ends.{end_of, IsShown, StepChange};
-ghost use Rattle.node.specs.Faults.{halted_after, RefusesAs};
+ghost use Rattle.node.specs.Faults.{halted_after, IsAnswerWhileRunning, RefusesAs};
 ghost use Rattle.node.specs.States.{BeginsAs, StepsAs};
 ghost use Rattle.node.specs.Openings.{OpensBrick, disk_in, end_in};
 ghost use Rattle.node.specs.Running.{shape_at, state_of, IsKept, ImageShows, IsSameBrick};
-ghost use Rattle.node.specs.Teaching.{is_taught};
+ghost use Rattle.node.specs.Teaching.{is_taught, Teaches};
 
 use crate::faults::NodeFault;
 use crate::learnt_views::{do_lists_stand, is_synced, learnt_number, learnt_view};
@@ -352,9 +352,7 @@ impl<D: Disk> Node<D> {
             ((self.new.brick.state ≡ self.old.brick.state) × IsUntouched D.seen D.may_leave D.moment D.left_since self.old.brick.disk self.new.brick.disk) }
         ensures change { StepChange D.Disk (message_append self.old.layout self.old.me from (state_of self.old) message.now)
             (member_step self.old.layout self.old.me from (state_of self.old) message.now).node self.old self.new (end_of result) }
-        ensures not_halted { result ≢ Err NodeFault.Halted }
-        ensures halts { self.new.brick.halted ≡ halted_after false result }
-        ensures not_refused { (reason : Refusal) → result ≢ Err (NodeFault.Refused reason) }
+        ensures answer { IsAnswerWhileRunning self.new.brick.halted result }
     {
         // The answer has its room before anything is kept: after that nothing can fail.
         let Ok(room) = Vec::with_capacity(self.alloc, 1) else {
@@ -385,9 +383,7 @@ impl<D: Disk> Node<D> {
             ((self.new.brick.state ≡ self.old.brick.state) × IsUntouched D.seen D.may_leave D.moment D.left_since self.old.brick.disk self.new.brick.disk) }
         ensures change { StepChange D.Disk (packet_append self.old.layout self.old.me (state_of self.old) packet.now)
             (absorbed (coding self.old.layout) self.old.me (state_of self.old) packet.now) self.old self.new (end_of result) }
-        ensures not_halted { result ≢ Err NodeFault.Halted }
-        ensures halts { self.new.brick.halted ≡ halted_after false result }
-        ensures not_refused { (reason : Refusal) → result ≢ Err (NodeFault.Refused reason) }
+        ensures answer { IsAnswerWhileRunning self.new.brick.halted result }
     {
         let Some(view) = view_told(reply) else {
             return self.count(now, packet, call, reply);
@@ -446,8 +442,7 @@ impl<D: Disk> Node<D> {
         view: View,
     ) -> Result<Outs, NodeFault>
         requires reply { packet.now.message ≡ message.Reply call reply.now }
-        requires view { view_told reply.now ≡ Some view }
-        requires taught { is_taught self.old.layout (state_of self.old) packet.now.from call reply.now ≡ true }
+        requires teaches { Teaches self.old.layout (state_of self.old) packet.now.from call reply.now view }
         requires runs { self.old.brick.halted ≡ false }
         requires stands { IsShown D.Disk self.old }
         ensures step { IfOk result (StepsAs self.old.me (state_of self.new) (heard (coding self.old.layout) self.old.me now packet.now.from
@@ -460,9 +455,7 @@ impl<D: Disk> Node<D> {
             ((self.new.brick.state ≡ self.old.brick.state) × IsUntouched D.seen D.may_leave D.moment D.left_since self.old.brick.disk self.new.brick.disk) }
         ensures change { StepChange D.Disk (message_append self.old.layout self.old.me self.old.me (state_of self.old) (message.Learn call.group view))
             (node_learnt self.old.layout (state_of self.old) call.group view) self.old self.new (end_of result) }
-        ensures not_halted { result ≢ Err NodeFault.Halted }
-        ensures halts { self.new.brick.halted ≡ halted_after false result }
-        ensures not_refused { (reason : Refusal) → result ≢ Err (NodeFault.Refused reason) }
+        ensures answer { IsAnswerWhileRunning self.new.brick.halted result }
     {
         // All else that can be refused comes before the view is learnt, and is taken back where that is refused.
         let (alloc, seq) = (self.alloc, call.seq);

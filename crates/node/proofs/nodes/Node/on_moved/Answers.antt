@@ -1,5 +1,5 @@
 -- The reply counts, and its view is learnt; where it can't be, the reply is taken back.
-use Rattle.std.proofs.Common.{◌≡◌, Option, None, false, true, Result, Err, refl, sym, ◌∙◌, ap, subst}
+use Rattle.std.proofs.Common.{◌≡◌, ◌≢◌, Option, None, false, true, Result, Err, refl, sym, ◌∙◌, ap, subst}
 use Rattle.std.proofs.lemmas.Bool.{true≢false}
 use Rattle.fab_base.specs.declared.identities.BrickId.{BrickId}
 use Rattle.messages.specs.declared.packets.Message.{Message}
@@ -11,15 +11,13 @@ use Rattle.replica.specs.declared.faults.ReplicaFault.TheVariants as replica
 use Rattle.replica.specs.Reactions.{IsStep}
 use Rattle.node.specs.declared.faults.NodeFault.{NodeFault}
 use Rattle.node.specs.declared.outs.Outs.{Outs}
-use Rattle.node.specs.declared.faults.NodeFault.TheVariants.{Halted}
-use Rattle.node.specs.Faults.{halted_after}
 use Rattle.node.specs.Tasks.{AreSameTasks, counts_at}
 use Rattle.node.specs.States.{StepsAs, parts_in}
 use Rattle.node.specs.Running.{Running, running, state_of}
 use Rattle.node.specs.Teaching.{is_taught}
 use Rattle.node.proofs.CountsHere.{taught_counts}
 use Rattle.node.proofs.Handled.{handled_change, handled_step, handled_still, refused_change}
-use Rattle.node.proofs.KeptBricks.{follows_brick, halted_fault, halts_as, stays_brick}
+use Rattle.node.proofs.KeptBricks.{answers_fault, answers_made, follows_brick, stays_brick}
 use Rattle.node.proofs.Learning.{learns_so}
 use Rattle.node.proofs.States.{on_err}
 use Rattle.node.proofs.Steps.{steps_so, stays_so}
@@ -32,9 +30,11 @@ pub hear_moved-requires-clause-counts : goal.hear_moved-requires-clause-counts
 hear_moved-requires-clause-counts g c =
     let x = c.self.inside in
     let told = c.args.reply.now in
-    let taught = subst (λ (n : Running g.row.D.Denot). is_taught n.layout (state_of n) c.args.packet.now.from c.args.call told ≡ true) (sym c.self.view_is) c.requires.taught in
-    subst (λ (m : Message). counts_at x.tasks c.args.call.seq c.args.packet.now.from m ≡ true) (sym c.requires.reply)
-    (taught_counts x.layout c.args.packet.now.from c.args.call told x.tasks x.store c.self.invariant.tasks_are c.self.invariant.boot taught)
+    let from = c.args.packet.now.from in
+    let taught = subst (λ (n : Running g.row.D.Denot). is_taught n.layout (state_of n) from c.args.call told ≡ true) (sym c.self.view_is)
+    c.requires.teaches.counts in
+    subst (λ (m : Message). counts_at x.tasks c.args.call.seq from m ≡ true) (sym c.requires.reply)
+    (taught_counts x.layout from c.args.call told x.tasks x.store c.self.invariant.tasks_are c.self.invariant.boot taught)
 
 pub returns-in_err-turn-clause-err : goal.returns-in_err-turn-clause-err
 returns-in_err-turn-clause-err g c =
@@ -84,14 +84,15 @@ returns-in-Ok-clause-step g c =
     let same = done_same g (goal.at.returns-in-Ok-clause-step g c).After-finish in
     let follows = subst (λ (brick : BrickId). IsStep x.layout brick brick teach x.store.state None new.state) (sym same.me)
     (handled_step g.D.Disk x.layout x.tasks me teach x.store new _ c.self.view_is c.self.invariant None (c.in-Ok.ensures me).handles) in
-    let taught = subst (λ (n : Running g.row.D.Denot). is_taught n.layout (state_of n) from call reply ≡ true) (sym c.self.view_is) c.requires.taught in
+    let taught = subst (λ (n : Running g.row.D.Denot). is_taught n.layout (state_of n) from call reply ≡ true) (sym c.self.view_is)
+    c.requires.teaches.counts in
     let steps = steps_so x.layout x.tasks tasks x.store c.self.invariant.boot
     (λ (s : Node). replied_at (coding x.layout) me now from s call reply (s.calls call.seq)) c.finish.result same.boot
     (c.finish.ensures.step x.layout now from call reply x.tasks refl c.in_ok-turn.ensures.turn (parts_in x.layout x.store.state)) in
     subst
     (λ (n : Running g.row.D.Denot). StepsAs n.me (state_of (running x.layout tasks new)) (heard (coding n.layout) n.me now from (state_of n) call reply) c.finish.result)
     c.self.view_is
-    (learns_so x.layout x.tasks tasks x.store new now from call reply view None c.finish.result same.me c.requires.view taught follows steps)
+    (learns_so x.layout x.tasks tasks x.store new now from call reply view None c.finish.result same.me c.requires.teaches.told taught follows steps)
 
 pub returns-in-Ok-clause-still : goal.returns-in-Ok-clause-still
 returns-in-Ok-clause-still g c =
@@ -106,8 +107,10 @@ returns-in-Ok-clause-change g c =
     c.self.invariant None c.finish.new.self learnt.handles learnt.change c.requires.stands (runs_so g e.After-learn) (done_same g e.After-finish).me
     (invariant_of-self-in-Ok g c)
 
-pub returns-in-Ok-clause-halts : goal.returns-in-Ok-clause-halts
-returns-in-Ok-clause-halts g c = (c.in-Ok.ensures c.args.packet.now.from).handles.halts ∙ runs_so g (goal.at.returns-in-Ok-clause-halts g c).After-learn
+pub returns-in-Ok-clause-answer : goal.returns-in-Ok-clause-answer
+returns-in-Ok-clause-answer g c =
+    answers_made c.finish.result c.learn.new.store.halted
+    ((c.in-Ok.ensures c.args.packet.now.from).handles.halts ∙ runs_so g (goal.at.returns-in-Ok-clause-answer g c).After-learn)
 
 -- ---- it is not
 
@@ -142,16 +145,11 @@ returns-in-Err-clause-change g c =
     (runs_so g (goal.at.returns-in-Err-clause-change g c).After-learn)
     (ap (λ (e : NodeFault). (let r : Result Outs NodeFault = Err e in r)) c.from.ensures)
 
-pub returns-in-Err-clause-not_halted : goal.returns-in-Err-clause-not_halted
-returns-in-Err-clause-not_halted g c = λ is.
-    let halted : c.from.result ≡ Halted = cc in
-    let same : c.in-Err.fault ≡ replica.Halted = halted_fault c.in-Err.fault (sym c.from.ensures ∙ halted) in
-    true≢false (sym ((c.in-Err.ensures c.args.packet.now.from).handles.only_halted (ap (λ (e : ReplicaFault). Err e) same))
-    ∙ runs_so g (goal.at.returns-in-Err-clause-not_halted g c).After-learn)
-
-pub returns-in-Err-clause-halts : goal.returns-in-Err-clause-halts
-returns-in-Err-clause-halts g c =
-    let runs = ap (λ (n : Running g.row.D.Denot). n.brick.halted) c.self.view_is ∙ c.requires.runs in
-    (c.in-Err.ensures c.args.packet.now.from).handles.halts
-    ∙ halts_as Outs (Option Message) c.in-Err.fault c.self.inside.store.halted
-    ∙ (λ i. halted_after {T = Outs} (runs i) (Err (sym c.from.ensures i)))
+pub returns-in-Err-clause-answer : goal.returns-in-Err-clause-answer
+returns-in-Err-clause-answer g c =
+    let handles = (c.in-Err.ensures c.args.packet.now.from).handles in
+    let runs = runs_so g (goal.at.returns-in-Err-clause-answer g c).After-learn in
+    let not_halted : c.in-Err.fault ≢ replica.Halted =
+    λ is. true≢false (sym (handles.only_halted (ap (λ (e : ReplicaFault). Err e) is)) ∙ runs) in
+    answers_fault Outs (Option Message) c.in-Err.fault c.from.result c.self.inside.store.halted c.learn.new.store.halted c.from.ensures runs not_halted
+    handles.halts

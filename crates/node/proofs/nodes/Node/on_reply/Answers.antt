@@ -93,8 +93,10 @@ returns-then-not-is_taught_by-clause-change g c =
 
 -- ---- a reply that counts and teaches a view
 
-pub on_moved-requires-clause-taught : goal.on_moved-requires-clause-taught
-on_moved-requires-clause-taught g c = sym (c.if-not-is_taught_by.ensures c.args.reply.now c.requires.reply (sym c.in-Some.ensures))
+pub on_moved-requires-clause-teaches : goal.on_moved-requires-clause-teaches
+on_moved-requires-clause-teaches g c =
+    let told = sym c.in-Some.ensures in
+    record { told = told; counts = sym (c.if-not-is_taught_by.ensures c.args.reply.now c.requires.reply told) }
 
 pub returns-clause-step : goal.returns-clause-step
 returns-clause-step g c = received_so g (goal.at.returns-clause-step g c).After-view_told c.on_moved.result c.on_moved.new.self c.on_moved.ensures.step

@@ -102,11 +102,5 @@ returns-clause-err g c = search rules
 pub returns-clause-same : goal.returns-clause-same
 returns-clause-same g c = search rules
 
-pub returns-clause-not_halted : goal.returns-clause-not_halted
-returns-clause-not_halted g c = search rules
-
-pub returns-clause-halts : goal.returns-clause-halts
-returns-clause-halts g c = search rules
-
-pub returns-clause-not_refused : goal.returns-clause-not_refused
-returns-clause-not_refused g c = search rules
+pub returns-clause-answer : goal.returns-clause-answer
+returns-clause-answer g c = record { not_halted = search rules; halts = search rules; not_refused = search rules }
