@@ -8,7 +8,9 @@ run.py runs it, over two file systems. The stores lie in new folders in FOLDER. 
 medians of 21 rounds and, in brackets, the least and the most. Since other work on the machine only slows a round down, the ratio of the fastest rounds of both sides
 is printed too, and last that of the processor times of the process `brick`; what the client takes is not in that one. What each row is docs/performance.md says.
 
-The start of `brick` is left out of all, and nbdcopy's start only where its first request is.
+All of it runs on one processor, so that the client's time counts as the program's does, and no wake-up of another, maybe virtual, processor is measured.
+
+The start of `brick` is left out of all, and nbdcopy's start only where its first request is. Each start, and each first request, is the median of three.
 """
 
 import collections
@@ -18,9 +20,10 @@ import subprocess
 import sys
 import tempfile
 
-from disks import commander, make, run_timed, served, take_priority
+from disks import commander, make, run_timed, served, take_priority, take_processor
 
 ROUNDS = 21
+STARTS = 3
 M, N, BLOCK = 4, 6, 4096
 DATA = M * BLOCK
 COPIED, REQUEST = 16 * 2**20, 256 * 2**10
@@ -67,9 +70,15 @@ def attend(program, disk, does):
     return told, process.processor
 
 
+def start_of(measure):
+    """The medians of seconds and processor seconds that are measured a few times."""
+    return map(statistics.median, zip(*[measure() for _ in range(STARTS)]))
+
+
 def local_rate(run, write, commands):
     """The rate of so many commands of `local` but one."""
-    (start, start_processor), (whole, processor) = run(write, 1), run(write, commands)
+    start, start_processor = start_of(lambda: run(write, 1))
+    whole, processor = run(write, commands)
     size = (commands - 1) * DATA
     return Rate(size / (whole - start), (processor - start_processor) / size)
 
@@ -101,7 +110,8 @@ def nbd_again(program, place, write):
             told, processor = attend(program, disk, CLIENT.format(port=disk[2], request=REQUEST, again=AGAIN * DATA, write=write, requests=requests))
             return float(told), processor
 
-    (_, start_processor), (seconds, processor) = session(0), session(COPIED // REQUEST)
+    _, start_processor = start_of(lambda: session(0))
+    seconds, processor = session(COPIED // REQUEST)
     return Rate(COPIED / seconds, (processor - start_processor) / COPIED)
 
 
@@ -128,7 +138,7 @@ def nbd_copies(program, place, write, size):
 
 def nbd_disk(program, place, write):
     """For each copy its rate, and its rate behind the first request."""
-    first = nbd_copies(program, place, write, REQUEST)[0][0]
+    first, _ = start_of(lambda: nbd_copies(program, place, write, REQUEST)[0])
     return [
         (Rate(COPIED / seconds, processor / COPIED), Rate((COPIED - REQUEST) / (seconds - first), processor / COPIED))
         for seconds, processor in nbd_copies(program, place, write, COPIED)
@@ -175,6 +185,7 @@ def main(words):
         print(__doc__, file=sys.stderr)
         return 2
     take_priority()
+    take_processor()
     beside(*words)
     return 0
 

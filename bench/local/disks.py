@@ -39,6 +39,11 @@ def take_priority():
         os.sched_setscheduler(0, os.SCHED_FIFO, os.sched_param(1))
 
 
+def take_processor():
+    """Has all that runs from here on run on one processor. Then a client and what serves it take turns, and neither waits for another processor to wake up."""
+    os.sched_setaffinity(0, {max(os.sched_getaffinity(0))})
+
+
 def run_timed(words, **options):
     """What a program ends with, and the seconds and processor seconds that it took."""
     before, began = resource.getrusage(resource.RUSAGE_CHILDREN), time.monotonic()

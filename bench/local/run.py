@@ -14,7 +14,7 @@ Then beside.py has `brick nbd` beside `brick local`, over FOLDER or /dev/shm and
 huge pages for their heaps too, as far as the system gives them. Its clients are Debian's libnbd-bin and python3-libnbd; without them it is left out.
 The project asks for at least as many bytes a second as `brick local` has, and would like 1.3 times as many.
 
-All of it runs at a real-time priority if that is allowed, so that other work on the machine counts less. It takes about four minutes.
+All of it runs at a real-time priority if that is allowed, so that other work on the machine counts less. It takes about six minutes.
 """
 
 import os
