@@ -1,14 +1,14 @@
 #!/usr/bin/env python3
 """Bytes a second of `brick nbd`, and of `brick local` beside it, over one memory file system.
 
-    bench/local/beside.py PROGRAM FOLDER
+    bench/local/beside.py PROGRAM FOLDER [--one-processor]
 
 run.py runs it, over two file systems. The stores lie in new folders in FOLDER. m = 4, n = 6, a block has 4,096 bytes, a request of NBD 256 KiB, and a command of
 `local` is a whole stripe. Each measurement moves 16 MiB. Each round makes all of them in turn, so that the two sides of a ratio are of the same few seconds. Printed are
 medians of 21 rounds and, in brackets, the least and the most. Since other work on the machine only slows a round down, the ratio of the fastest rounds of both sides
 is printed too, and last that of the processor times of the process `brick`; what the client takes is not in that one. What each row is docs/performance.md says.
 
-All of it runs on one processor, so that the client's time counts as the program's does, and no wake-up of another, maybe virtual, processor is measured.
+With --one-processor all of it runs on one. Then what it takes to wake another, maybe virtual, processor is not measured: a client on one of its own has to wait for that.
 
 The start of `brick` is left out of all, and nbdcopy's start only where its first request is. Each start, and each first request, is the median of three.
 """
@@ -181,12 +181,14 @@ def beside(program, place):
 
 
 def main(words):
-    if len(words) != 2:
+    bound = words[2:] == ["--one-processor"]
+    if len(words) != 2 + bound:
         print(__doc__, file=sys.stderr)
         return 2
     take_priority()
-    take_processor()
-    beside(*words)
+    if bound:
+        take_processor()
+    beside(*words[:2])
     return 0
 
 

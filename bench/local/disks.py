@@ -40,7 +40,7 @@ def take_priority():
 
 
 def take_processor():
-    """Has all that runs from here on run on one processor. Then a client and what serves it take turns, and neither waits for another processor to wake up."""
+    """Has all that runs from here on run on one processor. A client and what serves it then take turns, and neither waits for another processor to wake up."""
     os.sched_setaffinity(0, {max(os.sched_getaffinity(0))})
 
 

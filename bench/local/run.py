@@ -10,11 +10,11 @@ layout it writes and reads whole stripes, and sends datagrams of the same number
 the median of both rates, their ratio, and the ratio of the median processor times, which other work on the machine hardly changes. The project asks
 for at least a fifth.
 
-Then beside.py has `brick nbd` beside `brick local`, over FOLDER or /dev/shm and, if that may be mounted, over a memory file system of huge pages, where the programs have
+Then beside.py has `brick nbd` beside `brick local`, over FOLDER or /dev/shm, there on one processor too, and, if that may be mounted, over a memory file system of huge pages, where the programs have
 huge pages for their heaps too, as far as the system gives them. Its clients are Debian's libnbd-bin and python3-libnbd; without them it is left out.
 The project asks for at least as many bytes a second as `brick local` has, and would like 1.3 times as many.
 
-All of it runs at a real-time priority if that is allowed, so that other work on the machine counts less. It takes about six minutes.
+All of it runs at a real-time priority if that is allowed, so that other work on the machine counts less. It takes about ten minutes.
 """
 
 import os
@@ -81,8 +81,9 @@ def beside_echo(program, place):
 def nbd_beside(program, place):
     """Prints the rates of `nbd` next to those of `local`, over a folder and over huge pages."""
     ours = [sys.executable, os.path.join(os.path.dirname(os.path.abspath(__file__)), "beside.py"), os.path.abspath(program)]
-    print(f"over {place}:", flush=True)
-    subprocess.run([*ours, place], check=True)
+    for bound in ([], ["--one-processor"]):
+        print(f"over {place}{', on one processor' if bound else ''}:", flush=True)
+        subprocess.run([*ours, place, *bound], check=True)
     with tempfile.TemporaryDirectory() as folder:
         root = [] if os.geteuid() == 0 else ["--map-root-user"]
         mounts = ["unshare", *root, "--mount", "sh", "-c", MOUNT, folder]
